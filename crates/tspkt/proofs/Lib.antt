@@ -1,0 +1,7 @@
+pub mod BitLaws
+pub mod NumberLaws
+pub mod PacketFields
+pub mod RewrittenLaws
+pub mod CounterLaws
+pub mod FramingLaws
+pub mod FramedLaws

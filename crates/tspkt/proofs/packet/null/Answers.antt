@@ -1,0 +1,12 @@
+use Rattle.std.proofs.Common.{◌≡◌, refl}
+use Rattle.tspkt.specs.Packet.{null_packet}
+use Rattle.tspkt.proofs.RewrittenLaws.{is_packet-null_packet}
+use Rattle.tspkt.proofs.packet.null.Goals as goal
+
+pub invariant_of-result : goal.invariant_of-result
+unfolding null_packet
+invariant_of-result c = is_packet-null_packet
+
+pub returns : goal.returns
+unfolding null_packet
+returns c = refl

@@ -1,0 +1,35 @@
+use Rattle.std.proofs.Common.{◌≡◌, ◌<◌, ℕ, List, subst, Option}
+use Rattle.tspkt.specs.Bits.{bit}
+use Rattle.tspkt.specs.Packet.{IsPacket, pid_of, pcr_of, pcr_extension_of}
+use Rattle.tspkt.specs.Rewritten.{rewritten, with_pid, with_later_pcr}
+use Rattle.tspkt.proofs.RewrittenLaws.{is_packet-rewritten, pid_of-rewritten, pcr_of-rewritten, pcr_extension_of-rewritten, bit-rewritten}
+use Rattle.tspkt.proofs.packet.rewrite.Goals as goal
+
+-- the bytes that were written are those of the definition
+written : (p q r bytes : List ℕ) (pcr : Option ℕ) (pid delay : ℕ) → bytes ≡ p → q ≡ with_pid bytes pid → pcr ≡ pcr_of p → r ≡ with_later_pcr pcr q delay → r ≡ rewritten p pid delay
+unfolding rewritten
+written p q r bytes pcr pid delay a b c d = cc
+
+pub invariant_of-result : goal.invariant_of-result
+invariant_of-result c =
+    let p = c.args.packet.now in
+    let is : c.add_to_pcr.new.p ≡ rewritten p c.args.pid c.args.delay = written p _ _ _ _ _ _ c.packet.view_is c.set_pid.ensures c.pcr.ensures c.add_to_pcr.ensures in
+    let R : List ℕ → Type 0 = λ q. IsPacket q in
+    let packet : IsPacket p = subst R c.packet.view_is c.packet.invariant in
+    rw is (is_packet-rewritten p c.args.pid c.args.delay c.requires packet)
+
+pub returns : goal.returns
+returns c =
+    let p = c.args.packet.now in
+    let pid = c.args.pid in
+    let delay = c.args.delay in
+    let is : c.add_to_pcr.new.p ≡ rewritten p pid delay = written p _ _ _ _ _ _ c.packet.view_is c.set_pid.ensures c.pcr.ensures c.add_to_pcr.ensures in
+    let R : List ℕ → Type 0 = λ q. IsPacket q in
+    let packet : IsPacket p = subst R c.packet.view_is c.packet.invariant in
+    record {
+      value = is;
+      pid = rw is (pid_of-rewritten p pid delay c.requires packet);
+      pcr = rw is (pcr_of-rewritten p pid delay c.requires packet);
+      pcr_form = λ t. rw is (pcr_extension_of-rewritten p pid delay c.requires packet t);
+      others = λ i l o. rw is (bit-rewritten p pid delay c.requires packet i o);
+    }

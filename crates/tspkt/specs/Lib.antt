@@ -1,0 +1,7 @@
+pub mod Bits
+pub mod Packet
+pub mod Counters
+pub mod Rewritten
+pub mod Stamps
+pub mod Framed
+pub mod Stepping

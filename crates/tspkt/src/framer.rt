@@ -1,0 +1,132 @@
+//! Framing a stream that comes in pieces.
+
+use crate::feed_fault::FeedFault;
+use crate::item::Item;
+use crate::mode::Mode;
+use crate::stepping::{advance, tell_end};
+use crate::window::Window;
+use std::alloc::AllocError;
+use std::marker::Model;
+
+/// The distance from one packet to the next, in bytes.
+const STRIDE: usize = 188;
+
+/// The most bytes that are kept between two pieces: four packets.
+const KEPT: usize = 752;
+
+/// The most bytes of one stream: 16,777,216 packets.
+const LIMIT: u64 = 3_154_116_608;
+
+/// Finds the packets of a stream that comes in pieces (ISO/IEC 13818-1, 2.4.3.2; ETSI TR 101 290, 5.2.1).
+///
+/// Each item is told as early as the bytes decide it. Between two pieces at most 752 bytes are kept, in a fixed array.
+#[derive(Drop)]
+pub struct Framer {
+    stride: usize,
+    limit: u64,
+    position: u64,
+    mode: Mode,
+    kept: [u8; KEPT],
+    count: usize,
+}
+
+impl Model for Framer {
+    ghost use Rattle.std.specs.Prelude.{◌≤◌, take};
+    ghost use Rattle.tspkt.specs.Framed.{FramerState};
+    ghost use Rattle.tspkt.specs.Stepping.{IsFramer};
+
+    ghost Value = { FramerState };
+
+    ghost view = { λ f. record {
+      stride = f.stride;
+      limit = f.limit;
+      position = f.position;
+      mode = f.mode;
+      kept = take f.count f.kept;
+    } };
+
+    ghost invariant = { λ f. (f.count ≤ 752) × IsFramer f.stride f.limit f.position f.mode (take f.count f.kept) };
+}
+
+impl Framer {
+    ghost use Rattle.std.specs.Prelude.{◌≡◌, List, ℕ, [], ◌+◌, ◌<◌, ◌↔◌, ◌++◌, length, OnOk, OnErr, IfErr, Err};
+    ghost use Rattle.tspkt.specs.Stepping.{IsWaiting};
+    ghost use Rattle.tspkt.specs.Framed.{new_framer, seen, still_to_tell, packets_of, framed, TakesPiece, IsFramedSoFar};
+
+    /// A framer that has seen nothing, for a stream of packets of 188 bytes, at most 3,154,116,608 bytes in all.
+    #[tactic(auto, unfolding(crate::specs::Framed::framed_from))]
+    pub fn new() -> Framer
+        ensures state { result ≡ new_framer 188 LIMIT }
+        ensures framed { IsFramedSoFar result [] [] }
+        ensures prompt { packets_of (still_to_tell result []) ≡ [] }
+    {
+        Framer {
+            stride: STRIDE,
+            limit: LIMIT,
+            position: 0,
+            mode: Mode::Hunting(0),
+            kept: [0; KEPT],
+            count: 0,
+        }
+    }
+
+    /// Takes the next piece of the stream, and tells all items that it decides, behind those of `out`.
+    ///
+    /// A packet is told by the feed that brings its last byte or the fifth sync byte, whichever comes later.
+    /// `TooMuch` comes exactly where the stream would pass its limit, `Memory` where there is no memory for the items.
+    /// Either changes nothing: the framer and `out` are as they were.
+    #[tactic(auto, using(crate::proofs::FramingLaws::no_packet_kept))]
+    pub fn feed(&mut self, piece: &[u8], out: &mut Vec<Item>) -> Result<(), FeedFault>
+        ensures ok { OnOk result (TakesPiece self.old piece.now out.old.items self.new out.new.items) }
+
+        // If the stream ended here no packet would be left to tell.
+        ensures prompt { OnOk result (packets_of (still_to_tell self.new []) ≡ []) }
+
+        ensures too_much { (result ≡ Err FeedFault.TooMuch) ↔ (self.old.limit < seen self.old + length piece.now) }
+        ensures err { OnErr result ((self.new ≡ self.old) × (out.new.items ≡ out.old.items)) }
+    {
+        self.take_piece(piece, out)
+    }
+
+    /// Takes the next piece, and keeps what waits for more.
+    fn take_piece(&mut self, piece: &[u8], out: &mut Vec<Item>) -> Result<(), FeedFault>
+        ensures ok { OnOk result (TakesPiece self.old piece.now out.old.items self.new out.new.items) }
+        ensures waits { OnOk result (IsWaiting self.new.stride self.new.mode self.new.kept) }
+        ensures too_much { (result ≡ Err FeedFault.TooMuch) ↔ (self.old.limit < seen self.old + length piece.now) }
+        ensures err { OnErr result ((self.new ≡ self.old) × (out.new.items ≡ out.old.items)) }
+    {
+        if piece.len() as u64 > self.limit - self.position - self.count as u64 {
+            return Err(FeedFault::TooMuch);
+        }
+        let before = out.len();
+        let kept = self.kept;
+        let window = Window::new(&kept[..self.count], piece);
+        match advance(self.stride, self.position, &window, self.mode, out) {
+            Ok((done, mode)) => {
+                let left = window.len() - done;
+                window.copy(done, &mut self.kept[..left]);
+                self.count = left;
+                self.position += done as u64;
+                self.mode = mode;
+                Ok(())
+            }
+            Err(_) => {
+                out.truncate(before);
+                Err(FeedFault::Memory)
+            }
+        }
+    }
+
+    /// Ends the stream, and tells the items that are left behind those of `out`. An `Err` is want of memory: it tells
+    /// nothing and hands the framer back as it was.
+    pub fn finish(self, out: &mut Vec<Item>) -> Result<(), (Framer, AllocError)>
+        ensures ok { OnOk result (out.new.items ≡ out.old.items ++ still_to_tell self []) }
+        ensures err { IfErr result (λ back. (back.0 ≡ self) × (out.new.items ≡ out.old.items)) }
+    {
+        let end = self.position + self.count as u64;
+        match tell_end(self.mode, self.position, end, out) {
+            Ok(()) => Ok(()),
+            Err(e) => Err((self, e)),
+        }
+    }
+}

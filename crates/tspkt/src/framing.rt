@@ -1,0 +1,67 @@
+//! Framing a whole stream, and a stream so far.
+
+ghost use Rattle.std.specs.Prelude.{◌≡◌, ◌<◌, ◌≤◌, [], length, All, sum_by, Err, IfOk, OnOk};
+ghost use Rattle.std.specs.List.{flat_map};
+ghost use Rattle.tspkt.specs.Framed.{framed, packets_of, still_to_tell, IsFramedSoFar, covered, IsAtItsPlace, ExactOnPackets, BeginsFraming};
+
+use crate::feed_fault::FeedFault;
+use crate::framer::Framer;
+use crate::item::Item;
+use std::alloc::Global;
+
+/// A framer that was fed these pieces, and what it told.
+fn fed(alloc: Global, pieces: &[Vec<u8>]) -> Result<(Framer, Vec<Item>), FeedFault>
+    ensures told { IfOk result (λ fed.
+        IsFramedSoFar fed.0 fed.1.items (flat_map (λ piece. piece.items) pieces.now)) }
+    ensures stride { IfOk result (λ fed. fed.0.stride ≡ 188) }
+    ensures prompt { IfOk result (λ fed. packets_of (still_to_tell fed.0 []) ≡ []) }
+    ensures within { OnOk result (length (flat_map (λ piece. piece.items) pieces.now) ≤ 3154116608) }
+    ensures too_much { result ≡ Err FeedFault.TooMuch
+        → 3154116608 < length (flat_map (λ piece. piece.items) pieces.now) }
+{
+    let mut framer = Framer::new();
+    let mut items = Vec::new(alloc);
+    for piece in pieces {
+        framer.feed(piece, &mut items)?;
+    }
+    Ok((framer, items))
+}
+
+/// The items of a whole stream that comes in these pieces: packets of 188 bytes, at most 3,154,116,608 bytes in all.
+/// `TooMuch` comes only where the stream passes that, `Ok` only where it doesn't.
+pub fn frame(alloc: Global, pieces: &[Vec<u8>]) -> Result<Vec<Item>, FeedFault>
+    ensures items { IfOk result (λ items. items.items ≡ framed 188 (flat_map (λ piece. piece.items) pieces.now)) }
+
+    // What that means: the items cover the stream, a packet is its bytes at its place, and packets are found.
+    ensures cover { IfOk result (λ items.
+        sum_by covered items.items ≡ length (flat_map (λ piece. piece.items) pieces.now)) }
+    ensures places { IfOk result (λ items.
+        All (IsAtItsPlace (flat_map (λ piece. piece.items) pieces.now)) items.items) }
+    ensures found { IfOk result (λ items.
+        ExactOnPackets (flat_map (λ piece. piece.items) pieces.now) items.items) }
+
+    ensures within { OnOk result (length (flat_map (λ piece. piece.items) pieces.now) ≤ 3154116608) }
+    ensures too_much { result ≡ Err FeedFault.TooMuch
+        → 3154116608 < length (flat_map (λ piece. piece.items) pieces.now) }
+{
+    let (framer, mut items) = fed(alloc, pieces)?;
+    match framer.finish(&mut items) {
+        Ok(()) => Ok(items),
+        Err(_) => Err(FeedFault::Memory),
+    }
+}
+
+/// What is told of a stream that began with these pieces and has not ended: its packets are those of the bytes so far.
+/// `TooMuch` comes only where they pass 3,154,116,608 bytes, `Ok` only where they don't.
+pub fn frame_so_far(alloc: Global, pieces: &[Vec<u8>]) -> Result<Vec<Item>, FeedFault>
+    ensures begins { IfOk result (λ items.
+        BeginsFraming 188 (flat_map (λ piece. piece.items) pieces.now) items.items) }
+    ensures packets { IfOk result (λ items.
+        packets_of items.items ≡ packets_of (framed 188 (flat_map (λ piece. piece.items) pieces.now))) }
+    ensures within { OnOk result (length (flat_map (λ piece. piece.items) pieces.now) ≤ 3154116608) }
+    ensures too_much { result ≡ Err FeedFault.TooMuch
+        → 3154116608 < length (flat_map (λ piece. piece.items) pieces.now) }
+{
+    let (_framer, items) = fed(alloc, pieces)?;
+    Ok(items)
+}

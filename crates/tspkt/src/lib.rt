@@ -1,0 +1,32 @@
+//! Packets of an MPEG-2 transport stream (ISO/IEC 13818-1, 2.4.3).
+//!
+//! `Packet` is 188 bytes that meet the standard's layout, with a reader for each field that the multiplex uses.
+//! `rewrite` puts a packet on another PID and later in time, `follows` judges its continuity counter, and `Framer`
+//! finds the packets in a stream of bytes that comes in pieces. `time` gives the time of a byte in a stream of
+//! constant rate, in ticks of 27 MHz. Nothing here knows of tables or plans, and but for the items that a framer
+//! tells nothing takes memory.
+#![tactic(auto)]
+
+mod counters;
+mod feed_fault;
+mod fields;
+mod framer;
+mod framing;
+mod item;
+mod malformed;
+mod mode;
+mod packet;
+mod stamped;
+mod stepping;
+#[cfg(test)]
+mod tests;
+mod window;
+
+pub use counters::follows;
+pub use feed_fault::FeedFault;
+pub use framer::Framer;
+pub use framing::{frame, frame_so_far};
+pub use item::Item;
+pub use malformed::Malformed;
+pub use packet::{NULL_PID, PCR_MODULUS, Packet, null, rewrite};
+pub use stamped::{Stamped, time};

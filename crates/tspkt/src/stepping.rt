@@ -1,0 +1,177 @@
+//! The steps of framing.
+
+ghost use Rattle.std.specs.Prelude.{◌≡◌, ◌+◌, ◌-◌, ◌<◌, ◌≤◌, ◌^◌, ◌++◌, length, take, drop, IfOk, OnOk, OnErr, IfSome, Ok, None};
+ghost use Rattle.tspkt.specs.Framed.{lost};
+ghost use Rattle.tspkt.specs.Stepping.{told_of_last, told_at_end, TellsSame, IsWaiting};
+
+use crate::item::Item;
+use crate::mode::Mode;
+use crate::window::Window;
+use std::alloc::AllocError;
+
+/// Tells a loss from one place to another, where there is one.
+fn tell_lost(from: u64, place: u64, out: &mut Vec<Item>) -> Result<(), AllocError>
+    ensures ok { OnOk result (out.new.items ≡ out.old.items ++ lost from place) }
+    ensures err { OnErr result (out.new.items ≡ out.old.items) }
+{
+    if from < place {
+        out.push(Item::Lost(place - from))?;
+    }
+    Ok(())
+}
+
+/// One step of hunting for sync from `at`, the loss having begun at `from`.
+fn step_hunting(
+    stride: usize,
+    base: u64,
+    window: &Window,
+    at: usize,
+    from: u64,
+    out: &mut Vec<Item>,
+) -> Result<Option<(usize, Mode)>, AllocError>
+    requires long { 188 ≤ stride }
+    requires small { stride ≤ 204 }
+    requires inside { at ≤ length window.now }
+    requires fits { base + length window.now < 2 ^ 64 }
+    ensures waits { result ≡ Ok None
+        → IsWaiting stride (Mode.Hunting from) (drop at window.now) × (out.new.items ≡ out.old.items) }
+    ensures goes { IfOk result (λ r. IfSome r (λ next. (at < next.0)
+        × TellsSame stride base window.now out.old.items (Mode.Hunting from) at out.new.items next.1 next.0)) }
+    ensures kept { take (length out.old.items) out.new.items ≡ out.old.items }
+{
+    if window.len() - at <= 4 * stride {
+        return Ok(None);
+    }
+    if !window.acquires_sync(at, stride) {
+        return Ok(Some((at + 1, Mode::Hunting(from))));
+    }
+    let place = base + at as u64;
+    let bytes = window.packet(at);
+    tell_lost(from, place, out)?;
+    out.push(Item::Packet(place, bytes))?;
+    Ok(Some((at + 188, Mode::Synced(stride - 188))))
+}
+
+/// One step in sync from `at`, `skip` bytes before the next packet.
+fn step_synced(
+    stride: usize,
+    base: u64,
+    window: &Window,
+    at: usize,
+    skip: usize,
+    out: &mut Vec<Item>,
+) -> Result<Option<(usize, Mode)>, AllocError>
+    requires long { 188 ≤ stride }
+    requires small { stride ≤ 204 }
+    requires inside { at ≤ length window.now }
+    requires fits { base + length window.now < 2 ^ 64 }
+    ensures waits { result ≡ Ok None
+        → IsWaiting stride (Mode.Synced skip) (drop at window.now) × (out.new.items ≡ out.old.items) }
+    ensures goes { IfOk result (λ r. IfSome r (λ next. (at < next.0)
+        × TellsSame stride base window.now out.old.items (Mode.Synced skip) at out.new.items next.1 next.0)) }
+    ensures kept { take (length out.old.items) out.new.items ≡ out.old.items }
+{
+    let left = window.len() - at;
+    if skip > 0 {
+        if left == 0 {
+            return Ok(None);
+        }
+        let passed = skip.min(left);
+        return Ok(Some((at + passed, Mode::Synced(skip - passed))));
+    }
+    if left < 188 {
+        return Ok(None);
+    }
+    let place = base + at as u64;
+    if window.is_sync(at) {
+        out.push(Item::Packet(place, window.packet(at)))?;
+        return Ok(Some((at + 188, Mode::Synced(stride - 188))));
+    }
+    if left <= stride {
+        return Ok(None);
+    }
+    if window.is_sync(at + stride) {
+        out.push(Item::Bad(place))?;
+        return Ok(Some((at + stride, Mode::Synced(0))));
+    }
+    out.push(Item::SyncLoss(place))?;
+    Ok(Some((at + 1, Mode::Hunting(place))))
+}
+
+/// One step from `at`, or none where more bytes are needed.
+fn step(
+    stride: usize,
+    base: u64,
+    window: &Window,
+    at: usize,
+    mode: Mode,
+    out: &mut Vec<Item>,
+) -> Result<Option<(usize, Mode)>, AllocError>
+    requires long { 188 ≤ stride }
+    requires small { stride ≤ 204 }
+    requires inside { at ≤ length window.now }
+    requires fits { base + length window.now < 2 ^ 64 }
+    ensures waits { result ≡ Ok None → IsWaiting stride mode (drop at window.now) × (out.new.items ≡ out.old.items) }
+    ensures goes { IfOk result (λ r. IfSome r (λ next. (at < next.0)
+        × TellsSame stride base window.now out.old.items mode at out.new.items next.1 next.0)) }
+    ensures kept { take (length out.old.items) out.new.items ≡ out.old.items }
+{
+    match mode {
+        Mode::Hunting(from) => step_hunting(stride, base, window, at, from, out),
+        Mode::Synced(skip) => step_synced(stride, base, window, at, skip, out),
+    }
+}
+
+/// All steps that the bytes allow: how many bytes are done with, and the mode after them.
+pub fn advance(
+    stride: usize,
+    base: u64,
+    window: &Window,
+    mode: Mode,
+    out: &mut Vec<Item>,
+) -> Result<(usize, Mode), AllocError>
+    requires long { 188 ≤ stride }
+    requires small { stride ≤ 204 }
+    requires fits { base + length window.now < 2 ^ 64 }
+    ensures goes { IfOk result (λ next.
+        TellsSame stride base window.now out.old.items mode 0 out.new.items next.1 next.0) }
+    ensures waits { IfOk result (λ next. IsWaiting stride next.1 (drop next.0 window.now)) }
+    ensures kept { take (length out.old.items) out.new.items ≡ out.old.items }
+{
+    let mut at = 0;
+    let mut mode = mode;
+    'steps: while let Some((next, after)) = step(stride, base, window, at, mode, out)? {
+        at = next;
+        mode = after;
+    }
+    Ok((at, mode))
+}
+
+/// Tells what is left in sync at the end.
+fn tell_last(place: u64, end: u64, out: &mut Vec<Item>) -> Result<(), AllocError>
+    requires { place ≤ end }
+    ensures ok { OnOk result (out.new.items ≡ out.old.items ++ told_of_last place (end - place)) }
+    ensures err { OnErr result (out.new.items ≡ out.old.items) }
+{
+    if end == place {
+        return Ok(());
+    }
+    if end - place < 188 {
+        out.push(Item::Lost(end - place))?;
+    } else {
+        out.push(Item::Bad(place))?;
+    }
+    Ok(())
+}
+
+/// Tells what is left at the end of the stream.
+pub fn tell_end(mode: Mode, place: u64, end: u64, out: &mut Vec<Item>) -> Result<(), AllocError>
+    requires { place ≤ end }
+    ensures ok { OnOk result (out.new.items ≡ out.old.items ++ told_at_end mode place (end - place)) }
+    ensures err { OnErr result (out.new.items ≡ out.old.items) }
+{
+    match mode {
+        Mode::Hunting(from) => tell_lost(from, end, out),
+        Mode::Synced(_) => tell_last(place, end, out),
+    }
+}

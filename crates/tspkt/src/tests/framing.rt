@@ -1,0 +1,143 @@
+//! Framing of small streams, whole and in pieces.
+
+use crate::{FeedFault, Framer, Item, frame, frame_so_far};
+use std::alloc::Global;
+use std::test::Fail;
+
+/// Bytes, then so many packets, the bad ones beginning with 0, then more bytes. No byte but the sync bytes is 0x47.
+struct Row {
+    front: usize,
+    packets: usize,
+    bad: &'static [usize],
+    tail: &'static [u8],
+    items: &'static str,
+}
+
+const ROWS: [Row; 6] = [
+    Row {
+        front: 0,
+        packets: 4,
+        bad: &[],
+        tail: &[],
+        items: "lost 752;",
+    },
+    Row {
+        front: 0,
+        packets: 4,
+        bad: &[],
+        tail: &[0x47],
+        items: "packet 0;packet 188;packet 376;packet 564;lost 1;",
+    },
+    Row {
+        front: 0,
+        packets: 5,
+        bad: &[],
+        tail: &[0; 100],
+        items: "packet 0;packet 188;packet 376;packet 564;packet 752;lost 100;",
+    },
+    Row {
+        front: 1,
+        packets: 5,
+        bad: &[],
+        tail: &[],
+        items: "lost 1;packet 1;packet 189;packet 377;packet 565;packet 753;",
+    },
+    Row {
+        front: 0,
+        packets: 7,
+        bad: &[5],
+        tail: &[],
+        items: "packet 0;packet 188;packet 376;packet 564;packet 752;bad 940;packet 1128;",
+    },
+    Row {
+        front: 0,
+        packets: 7,
+        bad: &[5, 6],
+        tail: &[],
+        items: "packet 0;packet 188;packet 376;packet 564;packet 752;sync loss 940;lost 376;",
+    },
+];
+
+fn stream(alloc: Global, row: &Row) -> Result<Vec<u8>, Fail> {
+    let mut bytes = vec![in alloc; 0; row.front]?;
+    for k in 0..row.packets {
+        bytes.push(if row.bad.contains(&k) { 0 } else { 0x47 })?;
+        bytes.extend_from_slice(&[0xAA; 187])?;
+    }
+    bytes.extend_from_slice(row.tail)?;
+    Ok(bytes)
+}
+
+fn text(alloc: Global, items: &[Item]) -> Result<String, Fail> {
+    let mut text = String::new(alloc);
+    for item in items {
+        let one = match item {
+            Item::Packet(place, bytes) if bytes[0] == 0x47 && bytes[187] == 0xAA => {
+                format!(in alloc; "packet {place};")?
+            }
+            Item::Packet(place, _) => format!(in alloc; "wrong packet {place};")?,
+            Item::Bad(place) => format!(in alloc; "bad {place};")?,
+            Item::SyncLoss(place) => format!(in alloc; "sync loss {place};")?,
+            Item::Lost(count) => format!(in alloc; "lost {count};")?,
+        };
+        text.push_str(one.as_str())?;
+    }
+    Ok(text)
+}
+
+#[test]
+fn whole_streams(rt: HostRuntime) -> Result<(), Fail> {
+    let alloc = rt.alloc();
+    for row in &ROWS {
+        let pieces = vec![in alloc; stream(alloc, row)?]?;
+        let items = frame(alloc, &pieces)?;
+        assert_eq!(rt; text(alloc, &items)?.as_str(), row.items);
+    }
+    Ok(())
+}
+
+#[test]
+fn streams_in_pieces(rt: HostRuntime) -> Result<(), Fail> {
+    let alloc = rt.alloc();
+    for row in &ROWS {
+        for size in [1, 187, 188, 189] {
+            let bytes = stream(alloc, row)?;
+            let mut framer = Framer::new();
+            let mut items = Vec::new(alloc);
+            for piece in bytes.chunks(size) {
+                framer.feed(piece, &mut items)?;
+            }
+            assert!(rt; framer.finish(&mut items).is_ok());
+            assert_eq!(rt;
+                text(alloc, &items)?.as_str(),
+                row.items,
+                "in pieces of {size}"
+            );
+        }
+    }
+    Ok(())
+}
+
+#[test]
+fn told_at_the_fifth_sync_byte(rt: HostRuntime) -> Result<(), Fail> {
+    let alloc = rt.alloc();
+    let mut pieces = vec![in alloc; stream(alloc, &ROWS[0])?]?;
+    assert_eq!(rt; frame_so_far(alloc, &pieces)?.len(), 0);
+    pieces.push(vec![in alloc; 0x47]?)?;
+    let items = frame_so_far(alloc, &pieces)?;
+    assert_eq!(rt;
+        text(alloc, &items)?.as_str(),
+        "packet 0;packet 188;packet 376;packet 564;"
+    );
+    Ok(())
+}
+
+#[test]
+fn faults_have_texts(rt: HostRuntime) -> Result<(), Fail> {
+    let alloc = rt.alloc();
+    let much = format!(in alloc; "{}", FeedFault::TooMuch)?;
+    assert_eq!(rt; much.as_str(), "the input passes its limit");
+    let memory = format!(in alloc; "{}", FeedFault::Memory)?;
+    assert_eq!(rt; memory.as_str(), "no memory");
+    Ok(())
+}
