@@ -106,9 +106,10 @@ still_to_tell f more = framed_from f.stride f.mode f.position (f.kept ++ more)
 abbrev pub IsFramedSoFar : FramerState → List Item → List ℕ → Type 0
 IsFramedSoFar f told bytes = (more : List ℕ) → told ++ still_to_tell f more ≡ framed f.stride (bytes ++ more)
 
--- A piece was taken: the items told before, and those that were left to tell where the piece and more follow, are
--- those told now and those that are left where more follows; so many bytes more were seen.
+-- A piece was taken: the items told before stay, and with those that were left to tell where the piece and more follow
+-- they are those told now and those that are left where more follows; so many bytes more were seen.
 pub record TakesPiece (old : FramerState) (piece : List ℕ) (told : List Item) (new : FramerState) (told_now : List Item) : Type 0 where
+  pub told_stay : take (length told) told_now ≡ told
   pub same_items : (more : List ℕ) → told_now ++ still_to_tell new more ≡ told ++ still_to_tell old (piece ++ more)
   pub seen_is : seen new ≡ seen old + length piece
   pub stride_is : new.stride ≡ old.stride

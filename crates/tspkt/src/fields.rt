@@ -10,54 +10,63 @@ ghost use Rattle.tspkt.specs.Rewritten.{with_pid, with_pcr, with_later_pcr};
 use crate::packet::PCR_MODULUS;
 use byteorder::{BigEndian, ByteOrder};
 
+/// The sync byte.
 pub fn sync_byte(p: &[u8; 188]) -> u8
     ensures { result ≡ sync_byte_of p.now }
 {
     p[0]
 }
 
+/// The PID.
 pub fn pid(p: &[u8; 188]) -> u16
     ensures { result ≡ pid_of p.now }
 {
     BigEndian::read_u16(&p[1..3]) % 0x2000
 }
 
+/// The adaptation field control, 0 to 3.
 pub fn adaptation_field_control(p: &[u8; 188]) -> u8
     ensures { result ≡ adaptation_field_control_of p.now }
 {
     p[3] / 16 % 4
 }
 
+/// Whether there is an adaptation field.
 pub fn has_adaptation_field(p: &[u8; 188]) -> bool
     ensures { result ≡ has_adaptation_field_of p.now }
 {
     p[3] / 32 % 2 == 1
 }
 
+/// Whether there is a payload.
 pub fn has_payload(p: &[u8; 188]) -> bool
     ensures { result ≡ has_payload_of p.now }
 {
     p[3] / 16 % 2 == 1
 }
 
+/// The adaptation field's length, where there is one.
 pub fn adaptation_field_length(p: &[u8; 188]) -> u8
     ensures { result ≡ adaptation_field_length_of p.now }
 {
     p[4]
 }
 
+/// Whether the adaptation field has its flags.
 pub fn has_flags(p: &[u8; 188]) -> bool
     ensures { result ≡ has_flags_of p.now }
 {
     has_adaptation_field(p) && adaptation_field_length(p) >= 1
 }
 
+/// Whether there is a PCR.
 pub fn pcr_flag(p: &[u8; 188]) -> bool
     ensures { result ≡ pcr_flag_of p.now }
 {
     has_flags(p) && p[5] / 16 % 2 == 1
 }
 
+/// Whether the adaptation field doesn't fit.
 #[tactic(auto, using(crate::proofs::PacketFields::packet_fields), unfolding(crate::specs::Packet::has_bad_adaptation))]
 pub fn has_bad_adaptation(p: &[u8; 188]) -> bool
     ensures { result ≡ has_bad_adaptation p.now }
@@ -73,6 +82,7 @@ pub fn has_bad_adaptation(p: &[u8; 188]) -> bool
     pcr_flag(p) && length < 7
 }
 
+/// The base of the PCR, where there is one.
 pub fn pcr_base(p: &[u8; 188]) -> u64
     ensures value { result ≡ pcr_base_of p.now }
     ensures fits { result < 2 ^ 33 }
@@ -80,6 +90,7 @@ pub fn pcr_base(p: &[u8; 188]) -> u64
     u64::from(BigEndian::read_u32(&p[6..10])) * 2 + u64::from(p[10] / 128)
 }
 
+/// The extension of the PCR, where there is one.
 pub fn pcr_extension(p: &[u8; 188]) -> u64
     ensures value { result ≡ pcr_extension_of p.now }
     ensures fits { result < 2 ^ 9 }

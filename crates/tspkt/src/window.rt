@@ -21,12 +21,14 @@ impl<'a> Window<'a> {
     ghost use Rattle.std.specs.Prelude.{◌≡◌, ◌+◌, ◌*◌, ◌<◌, ◌≤◌, ◌++◌, length, take, drop, slice_index, ◌==◌, ◌^◌};
     ghost use Rattle.tspkt.specs.Framed.{acquires_sync};
 
+    /// What was kept, and then the piece.
     pub fn new(kept: &'a [u8], piece: &'a [u8]) -> Window<'a>
         ensures { result ≡ kept.now ++ piece.now }
     {
         Window { kept, piece }
     }
 
+    /// How many bytes there are.
     pub fn len(&self) -> usize
         requires { length self.now < 2 ^ 64 }
         ensures { result ≡ length self.now }

@@ -96,6 +96,22 @@ fn whole_streams(rt: HostRuntime) -> Result<(), Fail> {
     Ok(())
 }
 
+/// Feeds a piece; where that found no memory the framer is as it was, and is fed again.
+fn feed(framer: &mut Framer, piece: &[u8], items: &mut Vec<Item>) -> Result<(), FeedFault> {
+    match framer.feed(piece, items) {
+        Err(FeedFault::Memory) => framer.feed(piece, items),
+        other => other,
+    }
+}
+
+/// Finishes, and once more where that found no memory.
+fn finish(framer: Framer, items: &mut Vec<Item>) -> bool {
+    match framer.finish(items) {
+        Ok(()) => true,
+        Err((framer, _)) => framer.finish(items).is_ok(),
+    }
+}
+
 #[test]
 fn streams_in_pieces(rt: HostRuntime) -> Result<(), Fail> {
     let alloc = rt.alloc();
@@ -105,9 +121,9 @@ fn streams_in_pieces(rt: HostRuntime) -> Result<(), Fail> {
             let mut framer = Framer::new();
             let mut items = Vec::new(alloc);
             for piece in bytes.chunks(size) {
-                framer.feed(piece, &mut items)?;
+                feed(&mut framer, piece, &mut items)?;
             }
-            assert!(rt; framer.finish(&mut items).is_ok());
+            assert!(rt; finish(framer, &mut items));
             assert_eq!(rt;
                 text(alloc, &items)?.as_str(),
                 row.items,

@@ -67,6 +67,9 @@ fn fields(rt: HostRuntime) {
 #[test]
 fn null_packet(rt: HostRuntime) {
     let packet = null();
-    assert_eq!(rt; &packet.bytes()[..5], [0x47, 0x1F, 0xFF, 0x10, 0xFF].as_slice());
+    assert_eq!(rt;
+        &packet.bytes()[..5],
+        [0x47, 0x1F, 0xFF, 0x10, 0xFF].as_slice()
+    );
     assert_eq!(rt; packet.bytes()[187], 0xFF);
 }

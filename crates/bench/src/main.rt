@@ -1,0 +1,25 @@
+//! Measures parts of the multiplex. `bench framing FILE` frames a file and reads its packets; `bench multiplex` takes and
+//! sends a million packets of 4 inputs and 16 streams.
+#![tactic(auto)]
+
+mod framing;
+mod multiplex;
+
+use anyhow::{Result, bail};
+use std::env;
+
+const USAGE: &str = "usage: bench framing FILE | bench multiplex";
+
+fn main(rt: HostRuntime) -> Result<()> {
+    let mut words = env::args(&rt)?;
+    let _program = words.next();
+    let Some(what) = words.next() else {
+        println!(rt; "{USAGE}")?;
+        return Ok(());
+    };
+    match (what.as_str(), words.next()) {
+        ("framing", Some(file)) => framing::run(&rt, file.as_str()),
+        ("multiplex", None) => multiplex::run(&rt),
+        _ => bail!("{USAGE}"),
+    }
+}

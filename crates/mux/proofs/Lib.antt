@@ -1,0 +1,16 @@
+pub mod Lists
+pub mod Plans
+pub mod PlanFaults
+pub mod Refusals
+pub mod Queues
+pub mod Stored
+pub mod Counting
+pub mod Emitted
+pub mod Outputs
+pub mod Steps
+pub mod Readiness
+pub mod Choices
+pub mod Opening
+pub mod Fronts
+pub mod Same
+pub mod Ends

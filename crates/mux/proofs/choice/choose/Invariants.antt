@@ -1,0 +1,5 @@
+use Rattle.mux.proofs.Choices.{IsBestBelow}
+use Rattle.mux.proofs.choice.choose.Given as goal
+
+abbrev pub invariant-loop-i : goal.invariant-loop-i
+invariant-loop-i l = IsBestBelow l.streams l.queues l.now l.i l.best

@@ -1,0 +1,34 @@
+use Rattle.std.proofs.Common.{◌≡◌, sym, ap, ◌∙◌, arith, subst, length, Some, List}
+use Rattle.std.specs.List.{slice_get}
+use Rattle.mux.specs.declared.event.Event.{Event}
+use Rattle.mux.specs.declared.event.Event.TheVariants.{Full}
+use Rattle.mux.specs.PlanValue.{PlanValue}
+use Rattle.mux.specs.History.{History, with_event}
+use Rattle.mux.specs.Lawful.{MayNoteFull}
+use Rattle.mux.proofs.Plans.{stream_in}
+use Rattle.mux.proofs.Stored.{with_full}
+use Rattle.mux.proofs.Steps.{length_states, noting}
+use Rattle.mux.proofs.mux.Mux.note_full.Goals as goal
+
+pub index_mut-requires : goal.index_mut-requires
+index_mut-requires c =
+    let n = length_states c.self.invariant.agrees in
+    let at : slice_get c.self.inside.plan.streams c.args.place ≡ Some c.args.stream = ap (λ (h : History). slice_get h.run.plan.streams c.args.place) c.self.view_is ∙ c.requires.place in
+    let l = (stream_in c.self.inside.plan c.args.place c.args.stream c.self.invariant.agrees.plan at).input in
+    omega (arith, c.self.inside.inputs.ok.0)
+
+pub invariant_of-self-2 : goal.invariant_of-self-2
+invariant_of-self-2 c =
+    let at : slice_get c.self.inside.plan.streams c.args.place ≡ Some c.args.stream = ap (λ (h : History). slice_get h.run.plan.streams c.args.place) c.self.view_is ∙ c.requires.place in
+    let l = (stream_in c.self.inside.plan c.args.place c.args.stream c.self.invariant.agrees.plan at).input in
+    let P : History → Type 0 = λ h. MayNoteFull h.run.plan h.events c.args.stream.input c.args.stream in
+    noting c.self.invariant _ c.args.stream.input c.args.stream c.index_mut.result.now
+    (with_full c.self.inside.plan _ _ _ c.args.place c.args.stream at c.in_ok-push.ensures.items)
+    l c.index_mut.ensures.value (subst P (sym c.self.view_is) c.requires.may)
+
+pub returns-clause-ok : goal.returns-clause-ok
+returns-clause-ok c =
+    let at : slice_get c.self.inside.plan.streams c.args.place ≡ Some c.args.stream = ap (λ (h : History). slice_get h.run.plan.streams c.args.place) c.self.view_is ∙ c.requires.place in
+    let opened : List Event → History = λ es. record { run = record { plan = c.self.inside.plan; limit = c.self.inside.limit }; events = es } in
+    ap opened (with_full c.self.inside.plan _ _ _ c.args.place c.args.stream at c.in_ok-push.ensures.items)
+    ∙ ap (λ (h : History). with_event h (Full c.args.stream.input c.args.stream)) c.self.view_is

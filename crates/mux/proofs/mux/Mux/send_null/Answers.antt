@@ -1,0 +1,20 @@
+use Rattle.std.proofs.Common.{◌≡◌, sym, ap, ◌∙◌, arith, subst, ◌++◌, ◌∷◌, [], List, ◌<◌}
+use Rattle.mux.specs.declared.event.Event.{Event}
+use Rattle.mux.specs.declared.event.Event.TheVariants.{Slot}
+use Rattle.mux.specs.declared.content.Content.TheVariants.{Null}
+use Rattle.mux.specs.declared.stored_event.StoredEvent.{StoredEvent}
+use Rattle.mux.specs.declared.stored_event.StoredEvent.TheVariants as stored
+use Rattle.mux.specs.History.{History, with_event, slots}
+use Rattle.mux.specs.Lawful.{MaySend}
+use Rattle.mux.proofs.Stored.{with_null}
+use Rattle.mux.proofs.Steps.{sending_null}
+use Rattle.mux.proofs.mux.Mux.send_null.Goals as goal
+
+pub invariant_of-self-2 : goal.invariant_of-self-2
+invariant_of-self-2 c =
+    let R : History → Type 0 = λ h. MaySend h.run.plan h.events Null in
+    let S : History → Type 0 = λ h. slots h.events < h.run.limit in
+    let e = with_null c.self.inside.plan.streams c.self.inside.stored.items _ _ (c.push_reserved.ensures.items ∙ ap (λ (es : List StoredEvent). es ++ stored.Null ∷ []) c.in_ok-reserve.ensures.items) in
+    sending_null c.self.invariant _ _ _ e c.clear_full.ensures
+    (c.in_ok-push.ensures.items ∙ ap (λ p. c.self.inside.emitted.items ++ p ∷ []) c.null-packet.ensures)
+    (subst S (sym c.self.view_is) c.requires.within) (subst R (sym c.self.view_is) c.requires.may)

@@ -1,0 +1,54 @@
+-- For the code: what a multiplex keeps beside its history, each by an equation. No public clause cites it.
+use Rattle.std.specs.Prelude.{ℕ, List, ◌≡◌, ◌≤◌, ◌||◌, Bool, nat_lt, map, false, length, count_by}
+use Rattle.std.specs.List.{range_with_len}
+use Rattle.mux.specs.declared.mux.TheConstants.{MAX_SLOTS}
+use Rattle.mux.specs.declared.event.Event.{Event}
+use Rattle.mux.specs.declared.stream.Stream.{Stream}
+use Rattle.mux.specs.declared.input_state.InputState.{InputState}
+use Rattle.mux.specs.QueueValue.{QueueValue}
+use Rattle.mux.specs.PlanValue.{IsPlan}
+use Rattle.mux.specs.History.{Run, taken, queue, slots, last_stamp, is_closed, full_noted, emitted}
+use Rattle.mux.specs.Totals.{contents, is_of_input, is_elementary}
+use Rattle.mux.specs.Lawful.{IsLawful}
+use Rattle.mux.specs.Output.{IsOutput}
+
+-- what is kept of an input
+abbrev pub state_of : List Event → ℕ → InputState
+state_of h i = record {
+  closed = is_closed i h;
+  last_stamp = last_stamp i h;
+  full_noted = full_noted i h;
+  taken = length (taken i h);
+  sent = count_by (is_of_input i) (contents h);
+}
+
+-- whether an input in this state is ready at a time
+abbrev pub ready_at : ℕ → InputState → Bool
+ready_at now x = x.closed || nat_lt now x.last_stamp || x.full_noted
+
+-- the queue that is kept of a stream
+abbrev pub queue_of : ℕ → List Event → Stream → QueueValue
+queue_of capacity h st = record { items = queue st h; capacity = capacity }
+
+-- the history is lawful, and what is kept of inputs and streams agrees with it
+pub record AgreesWith (r : Run) (h : List Event)
+    (states : List InputState) (queues : List QueueValue) (n : ℕ) : Type 0 where
+  pub plan : IsPlan r.plan
+  pub limit : r.limit ≤ MAX_SLOTS
+  pub lawful : IsLawful r.plan h
+  pub within : slots h ≤ r.limit
+  pub states_are : states ≡ map (state_of h) (range_with_len 0 (length r.plan.inputs))
+  pub queues_are : queues ≡ map (queue_of r.plan.queue_capacity h) r.plan.streams
+  pub n_is : n ≡ slots h
+
+-- and so do the packets that went out and the number of those of streams
+pub record IsKept (r : Run) (h : List Event) (states : List InputState) (queues : List QueueValue)
+    (n : ℕ) (packets : List (List ℕ)) (elementary : ℕ) : Type 0 where
+  pub agrees : AgreesWith r h states queues n
+  pub output : IsOutput r.plan h
+  pub packets_are : packets ≡ emitted r.plan h
+  pub elementary_is : elementary ≡ count_by is_elementary (contents h)
+
+-- the same state, with no full queue noted
+abbrev pub without_full : InputState → InputState
+without_full x = record x { full_noted = false }

@@ -1,0 +1,12 @@
+//! What may go in the next slot.
+
+use crate::stream::Stream;
+
+/// A stream whose head is due, with its place in the plan.
+#[derive(Clone, Copy)]
+pub(crate) struct Candidate {
+    pub place: usize,
+    pub stream: Stream,
+    /// That of the head, in ticks of 27 MHz.
+    pub stamp: u64,
+}

@@ -1,0 +1,384 @@
+//! The multiplex.
+
+ghost use Rattle.std.specs.Prelude.{◌≡◌, ℕ, ◌+◌, ◌*◌, ◌<◌, ◌≤◌, ◌==◌, ◌↔◌, [], map, ◌∷◌, Bool, true, false, IsTrue, IfOk, OnOk, OnErr, IsOk, IfSome, IfNone, Some, length};
+ghost use Rattle.std.specs.List.{range_with_len, slice_get};
+ghost use Rattle.tspkt.specs.Packet.{IsPacket};
+ghost use Rattle.mux.specs.declared.stream.Stream.{Stream};
+ghost use Rattle.mux.specs.declared.event.Event.{Event};
+ghost use Rattle.mux.specs.declared.content.Content.{Content};
+ghost use Rattle.mux.specs.PlanValue.{IsPlan};
+ghost use Rattle.mux.specs.History.{opened, with_event, is_mapped_to, is_closed, queue, slots, slot_time, emitted};
+ghost use Rattle.mux.specs.Lawful.{is_mapped, MayTake, MayNoteFull, IsDone, AllReady, IsContent, MaySend};
+ghost use Rattle.mux.specs.Answers.{TakeAnswers, SlotAnswers, Sends, IsLeastUnready};
+ghost use Rattle.mux.specs.Totals.{IsTotals, IsCounts};
+ghost use Rattle.mux.specs.Output.{IsSound};
+ghost use Rattle.mux.specs.Keeping.{state_of, queue_of};
+
+use crate::candidate::Candidate;
+use crate::choice::{all_closed, all_empty, choose, clear_full, first_unready};
+use crate::counts::Counts;
+use crate::input_state::InputState;
+use crate::pid_queue::PidQueue;
+use crate::plan::Plan;
+use crate::slot::Slot;
+use crate::stored_event::StoredEvent;
+use crate::stream::Stream;
+use crate::taken::Taken;
+use crate::totals::Totals;
+use std::alloc::{AllocError, Global};
+use std::marker::Model;
+use tspkt::{Packet, Stamped, null, rewrite, time};
+
+/// The greatest number of slots of a run.
+pub const MAX_SLOTS: u64 = 1_000_000;
+
+/// A multiplex: its history, and what is kept beside it so that no call reads the history.
+#[derive(Drop)]
+pub struct Mux {
+    plan: Plan,
+    limit: u64,
+    stored: Vec<StoredEvent>,
+    taken: Vec<Stamped>,
+    inputs: Vec<InputState>,
+    queues: Vec<PidQueue>,
+    emitted: Vec<Packet>,
+    slots: u64,
+    elementary: u64,
+}
+
+impl Model for Mux {
+    ghost use Rattle.std.specs.Prelude.{reverse};
+    ghost use Rattle.mux.specs.History.{Run, History};
+    ghost use Rattle.mux.specs.Keeping.{IsKept};
+    ghost use Rattle.mux.specs.Stored.{history_of};
+
+    ghost Value = { History };
+
+    ghost view = { λ m. record {
+      run = record { plan = m.plan; limit = m.limit };
+      events = history_of m.plan.streams (reverse m.stored.items) (reverse m.taken.items);
+    } };
+
+    ghost invariant = { λ m. IsKept
+        (record { plan = m.plan; limit = m.limit })
+        (history_of m.plan.streams (reverse m.stored.items) (reverse m.taken.items))
+        m.inputs.items m.queues.items m.slots m.emitted.items m.elementary };
+}
+
+/// What is kept of so many inputs before the first packet.
+fn new_states(alloc: Global, inputs: usize) -> Result<Vec<InputState>, AllocError>
+    ensures { IfOk result (λ v. v.items ≡ map (state_of []) (range_with_len 0 inputs)) }
+{
+    let mut states = Vec::new(alloc);
+    for _ in 0..inputs {
+        states.push(InputState {
+            closed: false,
+            last_stamp: 0,
+            full_noted: false,
+            taken: 0,
+            sent: 0,
+        })?;
+    }
+    Ok(states)
+}
+
+/// An empty queue a stream.
+fn new_queues(
+    alloc: Global,
+    streams: &[Stream],
+    capacity: usize,
+) -> Result<Vec<PidQueue>, AllocError>
+    ensures { IfOk result (λ v. v.items ≡ map (queue_of capacity []) streams.now) }
+{
+    let mut queues = Vec::new(alloc);
+    for _ in streams {
+        queues.push(PidQueue::with_capacity(alloc, capacity)?)?;
+    }
+    Ok(queues)
+}
+
+impl Mux {
+    /// A multiplex of this plan with nothing taken or sent, for at most this many slots (at most 1,000,000).
+    pub fn open(alloc: Global, plan: Plan, slots: u64) -> Result<Mux, AllocError>
+        requires { slots ≤ MAX_SLOTS }
+        ensures { IfOk result (λ m. m ≡ opened plan slots) }
+    {
+        let _ = plan.rate();
+        let inputs = new_states(alloc, plan.inputs().len())?;
+        let queues = new_queues(alloc, plan.streams(), plan.queue_capacity())?;
+        Ok(Mux {
+            plan,
+            limit: slots,
+            stored: Vec::new(alloc),
+            taken: Vec::new(alloc),
+            inputs,
+            queues,
+            emitted: Vec::new(alloc),
+            slots: 0,
+            elementary: 0,
+        })
+    }
+
+    /// How many slots were sent. What every multiplex keeps is known with it.
+    pub fn slots(&self) -> u64
+        ensures count { result ≡ slots self.now.events }
+        ensures sound { IsSound self.now }
+    {
+        self.slots
+    }
+
+    /// The packet of a slot that was sent.
+    pub fn emitted(&self, slot: u64) -> Packet
+        requires { slot < slots self.now.events }
+        ensures { slice_get (emitted self.now.run.plan self.now.events) slot ≡ Some result }
+    {
+        self.emitted[slot as usize]
+    }
+
+    /// What became of the packets of an input.
+    pub fn totals(&self, input: usize) -> Totals
+        requires { input < length self.now.run.plan.inputs }
+        ensures { IsTotals self.now.run.plan input self.now.events result }
+    {
+        let state = self.inputs[input];
+        Totals {
+            taken: state.taken,
+            sent: state.sent,
+            queued: state.taken - state.sent,
+        }
+    }
+
+    /// What the slots carried.
+    pub fn counts(&self) -> Counts
+        ensures { IsCounts self.now.events result }
+    {
+        Counts {
+            tables: 0,
+            elementary: self.elementary,
+            null: self.slots - self.elementary,
+        }
+    }
+
+    /// What is kept of an input.
+    fn state(&self, input: usize) -> InputState
+        requires { input < length self.now.run.plan.inputs }
+        ensures { result ≡ state_of self.now.events input }
+    {
+        self.inputs[input]
+    }
+
+    /// The stream that the plan maps a packet to, with its place.
+    fn find(&self, input: usize, item: &Stamped) -> Option<(usize, Stream)>
+        ensures found { IfSome result (λ x. (slice_get self.now.run.plan.streams x.0 ≡ Some x.1)
+            × (is_mapped_to x.1 input item.now ≡ true)) }
+        ensures none { IfNone result (is_mapped self.now.run.plan input item.now ≡ false) }
+        ensures packet { IsPacket item.now.packet }
+        ensures plan { IsPlan self.now.run.plan }
+    {
+        let _ = item.packet.bytes();
+        self.plan.find(input, item.packet.pid())
+    }
+
+    /// Whether the queue of a stream is full.
+    fn is_full(&self, place: usize, stream: Stream) -> bool
+        requires { slice_get self.now.run.plan.streams place ≡ Some stream }
+        ensures { result
+            ≡ (length (queue stream self.now.events) == self.now.run.plan.queue_capacity) }
+    {
+        self.queues[place].is_full()
+    }
+
+    /// Notes that the queue of a stream is full.
+    fn note_full(&mut self, place: usize, stream: Stream) -> Result<(), AllocError>
+        requires place { slice_get self.old.run.plan.streams place ≡ Some stream }
+        requires may { MayNoteFull self.old.run.plan self.old.events stream.input stream }
+        ensures ok { OnOk result (self.new ≡ with_event self.old (Event.Full stream.input stream)) }
+        ensures err { OnErr result (self.new ≡ self.old) }
+    {
+        self.stored.push(StoredEvent::Full(place as u8))?;
+        self.inputs[stream.input].full_noted = true;
+        Ok(())
+    }
+
+    /// Takes a packet of a stream.
+    fn add(&mut self, place: usize, stream: Stream, item: &Stamped) -> Result<(), AllocError>
+        requires place { slice_get self.old.run.plan.streams place ≡ Some stream }
+        requires mapped { is_mapped_to stream stream.input item.now ≡ true }
+        requires may { MayTake self.old.run.plan self.old.events stream.input item.now }
+        ensures ok { OnOk result
+            (self.new ≡ with_event self.old (Event.Took stream.input item.now)) }
+        ensures err { OnErr result (self.new ≡ self.old) }
+    {
+        self.taken.reserve(1)?;
+        self.stored.push(StoredEvent::Took(stream.input as u8))?;
+        self.taken.push_reserved(*item);
+        let state = &mut self.inputs[stream.input];
+        state.last_stamp = item.stamp;
+        state.taken += 1;
+        self.queues[place].push_back(*item);
+        Ok(())
+    }
+
+    /// Takes a packet of an input, where nothing is against it: the input wasn't closed, the plan maps the packet's PID,
+    /// its time isn't before that of the input's packet last taken, and the queue of its stream isn't full. The answer
+    /// is the first reason against it that applies, with the packet. Where the event that is due finds no memory it is
+    /// `Memory`, and nothing changed. The first `Full` of an input since the last slot adds an event.
+    pub fn take(&mut self, input: usize, item: Stamped) -> Taken
+        requires { input < length self.old.run.plan.inputs }
+        ensures answer { TakeAnswers self.old input item result self.new }
+        ensures run { self.new.run ≡ self.old.run }
+    {
+        let state = self.state(input);
+        if state.closed {
+            return Taken::Closed(item);
+        }
+        let Some((place, stream)) = self.find(input, &item) else {
+            return Taken::Stranger(item);
+        };
+        if item.stamp < state.last_stamp {
+            return Taken::Backward(item);
+        }
+        if self.is_full(place, stream) {
+            if state.full_noted {
+                return Taken::Full(item);
+            }
+            return match self.note_full(place, stream) {
+                Ok(()) => Taken::Full(item),
+                Err(_) => Taken::Memory(item),
+            };
+        }
+        match self.add(place, stream, &item) {
+            Ok(()) => Taken::Ok,
+            Err(_) => Taken::Memory(item),
+        }
+    }
+
+    /// Closes an input. A second close changes nothing.
+    pub fn close(&mut self, input: usize) -> Result<(), AllocError>
+        requires { input < length self.old.run.plan.inputs }
+        ensures first { is_closed input self.old.events ≡ false
+            → OnOk result (self.new ≡ with_event self.old (Event.Close input)) }
+        ensures again { is_closed input self.old.events ≡ true
+            → IsOk result × (self.new ≡ self.old) }
+        ensures err { OnErr result (self.new ≡ self.old) }
+        ensures run { self.new.run ≡ self.old.run }
+    {
+        if !self.inputs[input].closed {
+            self.stored.push(StoredEvent::Close(input as u8))?;
+            self.inputs[input].closed = true;
+        }
+        Ok(())
+    }
+
+    /// Whether all inputs are closed, and nothing waits.
+    fn is_done(&self) -> bool
+        ensures done { result ≡ true → IsDone self.now.run.plan self.now.events }
+        ensures running { result ≡ false → IsDone self.now.run.plan self.now.events → ⊥ }
+    {
+        all_closed(self.inputs.as_slice()) && all_empty(self.queues.as_slice())
+    }
+
+    /// Whether the run has all its slots.
+    fn is_run_full(&self) -> bool
+        ensures full { result ≡ true → self.now.run.limit ≤ slots self.now.events }
+        ensures within { result ≡ false → slots self.now.events < self.now.run.limit }
+    {
+        self.limit <= self.slots
+    }
+
+    /// When the next slot goes out, in ticks of 27 MHz.
+    fn now(&self) -> u64
+        requires { slots self.now.events < self.now.run.limit }
+        ensures { result ≡ slot_time self.now.run.plan (slots self.now.events) }
+    {
+        time(188 * self.slots + 10, self.plan.rate())
+    }
+
+    /// The least input that isn't ready for the next slot, which goes out now.
+    fn unready(&self, now: u64) -> Option<usize>
+        requires { now ≡ slot_time self.now.run.plan (slots self.now.events) }
+        ensures none { IfNone result (AllReady self.now.run.plan self.now.events) }
+        ensures some { IfSome result (IsLeastUnready self.now) }
+    {
+        first_unready(self.inputs.as_slice(), now)
+    }
+
+    /// The stream that the next slot carries, or none where it carries null.
+    fn next(&self, now: u64) -> Option<Candidate>
+        requires { now ≡ slot_time self.now.run.plan (slots self.now.events) }
+        ensures none { IfNone result (IsContent self.now.run.plan self.now.events Content.Null) }
+        ensures some { IfSome result (λ c.
+            (slice_get self.now.run.plan.streams c.place ≡ Some c.stream)
+            × IsContent self.now.run.plan self.now.events (Content.Elementary c.stream)) }
+    {
+        choose(self.plan.streams(), self.queues.as_slice(), now)
+    }
+
+    /// Sends a null packet.
+    fn send_null(&mut self) -> Result<Packet, AllocError>
+        requires within { slots self.old.events < self.old.run.limit }
+        requires may { MaySend self.old.run.plan self.old.events Content.Null }
+        ensures ok { IfOk result (Sends self.old Content.Null self.new) }
+        ensures err { OnErr result (self.new ≡ self.old) }
+    {
+        self.stored.reserve(1)?;
+        let packet = null();
+        self.emitted.push(packet)?;
+        self.stored.push_reserved(StoredEvent::Null);
+        clear_full(&mut self.inputs);
+        self.slots += 1;
+        Ok(packet)
+    }
+
+    /// Sends the head of a stream's queue.
+    fn send_head(&mut self, place: usize, stream: Stream, now: u64) -> Result<Packet, AllocError>
+        requires now { now ≡ slot_time self.old.run.plan (slots self.old.events) }
+        requires place { slice_get self.old.run.plan.streams place ≡ Some stream }
+        requires within { slots self.old.events < self.old.run.limit }
+        requires may { MaySend self.old.run.plan self.old.events (Content.Elementary stream) }
+        ensures ok { IfOk result (Sends self.old (Content.Elementary stream) self.new) }
+        ensures err { OnErr result (self.new ≡ self.old) }
+    {
+        self.stored.reserve(1)?;
+        self.emitted.reserve(1)?;
+        let item = self.queues[place].pop_front().unwrap();
+        let packet = rewrite(&item.packet, stream.output_pid, now - item.stamp);
+        self.emitted.push_reserved(packet);
+        self.stored
+            .push_reserved(StoredEvent::Elementary(place as u8));
+        clear_full(&mut self.inputs);
+        self.inputs[stream.input].sent += 1;
+        self.slots += 1;
+        self.elementary += 1;
+        Ok(packet)
+    }
+
+    /// Sends the next slot, where the run isn't done, has slots left, and each input is ready; in this order.
+    ///
+    /// An input is ready where it is closed, or its packet last taken comes after the slot, or a full queue of it was
+    /// noted since the last slot. The slot carries the packet that is due and has the least time, of equal times that
+    /// with the least output PID, or a null packet where none is due.
+    pub fn slot(&mut self) -> Slot
+        ensures answer { SlotAnswers self.old result self.new }
+        ensures run { self.new.run ≡ self.old.run }
+    {
+        if self.is_done() {
+            return Slot::Done;
+        }
+        if self.is_run_full() {
+            return Slot::RunFull;
+        }
+        let now = self.now();
+        if let Some(input) = self.unready(now) {
+            return Slot::NotReady(input);
+        }
+        let sent = match self.next(now) {
+            None => self.send_null(),
+            Some(best) => self.send_head(best.place, best.stream, now),
+        };
+        match sent {
+            Ok(packet) => Slot::Sent(packet),
+            Err(_) => Slot::Memory,
+        }
+    }
+}

@@ -1,0 +1,20 @@
+//! What `take` answers.
+
+use tspkt::Stamped;
+
+/// What became of a packet: each refusal hands it back.
+#[derive(Drop)]
+pub enum Taken {
+    /// It was taken.
+    Ok,
+    /// Its input was closed.
+    Closed(Stamped),
+    /// No stream of the plan has its PID.
+    Stranger(Stamped),
+    /// Its time is before that of the packet that was last taken of its input.
+    Backward(Stamped),
+    /// The queue of its stream is full.
+    Full(Stamped),
+    /// The memory for the event was refused.
+    Memory(Stamped),
+}
