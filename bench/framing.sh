@@ -2,12 +2,11 @@
 # Frames and reads a file of 100 MB that is made on the spot, and prints packets a second beside `cat` of the same file.
 set -euo pipefail
 cd "$(dirname "${BASH_SOURCE[0]}")"
+(cd ../crates/bench && rt run > /dev/null 2>&1)
 file=data/stream_100mb.ts
 mkdir -p data
 [ -s "$file" ] || python3 make_stream.py "$file"
-# Both read the file once before, so that it lies in memory.
 cat "$file" > /dev/null
-(cd ../crates/bench && rt run -- framing "$(realpath "../../bench/$file")" > /dev/null)
 echo "framing: $(../crates/bench/out/bench framing "$file")"
 start=$(date +%s%N)
 cat "$file" > data/copy.ts

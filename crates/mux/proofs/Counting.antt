@@ -1,9 +1,9 @@
 -- Numbers of packets and slots, by the history.
-use Rattle.std.proofs.Common.{ℕ, zero, suc, ◌+◌, ◌≤◌, ◌≡◌, ◌≢◌, ◌∙◌, Bool, true, false, cond, nat_eq, List, [], ◌∷◌, ◌++◌, length, drop, ap, sym, subst, arith, refl, length-append, length-drop, Some, inl, inr, eq-eqb, zero-add}
+use Rattle.std.proofs.Common.{ℕ, zero, suc, ◌+◌, ◌≤◌, ◌≡◌, ◌≢◌, ◌∙◌, Bool, true, false, cond, nat_eq, List, [], ◌∷◌, length, drop, ap, sym, arith, refl, length-append, length-drop, Some, inl, inr, eq-eqb, zero-add}
 use Rattle.std.specs.Prelude.{sum_by, count_by, filter}
 use Rattle.std.specs.List.{slice_get}
 use Rattle.std.proofs.lemmas.List.Sums.{sum_by-cons, count_by-le-length}
-use Rattle.std.proofs.lemmas.Bool.{cases_Bool, ne_eqb, eqb-true, false≢true}
+use Rattle.std.proofs.lemmas.Bool.{cases_Bool, ne_eqb}
 use Rattle.std.proofs.lemmas.Option.{same_Some, slice_get_within}
 use Rattle.tspkt.specs.declared.stamped.Stamped.{Stamped}
 use Rattle.mux.specs.declared.stream.Stream.{Stream}
@@ -13,11 +13,11 @@ use Rattle.mux.specs.declared.event.Event.{Event}
 use Rattle.mux.specs.declared.event.Event.TheVariants.{Took, Full, Close, Slot}
 use Rattle.mux.specs.QueueValue.{QueueValue}
 use Rattle.mux.specs.PlanValue.{PlanValue, IsPlan}
-use Rattle.mux.specs.History.{taken, taken_for, sent, queue, slots}
+use Rattle.mux.specs.History.{taken, queue, slots}
 use Rattle.mux.specs.Totals.{contents, is_table, is_elementary, is_null, is_of_input, queued}
 use Rattle.mux.specs.Keeping.{queue_of}
 use Rattle.mux.specs.Lawful.{IsLawful}
-use Rattle.mux.proofs.Plans.{IsAt, Has, has_of, one_out}
+use Rattle.mux.proofs.Plans.{IsAt, has_of}
 use Rattle.mux.proofs.Refusals.{IsTakenFor, taken_for_of, goes_both}
 use Rattle.mux.proofs.Queues as queues
 

@@ -1,10 +1,10 @@
 -- A history is opened first, and once.
-use Rattle.std.proofs.Common.{ℕ, zero, suc, ◌+◌, ◌≡◌, List, [], ◌∷◌, map, reverse, Option, Some, None, refl, sym, ◌∙◌, ap, arith}
+use Rattle.std.proofs.Common.{suc, ◌+◌, ◌≡◌, map, reverse, Option, Some, None, refl, sym, ◌∙◌, arith}
 use Rattle.std.specs.List.{slice_get}
 use Rattle.std.specs.Option.{option_map}
 use Rattle.std.proofs.lemmas.Option.{slice_get-map}
 use Rattle.mux.specs.declared.event.Event.{Event}
-use Rattle.mux.specs.History.{Run, History, Entry, Open, Then, all_events}
+use Rattle.mux.specs.History.{Run, Open, Then, all_events}
 use Rattle.mux.specs.Faithful.{OpensOnce}
 
 not_open : (o : Option Event) (r : Run) → option_map Then o ≡ Some (Open r) → ⊥

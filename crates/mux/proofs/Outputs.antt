@@ -1,11 +1,10 @@
 -- What holds of the packets that went out, from lawfulness.
-use Rattle.std.proofs.Common.{ℕ, zero, suc, ◌+◌, ◌-◌, ◌<◌, ◌≤◌, ◌≡◌, ◌≢◌, Bool, true, false, cond, nat_eq, List, [], ◌∷◌, ◌++◌, length, get_or, map, drop, take, Option, Some, None, refl, ap, ◌∙◌, sym, subst, arith, inl, inr, All, eq-eqb, add-one}
-use Rattle.std.specs.Prelude.{filter}
-use Rattle.std.specs.List.{slice_get, Any, Contains}
+use Rattle.std.proofs.Common.{ℕ, zero, suc, ◌+◌, ◌-◌, ◌<◌, ◌≡◌, Bool, true, false, cond, nat_eq, List, [], ◌∷◌, ◌++◌, length, map, drop, take, Option, Some, None, refl, ap, ◌∙◌, sym, subst, arith, inl, inr, All}
+use Rattle.std.specs.List.{slice_get}
 use Rattle.std.proofs.lemmas.List.{take-append-le, append-nil}
 use Rattle.std.proofs.lemmas.List.Elements.{All-nil, All-push, All-drop, filter-append}
-use Rattle.std.proofs.lemmas.Option.{same_Some, slice_get_within, get_or_from_slice_get}
-use Rattle.std.proofs.lemmas.Bool.{cases_Bool, ne_eqb, eqb-true, eqb-false}
+use Rattle.std.proofs.lemmas.Option.{same_Some}
+use Rattle.std.proofs.lemmas.Bool.{cases_Bool, ne_eqb, eqb-true}
 use Rattle.tspkt.specs.Packet.{pid_of, null_packet, IsPacket}
 use Rattle.tspkt.specs.Counters.{lawful_of, lawful_behind, follows_of}
 use Rattle.tspkt.specs.Rewritten.{rewritten}
@@ -13,16 +12,15 @@ use Rattle.tspkt.specs.declared.stamped.Stamped.{Stamped}
 use Rattle.tspkt.proofs.RewrittenLaws.{is_packet-rewritten, pid_of-rewritten, is_packet-null_packet, pid_of-null_packet}
 use Rattle.tspkt.proofs.CounterLaws.{IsRewritten, AreRewritten, lawful_of-rewritten}
 use Rattle.mux.specs.declared.stream.Stream.{Stream}
-use Rattle.mux.specs.declared.content.Content.{Content}
 use Rattle.mux.specs.declared.content.Content.TheVariants.{Null, Elementary}
 use Rattle.mux.specs.declared.event.Event.{Event}
 use Rattle.mux.specs.declared.event.Event.TheVariants.{Took, Full, Close, Slot}
 use Rattle.mux.specs.PlanValue.{PlanValue, IsPlan}
-use Rattle.mux.specs.History.{is_mapped_to, taken_for, sent, queue, is_of_stream, slot_time, emitted, packet_behind, sent_packet}
-use Rattle.mux.specs.Lawful.{IsLawful, MaySend}
+use Rattle.mux.specs.History.{is_mapped_to, taken_for, sent, queue, slot_time, emitted, packet_behind, sent_packet}
+use Rattle.mux.specs.Lawful.{IsLawful}
 use Rattle.mux.specs.Output.{IsOutput, IsNullOrMapped, of_pid}
 use Rattle.mux.proofs.Plans.{IsAt, Has, has_of, all_at, stream_in, same_stream}
-use Rattle.mux.proofs.Refusals.{taken_for_of, goes_both}
+use Rattle.mux.proofs.Refusals.{goes_both}
 use Rattle.mux.proofs.Queues.{sent_within}
 
 -- an item of a stream: a whole packet of the stream's PID

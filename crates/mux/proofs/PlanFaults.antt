@@ -1,5 +1,5 @@
 -- The faults of a plan, and what a plan without one is.
-use Rattle.std.proofs.Common.{ℕ, ◌+◌, ◌<◌, ◌≤◌, ◌≡◌, ◌≢◌, ◌||◌, ◌&&◌, Bool, true, false, cond, not, ltb, leb, nat_eq, List, [], ◌∷◌, length, get_or, drop, take, ◌-◌, length-drop, Option, Some, None, Err, refl, ap, ◌∙◌, sym, subst, arith, All, drop-cons, add-one, zero, suc}
+use Rattle.std.proofs.Common.{ℕ, ◌+◌, ◌<◌, ◌≡◌, ◌≢◌, ◌||◌, ◌&&◌, Bool, true, false, cond, not, ltb, leb, nat_eq, List, [], ◌∷◌, length, get_or, drop, take, ◌-◌, length-drop, Some, None, Err, refl, ap, ◌∙◌, sym, arith, zero, suc}
 use Rattle.std.specs.List.{list_any, list_all, AllPairs}
 use Rattle.std.proofs.lemmas.Bool.{and_parts, and_from, or_parts, leb-true, ltb-true, eq-eqb, false≢true, or_left, false_from_ne_true}
 use Rattle.std.proofs.lemmas.List.Sums.{AllPass-from_list_all}

@@ -1,5 +1,5 @@
 -- Streams of a plan by their places.
-use Rattle.std.proofs.Common.{ℕ, ◌<◌, ◌≤◌, ◌≡◌, ◌≢◌, List, length, get_or, Some, ap, ◌∙◌, sym, subst, arith, All, inl, inr}
+use Rattle.std.proofs.Common.{ℕ, ◌≡◌, ◌≢◌, List, length, get_or, Some, ap, ◌∙◌, sym, subst, All, inl, inr}
 use Rattle.std.specs.List.{slice_get, AllPairs, Contains}
 use Rattle.std.proofs.lemmas.Bool.{cases_order, cases_eq}
 use Rattle.std.proofs.lemmas.Option.{same_Some, slice_get_within, slice_get-get_or, get_or_from_slice_get}

@@ -1,10 +1,9 @@
 -- Queues of streams, and what an event does to them.
-use Rattle.std.proofs.Common.{ℕ, suc, ◌+◌, ◌<◌, ◌≤◌, ◌≡◌, ◌≢◌, Bool, true, false, cond, nat_eq, eq-eqb, refl, List, [], ◌∷◌, ◌++◌, length, drop, ap, ◌∙◌, sym, subst, arith, length-append, length-drop, Some, inl, inr}
+use Rattle.std.proofs.Common.{ℕ, ◌+◌, ◌<◌, ◌≤◌, ◌≡◌, ◌≢◌, Bool, false, cond, nat_eq, eq-eqb, refl, List, [], ◌∷◌, ◌++◌, length, drop, ap, ◌∙◌, sym, arith, length-append, length-drop, Some, inl, inr}
 use Rattle.std.specs.List.{slice_get}
 use Rattle.std.proofs.lemmas.List.{drop-append-le, drop-drop}
 use Rattle.std.proofs.lemmas.Option.{slice_get_within}
 use Rattle.std.proofs.lemmas.Bool.{eqb-true, false_from_ne_true, cases_Bool, ne_eqb}
-use Rattle.tspkt.specs.Packet.{pid_of}
 use Rattle.tspkt.specs.declared.stamped.Stamped.{Stamped}
 use Rattle.mux.specs.declared.stream.Stream.{Stream}
 use Rattle.mux.specs.declared.content.Content.TheVariants.{Null, Elementary}
@@ -13,10 +12,10 @@ use Rattle.mux.specs.declared.event.Event.TheVariants.{Took, Full, Close, Slot}
 use Rattle.mux.specs.QueueValue.{QueueValue}
 use Rattle.mux.specs.PlanValue.{PlanValue, IsPlan}
 use Rattle.mux.specs.History.{is_mapped_to, taken_for, sent, queue, is_of_stream}
-use Rattle.mux.specs.Lawful.{IsLawful, MayTake}
+use Rattle.mux.specs.Lawful.{IsLawful}
 use Rattle.mux.specs.Keeping.{queue_of}
 use Rattle.mux.proofs.Plans.{IsAt, Has, has_of, same_stream, one_source, one_out}
-use Rattle.mux.proofs.Refusals.{IsTakenFor, taken_for_of, taken_at, goes_both, one_stream}
+use Rattle.mux.proofs.Refusals.{IsTakenFor, taken_at, goes_both}
 
 -- a head is an element
 pub head_within : (n : ℕ) (xs : List Stamped) (x : Stamped) → slice_get (drop n xs) 0 ≡ Some x → n + 1 ≤ length xs

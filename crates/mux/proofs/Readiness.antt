@@ -1,6 +1,6 @@
 -- What is kept of inputs and queues says who is ready, and what goes next.
 use Rattle.std.proofs.Common.{ℕ, ◌<◌, ◌≡◌, false, List, [], length, get_or, Option, Some, None, ap, ◌∙◌, sym, arith, All}
-use Rattle.std.specs.Prelude.{IsTrue, IfSome, IfNone}
+use Rattle.std.specs.Prelude.{IsTrue, IfNone}
 use Rattle.std.specs.List.{slice_get}
 use Rattle.std.proofs.lemmas.List.FromFn.{get_or-map-range_with_len}
 use Rattle.std.proofs.lemmas.Option.{same_Some, slice_get-map, slice_get_within, get_or_from_slice_get, slice_get-get_or}

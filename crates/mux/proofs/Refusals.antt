@@ -1,8 +1,7 @@
 -- Why an item is refused, and what holds where it isn't.
-use Rattle.std.proofs.Common.{ℕ, ◌<◌, ◌≤◌, ◌≡◌, ◌≢◌, ◌&&◌, Bool, true, false, cond, not, ltb, nat_eq, List, length, get_or, Option, Some, None, refl, ap, ◌∙◌, sym, subst, arith, inl, inr}
-use Rattle.std.specs.Prelude.{IfSome, IfNone}
-use Rattle.std.specs.List.{slice_get, list_any, Any, Contains}
-use Rattle.std.proofs.lemmas.Bool.{and_parts, and_from, eqb-true, eq-eqb, ltb-false, cases_Bool, false≢true, false_from_ne_true}
+use Rattle.std.proofs.Common.{ℕ, ◌≤◌, ◌≡◌, ◌&&◌, Bool, true, false, cond, not, ltb, nat_eq, List, length, get_or, Some, None, refl, ap, ◌∙◌, sym}
+use Rattle.std.specs.List.{slice_get}
+use Rattle.std.proofs.lemmas.Bool.{and_parts, and_from, eqb-true, eq-eqb, ltb-false, false≢true, false_from_ne_true}
 use Rattle.std.proofs.lemmas.Option.{slice_get_within, slice_get-get_or, get_or_from_slice_get}
 use Rattle.std.proofs.lemmas.List.Folds.{Any-from_list_any, list_any_at, list_any_none}
 use Rattle.tspkt.specs.Packet.{pid_of}
@@ -11,7 +10,7 @@ use Rattle.mux.specs.declared.stream.Stream.{Stream}
 use Rattle.mux.specs.declared.event.Event.{Event}
 use Rattle.mux.specs.PlanValue.{PlanValue, IsPlan}
 use Rattle.mux.specs.History.{is_mapped_to, queue, last_stamp, is_closed}
-use Rattle.mux.specs.Lawful.{Refusal, Closed, Stranger, Backward, Full, is_mapped, is_queue_full, refusal_of, MayTake}
+use Rattle.mux.specs.Lawful.{Closed, Stranger, Backward, Full, is_mapped, is_queue_full, refusal_of, MayTake}
 use Rattle.mux.proofs.Plans.{IsAt, Has, one_source, same_place}
 
 -- an item of a stream is of its input and PID

@@ -1,5 +1,5 @@
 -- What a multiplex keeps, after an event: one lemma an event.
-use Rattle.std.proofs.Common.{ℕ, ◌+◌, ◌-◌, ◌<◌, ◌≤◌, ◌≡◌, ◌≢◌, ◌||◌, Bool, true, false, eq-eqb, cond, List, [], ◌∷◌, ◌++◌, length, map, set, get_or, drop, refl, ap, ◌∙◌, sym, subst, arith, length-append, Some}
+use Rattle.std.proofs.Common.{ℕ, ◌+◌, ◌-◌, ◌<◌, ◌≡◌, ◌≢◌, ◌||◌, true, false, eq-eqb, cond, List, [], ◌∷◌, ◌++◌, length, map, set, get_or, drop, refl, ap, ◌∙◌, sym, subst, arith, length-append, Some}
 use Rattle.std.specs.Prelude.{count_by}
 use Rattle.std.specs.List.{slice_get, range_with_len}
 use Rattle.std.proofs.lemmas.Simd.{map-map}
@@ -16,14 +16,13 @@ use Rattle.mux.specs.declared.event.Event.{Event}
 use Rattle.mux.specs.declared.event.Event.TheVariants.{Took, Full, Close, Slot}
 use Rattle.mux.specs.declared.input_state.InputState.{InputState}
 use Rattle.mux.specs.QueueValue.{QueueValue}
-use Rattle.mux.specs.PlanValue.{IsPlan}
-use Rattle.mux.specs.History.{Run, taken, queue, slots, slot_time, last_stamp, is_closed, full_noted, emitted, packet_behind, sent_packet}
-use Rattle.mux.specs.Totals.{contents, is_of_input, is_elementary}
-use Rattle.mux.specs.Lawful.{IsLawful, MayTake, MayNoteFull, MaySend}
+use Rattle.mux.specs.History.{Run, taken, slots, slot_time, last_stamp, is_closed, full_noted, emitted, packet_behind, sent_packet}
+use Rattle.mux.specs.Totals.{contents, is_elementary}
+use Rattle.mux.specs.Lawful.{MayTake, MayNoteFull, MaySend}
 use Rattle.mux.specs.Keeping.{AgreesWith, IsKept, state_of, queue_of, without_full}
 use Rattle.mux.proofs.Lists.{set_map, set_map_at}
 use Rattle.mux.proofs.Plans.{IsAt}
-use Rattle.mux.proofs.Refusals.{IsTakenFor, taken_at}
+use Rattle.mux.proofs.Refusals.{IsTakenFor}
 use Rattle.mux.proofs.Queues.{queued, unqueued, sent_queue, unsent_queue}
 use Rattle.mux.proofs.Counting.{count_sent, count_unsent, count_elementary}
 use Rattle.mux.proofs.Emitted.{length-emitted}

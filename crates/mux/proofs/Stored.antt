@@ -1,12 +1,11 @@
 -- The history that is stored, after one more event.
-use Rattle.std.proofs.Common.{ℕ, ◌+◌, ◌≤◌, ◌≡◌, ◌∙◌, cond, nat_eq, List, [], ◌∷◌, ◌++◌, length, reverse, ap, sym, arith, refl, length-append, inl, inr, Some}
+use Rattle.std.proofs.Common.{ℕ, ◌≤◌, ◌≡◌, ◌∙◌, nat_eq, List, [], ◌∷◌, ◌++◌, length, reverse, ap, arith, length-append, inl, inr}
 use Rattle.std.proofs.lemmas.List.{reverse-append, length-reverse}
 use Rattle.std.proofs.lemmas.Bool.{cases_Bool}
 use Rattle.std.proofs.lemmas.Option.{get_or_from_slice_get}
 use Rattle.tspkt.specs.declared.stamped.Stamped.{Stamped}
 use Rattle.mux.specs.declared.stream.Stream.{Stream}
 use Rattle.mux.specs.declared.content.Content.TheVariants as contents
-use Rattle.mux.specs.declared.event.Event.{Event}
 use Rattle.mux.specs.declared.event.Event.TheVariants as events
 use Rattle.mux.specs.declared.stored_event.StoredEvent.{StoredEvent}
 use Rattle.mux.specs.declared.stored_event.StoredEvent.TheVariants as stored

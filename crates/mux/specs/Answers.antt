@@ -10,7 +10,7 @@ use Rattle.mux.specs.declared.slot.Slot.TheVariants as sending
 use Rattle.mux.specs.declared.taken.Taken.{Taken}
 use Rattle.mux.specs.declared.taken.Taken.TheVariants as answers
 use Rattle.mux.specs.History.{History, with_event, in_force, is_mapped_to, full_noted, slots, emitted, packet_behind}
-use Rattle.mux.specs.Lawful.{Refusal, Closed, Stranger, Backward, Full, refusal_of, IsDone, AllReady, is_ready, MaySend}
+use Rattle.mux.specs.Lawful.{Closed, Stranger, Backward, Full, refusal_of, IsDone, AllReady, is_ready, MaySend}
 
 -- the item came back, and no event was added
 abbrev pub HandsBack : History → Stamped → Stamped → History → Type 0

@@ -1,6 +1,6 @@
 -- Which events may follow which: the rules by which a multiplex takes packets, notes a full queue, closes an input
 -- and sends a slot (profile). A history is lawful where each of its events could come when it came.
-use Rattle.std.specs.Prelude.{ℕ, List, [], ◌∷◌, ◌≡◌, ◌<◌, ◌≤◌, ◌⊎◌, Bool, true, false, ◌&&◌, ◌||◌, ◌==◌, not, nat_lt, if◌then◌else◌, length, Option, Some, None, IsTrue, Contains}
+use Rattle.std.specs.Prelude.{ℕ, List, [], ◌∷◌, ◌≡◌, ◌<◌, ◌≤◌, ◌⊎◌, Bool, false, ◌&&◌, ◌||◌, ◌==◌, not, nat_lt, if◌then◌else◌, length, Option, Some, None, IsTrue, Contains}
 use Rattle.std.specs.List.{slice_get, list_any}
 use Rattle.tspkt.specs.Packet.{IsPacket}
 use Rattle.tspkt.specs.declared.stamped.Stamped.{Stamped}

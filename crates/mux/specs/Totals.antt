@@ -1,6 +1,5 @@
 -- Numbers of packets and slots, by the history (profile).
 use Rattle.std.specs.Prelude.{ℕ, List, [], ◌∷◌, ◌≡◌, ◌+◌, ◌==◌, Bool, true, false, length, filter, sum_by, count_by}
-use Rattle.mux.specs.declared.stream.Stream.{Stream}
 use Rattle.mux.specs.declared.content.Content.{Content}
 use Rattle.mux.specs.declared.content.Content.TheVariants.{Null, Elementary}
 use Rattle.mux.specs.declared.event.Event.{Event}

@@ -1,6 +1,5 @@
-use Rattle.std.proofs.Common.{sym, ap, ◌∙◌, ◌+◌, ◌-◌, ◌≡◌, length, drop, take, get_or, List}
+use Rattle.std.proofs.Common.{sym, ap, ◌∙◌, ◌+◌, get_or}
 use Rattle.std.specs.List.{list_any}
-use Rattle.mux.specs.declared.stream.Stream.{Stream}
 use Rattle.mux.specs.PlanValue.{shares_pid}
 use Rattle.mux.proofs.PlanFaults.{pid_step, pid_found, whole_rest}
 use Rattle.mux.proofs.plan.has_pid_twice.Goals as goal

@@ -1,4 +1,4 @@
-use Rattle.std.proofs.Common.{◌≡◌, sym, ◌∙◌}
+use Rattle.std.proofs.Common.{sym, ◌∙◌}
 use Rattle.mux.specs.PlanValue.{thin_plan}
 use Rattle.mux.proofs.PlanFaults.{counts_out, inputs_out, streams_out, pid_taken, no_fault}
 use Rattle.mux.proofs.plan.thin_fault.Goals as goal

@@ -6,7 +6,6 @@ use Rattle.mux.specs.declared.input_state.InputState.{InputState}
 use Rattle.mux.specs.QueueValue.{QueueValue}
 use Rattle.mux.specs.History.{History}
 use Rattle.mux.specs.Lawful.{MayTake}
-use Rattle.mux.proofs.Plans.{stream_in}
 use Rattle.mux.proofs.Refusals.{taken_at}
 use Rattle.mux.proofs.Queues.{has_room}
 use Rattle.mux.proofs.Stored.{with_took, taken_within}

@@ -1,4 +1,4 @@
-use Rattle.std.proofs.Common.{◌≡◌, ◌<◌, sym, ap, ◌∙◌, arith, length}
+use Rattle.std.proofs.Common.{◌<◌, sym, ap, ◌∙◌, arith, length}
 use Rattle.std.proofs.lemmas.Bool.{false≢true}
 use Rattle.mux.specs.declared.input_state.InputState.{InputState}
 use Rattle.mux.specs.History.{History, is_closed}

@@ -1,4 +1,4 @@
-use Rattle.std.proofs.Common.{◌≡◌, sym, ap, ◌∙◌, subst, false}
+use Rattle.std.proofs.Common.{◌≡◌, subst, false}
 use Rattle.mux.specs.History.{History}
 use Rattle.mux.specs.Lawful.{is_mapped}
 use Rattle.mux.proofs.Refusals.{unmapped}

@@ -1,10 +1,8 @@
-use Rattle.std.proofs.Common.{ℕ, ◌≡◌, sym, ap, ◌∙◌, subst, length, List, Some}
-use Rattle.std.specs.Prelude.{IfNone, IfSome}
+use Rattle.std.proofs.Common.{ℕ, ◌≡◌, sym, ap, ◌∙◌, subst, List, Some}
 use Rattle.std.specs.List.{slice_get}
 use Rattle.std.proofs.lemmas.Option.{IfSome_then}
 use Rattle.tspkt.specs.declared.stamped.Stamped.{Stamped}
 use Rattle.mux.specs.declared.content.Content.TheVariants.{Null, Elementary}
-use Rattle.mux.specs.declared.candidate.Candidate.{Candidate}
 use Rattle.mux.specs.declared.stream.Stream.{Stream}
 use Rattle.mux.specs.QueueValue.{QueueValue}
 use Rattle.mux.specs.Choosing.{IsDueHead, IsFirstDueHead}

@@ -1,8 +1,7 @@
-use Rattle.std.proofs.Common.{◌≡◌, sym, ap, ◌∙◌, arith, subst, length, Some, List}
+use Rattle.std.proofs.Common.{◌≡◌, sym, ap, ◌∙◌, arith, subst, Some, List}
 use Rattle.std.specs.List.{slice_get}
 use Rattle.mux.specs.declared.event.Event.{Event}
 use Rattle.mux.specs.declared.event.Event.TheVariants.{Full}
-use Rattle.mux.specs.PlanValue.{PlanValue}
 use Rattle.mux.specs.History.{History, with_event}
 use Rattle.mux.specs.Lawful.{MayNoteFull}
 use Rattle.mux.proofs.Plans.{stream_in}

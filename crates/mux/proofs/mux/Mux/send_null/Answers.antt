@@ -1,10 +1,8 @@
-use Rattle.std.proofs.Common.{◌≡◌, sym, ap, ◌∙◌, arith, subst, ◌++◌, ◌∷◌, [], List, ◌<◌}
-use Rattle.mux.specs.declared.event.Event.{Event}
-use Rattle.mux.specs.declared.event.Event.TheVariants.{Slot}
+use Rattle.std.proofs.Common.{sym, ap, ◌∙◌, subst, ◌++◌, ◌∷◌, [], List, ◌<◌}
 use Rattle.mux.specs.declared.content.Content.TheVariants.{Null}
 use Rattle.mux.specs.declared.stored_event.StoredEvent.{StoredEvent}
 use Rattle.mux.specs.declared.stored_event.StoredEvent.TheVariants as stored
-use Rattle.mux.specs.History.{History, with_event, slots}
+use Rattle.mux.specs.History.{History, slots}
 use Rattle.mux.specs.Lawful.{MaySend}
 use Rattle.mux.proofs.Stored.{with_null}
 use Rattle.mux.proofs.Steps.{sending_null}

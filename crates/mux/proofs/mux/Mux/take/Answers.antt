@@ -1,11 +1,10 @@
-use Rattle.std.proofs.Common.{ℕ, ◌≡◌, ◌+◌, ◌<◌, ◌≤◌, true, false, nat_eq, ltb, length, Some, None, refl, sym, ap, ◌∙◌, subst, arith, inl, inr, cond}
+use Rattle.std.proofs.Common.{ℕ, ◌≡◌, ◌<◌, ◌≤◌, length, refl, sym, ap, ◌∙◌, subst, arith, inl, inr}
 use Rattle.std.specs.Bool.{if◌then◌else◌}
-use Rattle.std.specs.List.{slice_get}
 use Rattle.std.proofs.lemmas.Bool.{eqb-true, lt-ltb, le-ltb}
 use Rattle.mux.specs.declared.event.Event.TheVariants as events
 use Rattle.mux.specs.declared.input_state.InputState.{InputState}
 use Rattle.mux.specs.History.{History, with_event, queue, last_stamp, is_closed, full_noted}
-use Rattle.mux.specs.Lawful.{refusal_of, MayTake}
+use Rattle.mux.specs.Lawful.{MayTake}
 use Rattle.mux.proofs.Plans.{contains_of}
 use Rattle.mux.proofs.Refusals.{goes_both, full_at, mapped_at, not_full_at, is_closed_first, is_stranger, is_backward, is_refused_full, is_unrefused}
 use Rattle.mux.proofs.mux.Mux.take.Goals as goal

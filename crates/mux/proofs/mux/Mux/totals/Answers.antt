@@ -1,6 +1,5 @@
-use Rattle.std.proofs.Common.{◌≡◌, ◌<◌, ◌-◌, sym, ap, ◌∙◌, arith, length, reverse, subst}
+use Rattle.std.proofs.Common.{◌-◌, ap, arith, length, reverse, subst}
 use Rattle.mux.specs.declared.input_state.InputState.{InputState}
-use Rattle.mux.specs.declared.totals.Totals.{Totals}
 use Rattle.mux.specs.History.{History}
 use Rattle.mux.specs.Stored.{history_of}
 use Rattle.mux.specs.Totals.{IsTotals}

@@ -1,5 +1,5 @@
-use Rattle.std.proofs.Common.{◌≡◌, sym, ap, ◌∙◌, subst, List, Option, Some, None, rules}
-use Rattle.mux.specs.PlanValue.{PlanValue, thin_plan, thin_fault_of, PlanAnswers}
+use Rattle.std.proofs.Common.{◌≡◌, sym, ap, ◌∙◌, List, rules}
+use Rattle.mux.specs.PlanValue.{thin_plan, thin_fault_of}
 use Rattle.mux.specs.declared.input.Input.{Input}
 use Rattle.mux.specs.declared.stream.Stream.{Stream}
 use Rattle.mux.proofs.PlanFaults.{plan_of, answers_fault}
