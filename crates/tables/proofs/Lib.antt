@@ -1,0 +1,11 @@
+pub mod DescriptorLaws
+pub mod RowLaws
+pub mod ServiceLaws
+pub mod FillLaws
+pub mod LengthLaws
+pub mod HeaderLaws
+pub mod PatLaws
+pub mod InForceLaws
+pub mod PmtLaws
+pub mod SdtLaws
+pub mod NitLaws

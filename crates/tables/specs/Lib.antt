@@ -1,0 +1,15 @@
+pub mod Header
+pub mod Descriptors
+pub mod Descriptor
+pub mod CaDescriptor
+pub mod NetworkNameDescriptor
+pub mod ServiceDescriptor
+pub mod ServiceListDescriptor
+pub mod Rows
+pub mod Pat
+pub mod Pmt
+pub mod Sdt
+pub mod Nit
+pub mod InForce
+pub mod OnPid
+pub mod Kept

@@ -1,0 +1,260 @@
+//! The service description table.
+
+ghost use Rattle.std.specs.Prelude.{◌≡◌, ◌≢◌, ◌+◌, ◌*◌, ◌/◌, ◌%◌, ◌^◌, ◌<◌, ◌≤◌, ◌⊎◌, [], ◌∷◌, ◌++◌, length, map, sum, take, true, Some, None, option_map, IfOk, IfErr, IsSome, MatchOption, vec_capacity};
+ghost use Rattle.std.specs.List.{All, flat_map};
+ghost use Rattle.tspkt.specs.Bits.{field};
+ghost use Rattle.tables.specs.Descriptors.{are_whole};
+ghost use Rattle.tables.specs.Rows.{rows_of};
+ghost use Rattle.tables.specs.declared.sdt_row.SdtRow.{SdtRow};
+ghost use Rattle.tables.specs.Sdt.{sdt_row_of, sdt_row_bytes, IsSdtRow};
+
+use crate::descriptor_loop::DescriptorLoop;
+use crate::header::{Header, read_header, write_section};
+use crate::rows::{RowSlices, count_rows, split_row};
+use crate::sdt_row::SdtRow;
+use crate::table_fault::TableFault;
+use crate::write_fault::WriteFault;
+use byteorder::{BigEndian, ByteOrder};
+use std::alloc::{AllocError, Global};
+use std::marker::Model;
+
+/// Of the actual transport stream.
+const TABLE_ID: u8 = 0x42;
+
+/// Behind section_syntax_indicator a section of this table has reserved_future_use.
+const BIT_BEHIND_SYNTAX_INDICATOR: u8 = 1;
+
+/// The bytes of a row in front of its descriptors.
+const ROW_HEAD_LENGTH: usize = 5;
+
+/// The bytes of a body in front of its rows: original_network_id, and reserved bits.
+const BODY_HEAD_LENGTH: usize = 3;
+
+/// The most bytes of rows that a section holds beside its header, the head of its body and CRC_32.
+const MAX_ROWS_LENGTH: usize = 1009;
+
+/// A section of the service description table of the actual transport stream (EN 300 468, 5.2.3).
+/// Its table_id_extension is transport_stream_id. Contracts see its header, original_network_id and
+/// rows.
+#[derive(Drop)]
+pub struct Sdt {
+    header: Header,
+    original_network_id: u16,
+    rows: Vec<SdtRow>,
+}
+
+impl Model for Sdt {
+    ghost use Rattle.std.specs.Prelude.{◌<◌, ◌^◌};
+    ghost use Rattle.std.specs.List.{All};
+    ghost use Rattle.tables.specs.Sdt.{SdtValue, IsSdtRow};
+    ghost use Rattle.tables.specs.Header.{IsHeader};
+
+    ghost Value = { SdtValue };
+
+    ghost view = { λ s. record {
+      header = s.header;
+      original_network_id = s.original_network_id;
+      rows = s.rows.items;
+    } };
+
+    ghost invariant = { λ s. IsHeader s.header × (s.original_network_id < 2 ^ 16) × All IsSdtRow s.rows.items };
+}
+
+impl Sdt {
+    ghost use Rattle.std.specs.Prelude.{◌≡◌, ◌+◌, ◌<◌, ◌^◌, ◌⊎◌, ◌↔◌, length, Ok, Err, IfOk, IfErr, IsOk};
+    ghost use Rattle.std.specs.List.{All};
+    ghost use Rattle.section.specs.Crc.{crc_of};
+    ghost use Rattle.tables.specs.Header.{IsHeader};
+    ghost use Rattle.tables.specs.Sdt.{sdt_of, sdt_section_length_of, IsSdtRow, HasReservedSdtBits};
+
+    /// The section with this header, original_network_id and rows. The fields must have their
+    /// widths, and section_number be at most last_section_number.
+    pub fn new(header: Header, original_network_id: u16, rows: Vec<SdtRow>) -> Sdt
+        requires header { IsHeader header }
+        requires rows { All IsSdtRow rows.items }
+        ensures { result ≡ record {
+          header = header;
+          original_network_id = original_network_id;
+          rows = rows.items;
+        } }
+    {
+        Sdt {
+            header,
+            original_network_id,
+            rows,
+        }
+    }
+
+    /// What the bytes say as a section of the table (EN 300 468, 5.2.3).
+    ///
+    /// The first fault is answered, and `Memory` only for bytes that have none.
+    pub fn read(alloc: Global, bytes: &[u8]) -> Result<Sdt, TableFault>
+        ensures value { IfOk result (λ s. sdt_of bytes.now ≡ Ok s) }
+        ensures fault { IfErr result (λ e. (e ≡ TableFault.Memory) ⊎ (sdt_of bytes.now ≡ Err e)) }
+        ensures memory { result ≡ Err TableFault.Memory → IsOk (sdt_of bytes.now) }
+    {
+        let header = read_header(bytes, TABLE_ID, false)?;
+        let body = &bytes[8..bytes.len() - 4];
+        if body.len() < BODY_HEAD_LENGTH {
+            return Err(TableFault::BadLoop);
+        }
+        let rows = read_rows(alloc, &body[BODY_HEAD_LENGTH..])?;
+        Ok(Sdt {
+            header,
+            original_network_id: read_original_network_id(body),
+            rows,
+        })
+    }
+
+    /// The section (EN 300 468, 5.2.3), its reserved bits ones. Read again it gives the table back.
+    /// `TooLarge` where section_length would be above 1,021; otherwise it is refused only for want
+    /// of memory.
+    pub fn write(&self, alloc: Global) -> Result<Vec<u8>, WriteFault>
+        ensures too_large { (result ≡ Err WriteFault.TooLarge) ↔ (1021 < sdt_section_length_of self.now) }
+        ensures written { IfOk result (λ v. sdt_of v.items ≡ Ok self.now) }
+        ensures reserved { IfOk result (λ v. HasReservedSdtBits v.items) }
+        ensures crc { IfOk result (λ v. crc_of v.items ≡ 0) }
+        ensures length { IfOk result (λ v. length v.items ≡ sdt_section_length_of self.now + 3) }
+    {
+        let Some(length) = rows_length(&self.rows) else {
+            return Err(WriteFault::TooLarge);
+        };
+        let body = write_body(alloc, self.original_network_id, &self.rows, length)?;
+        let section = write_section(
+            alloc,
+            TABLE_ID,
+            BIT_BEHIND_SYNTAX_INDICATOR,
+            &self.header,
+            &body,
+        )?;
+        Ok(section)
+    }
+
+    /// The header.
+    pub fn header(&self) -> Header
+        ensures value { result ≡ self.now.header }
+        ensures fits { IsHeader result }
+    {
+        self.header
+    }
+
+    /// original_network_id, 16 bits.
+    pub fn original_network_id(&self) -> u16
+        ensures { result ≡ self.now.original_network_id }
+    {
+        self.original_network_id
+    }
+
+    /// The rows, in the section's order.
+    pub fn rows(&self) -> &[SdtRow]
+        ensures value { result.now ≡ self.now.rows }
+        ensures fits { All IsSdtRow result.now }
+    {
+        &self.rows
+    }
+}
+
+/// The first 16 bits of a body.
+#[tactic(auto, using(crate::proofs::SdtLaws::sdt_row_fields))]
+fn read_original_network_id(body: &[u8]) -> u16
+    requires { BODY_HEAD_LENGTH ≤ length body.now }
+    ensures { result ≡ field body.now 0 16 }
+{
+    BigEndian::read_u16(body)
+}
+
+/// The row with this head and these descriptors. It fails only for want of memory.
+#[tactic(auto, using(crate::proofs::SdtLaws::sdt_row_fields))]
+fn read_row(alloc: Global, head: &[u8], descriptors: &[u8]) -> Result<SdtRow, AllocError>
+    requires head { length head.now ≡ ROW_HEAD_LENGTH }
+    requires descriptors { are_whole 0 descriptors.now ≡ true }
+    ensures { IfOk result (λ r. r ≡ sdt_row_of (record { head = head.now; descriptors = descriptors.now })) }
+{
+    let descriptors = DescriptorLoop::copy(alloc, descriptors)?;
+    Ok(SdtRow {
+        service_id: BigEndian::read_u16(head),
+        eit_schedule_flag: head[2] / 2 % 2 == 1,
+        eit_present_following_flag: head[2] % 2 == 1,
+        running_status: head[3] / 32,
+        free_ca_mode: head[3] / 16 % 2 == 1,
+        descriptors,
+    })
+}
+
+/// The rows that the bytes are. Memory is asked for once it is known that there is no fault: one
+/// piece with room for just the rows, and one for the descriptors of each.
+fn read_rows(alloc: Global, bytes: &[u8]) -> Result<Vec<SdtRow>, TableFault>
+    ensures rows { IfOk result (λ v. option_map (map sdt_row_of) (rows_of ROW_HEAD_LENGTH 0 bytes.now) ≡ Some v.items) }
+    ensures fault { IfErr result (λ e.
+        (e ≡ TableFault.Memory) ⊎ ((e ≡ TableFault.BadLoop) × (rows_of ROW_HEAD_LENGTH 0 bytes.now ≡ None))) }
+    ensures memory { result ≡ Err TableFault.Memory → IsSome (rows_of ROW_HEAD_LENGTH 0 bytes.now) }
+    ensures room { IfOk result (λ v. vec_capacity v ≡ length v.items) }
+{
+    let Some(count) = count_rows(bytes, ROW_HEAD_LENGTH) else {
+        return Err(TableFault::BadLoop);
+    };
+    let mut rows = Vec::with_capacity(alloc, count)?;
+    let mut rest = bytes;
+    while let Some(row) = split_row(rest, ROW_HEAD_LENGTH) {
+        rows.push_reserved(read_row(alloc, row.head, row.descriptors)?);
+        rest = row.rest;
+    }
+    Ok(rows)
+}
+
+/// The bytes of the rows as they are written; none where no section holds them.
+fn rows_length(rows: &[SdtRow]) -> Option<usize>
+    ensures { MatchOption result
+        (MAX_ROWS_LENGTH < sum (map (λ (r : SdtRow). 5 + length r.descriptors) rows.now))
+        (λ n. (n ≡ sum (map (λ (r : SdtRow). 5 + length r.descriptors) rows.now)) × (n ≤ MAX_ROWS_LENGTH)) }
+{
+    let mut room = MAX_ROWS_LENGTH;
+    for row in rows {
+        room = room
+            .checked_sub(ROW_HEAD_LENGTH)?
+            .checked_sub(row.descriptors.bytes().len())?;
+    }
+    Some(MAX_ROWS_LENGTH - room)
+}
+
+/// The row in front of its descriptors.
+fn row_head(row: &SdtRow) -> [u8; 5]
+    requires running_status { row.now.running_status < 8 }
+    requires short { length row.now.descriptors < 2 ^ 12 }
+    ensures { result ++ row.now.descriptors ≡ sdt_row_bytes row.now }
+{
+    let count = row.descriptors.bytes().len();
+    [
+        (row.service_id / 256) as u8,
+        (row.service_id % 256) as u8,
+        0xFC + u8::from(row.eit_schedule_flag) * 2 + u8::from(row.eit_present_following_flag),
+        row.running_status * 32 + u8::from(row.free_ca_mode) * 16 + (count / 256) as u8,
+        (count % 256) as u8,
+    ]
+}
+
+/// The body of a section with these rows, of so many bytes.
+fn write_body(
+    alloc: Global,
+    original_network_id: u16,
+    rows: &[SdtRow],
+    rows_length: usize,
+) -> Result<Vec<u8>, AllocError>
+    requires rows { All IsSdtRow rows.now }
+    requires length { rows_length ≡ sum (map (λ (r : SdtRow). 5 + length r.descriptors) rows.now) }
+    requires short { rows_length ≤ MAX_ROWS_LENGTH }
+    ensures { IfOk result (λ v. v.items
+        ≡ (original_network_id / 256) ∷ (original_network_id % 256) ∷ 255 ∷ flat_map sdt_row_bytes rows.now) }
+{
+    let mut body = Vec::with_capacity(alloc, BODY_HEAD_LENGTH + rows_length)?;
+    body.extend_from_slice(&[
+        (original_network_id / 256) as u8,
+        (original_network_id % 256) as u8,
+        0xFF,
+    ])?;
+    for row in rows {
+        body.extend_from_slice(&row_head(row))?;
+        body.extend_from_slice(row.descriptors.bytes())?;
+    }
+    Ok(body)
+}
