@@ -1,0 +1,4 @@
+pub mod TakenLaws
+pub mod ReadingLaws
+pub mod ProgramLaws
+pub mod SeenLaws

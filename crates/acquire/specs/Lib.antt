@@ -1,0 +1,4 @@
+pub mod Findings
+pub mod Reading
+pub mod Taken
+pub mod Seen

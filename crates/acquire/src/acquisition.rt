@@ -1,0 +1,103 @@
+//! Acquisition, packet by packet.
+
+use crate::found::Found;
+use crate::program_finder::ProgramFinder;
+use crate::sdt_finder::SdtFinder;
+use section::Told;
+use std::alloc::{AllocError, Global};
+use std::marker::Model;
+use tspkt::Packet;
+
+/// Finds the tables of programs in the packets of an input, which are pushed in the order in which
+/// they come: the first complete PAT, behind it the first current PMT of each program on the PID
+/// that the PAT gives it, and the first complete SDT (ISO/IEC 13818-1, 2.4.4; EN 300 468, 5.1.3;
+/// which of their sections count is profile). Scrambled packets are passed over.
+///
+/// Contracts say by `HasSeen` which packets were pushed.
+#[derive(Drop)]
+pub struct Acquire {
+    alloc: Global,
+    programs: ProgramFinder,
+    sdt: SdtFinder,
+    told: Vec<Told>,
+    is_refused: bool,
+}
+
+impl Model for Acquire {
+    ghost use Rattle.acquire.specs.Seen.{AcquireState};
+
+    ghost Value = { AcquireState };
+
+    ghost view = { λ a. record { programs = a.programs; sdt = a.sdt; is_refused = a.is_refused } };
+}
+
+impl Acquire {
+    ghost use Rattle.std.specs.Prelude.{◌≡◌, [], true, false, IfOk, OnOk, OnErr, Err, alloc_error};
+    ghost use Rattle.acquire.specs.Seen.{HasSeen, Sees, TellsAllFound, IsFound, knows_all};
+
+    /// One that has seen no packet, for these programs (program_number 1 to 65,535). An `Err` is
+    /// want of memory.
+    pub fn new(alloc: Global, programs: &[u16]) -> Result<Acquire, AllocError>
+        ensures seen { IfOk result (λ acquire. HasSeen programs.now acquire []) }
+        ensures is_refused { IfOk result (λ acquire. acquire.is_refused ≡ false) }
+    {
+        Ok(Acquire {
+            alloc,
+            programs: ProgramFinder::new(alloc, programs)?,
+            sdt: SdtFinder::new(alloc),
+            told: Vec::new(alloc),
+            is_refused: false,
+        })
+    }
+
+    /// Reads the next packet.
+    fn read(&mut self, packet: &Packet) -> Result<(), AllocError>
+        ensures seen { OnOk result (Sees self.old packet.now self.new) }
+        ensures is_refused { self.new.is_refused ≡ self.old.is_refused }
+    {
+        self.programs.push(self.alloc, packet, &mut self.told)?;
+        self.sdt.push(self.alloc, packet, &mut self.told)
+    }
+
+    /// Whether all that is wanted was found.
+    fn is_all_found(&self) -> bool
+        ensures { result ≡ knows_all self.now }
+    {
+        self.programs.is_empty() || (self.programs.is_found() && self.sdt.is_found())
+    }
+
+    /// Reads the next packet, of whatever PID, and answers whether all that is wanted was found:
+    /// the PMT of each program and the SDT, or nothing where no program is named.
+    ///
+    /// An `Err` is want of memory. From then on the answer is `Err`, and no further packet is read.
+    pub fn push(&mut self, packet: &Packet) -> Result<bool, AllocError>
+        ensures seen { OnOk result (Sees self.old packet.now self.new) }
+        ensures all_found { IfOk result (TellsAllFound self.old packet.now) }
+        ensures refused { OnErr result (self.new.is_refused ≡ true) }
+        ensures not_refused { OnOk result (self.new.is_refused ≡ false) }
+        ensures stays_refused { self.old.is_refused ≡ true →
+            (result ≡ Err alloc_error) × (self.new ≡ self.old) }
+    {
+        if self.is_refused {
+            return Err(AllocError);
+        }
+        match self.read(packet) {
+            Ok(()) => Ok(self.is_all_found()),
+            Err(e) => {
+                self.is_refused = true;
+                Err(e)
+            }
+        }
+    }
+
+    /// What was found in the packets that were pushed, where no push was refused. An `Err` is want
+    /// of memory.
+    pub fn found(self) -> Result<Found, AllocError>
+        ensures { IfOk result (IsFound self) }
+    {
+        Ok(Found {
+            pmts: self.programs.into_found(self.alloc)?,
+            sdt: self.sdt.into_found(),
+        })
+    }
+}
