@@ -1,0 +1,9 @@
+pub mod BuildLaws
+pub mod FaultLaws
+pub mod ListLaws
+pub mod OddsLaws
+pub mod RangeLaws
+pub mod RequestLaws
+pub mod StreamLaws
+pub mod TakenLaws
+pub mod TextLaws

@@ -1,0 +1,97 @@
+//! Why a plan is refused.
+
+ghost use Rattle.std.specs.Prelude.{◌≡◌};
+ghost use Rattle.request.specs.PlanFault.{number_of};
+
+use std::alloc::{AllocError, AllocFailed};
+use thiserror::Error;
+
+/// Why a plan is refused. Of those that apply the one with the least number is answered, and want of memory only where
+/// none of the others applies.
+#[derive(Clone, Copy, Debug, PartialEq, Eq, Error)]
+pub enum PlanFault {
+    /// The text isn't TOML, or a key is missing, unknown or of another type, or the hex digits are wrong.
+    #[error("the text is no plan: it isn't TOML, or a key is missing, unknown or of another type")]
+    BadText,
+    /// A number, a count or a text is out of its range, or a service names an input that isn't there.
+    #[error("a value of the plan is out of its range")]
+    OutOfRange,
+    /// Two services have one number in the output.
+    #[error("two services have one number")]
+    ServiceTaken,
+    /// An output PID is used for two things, two rows of one PID of an input differ, or a service names a PID twice.
+    #[error("a PID is used twice")]
+    PidTaken,
+    /// The input's PAT has no program of a service's number, or its PMT wasn't found.
+    #[error("a program is not in its input")]
+    NoProgram,
+    /// The input's SDT has no row of a service, or that row no service descriptor whose lengths fill it.
+    #[error("a service is not described in its input")]
+    NoSdtRow,
+    /// A service is scrambled.
+    #[error("a service is scrambled")]
+    CaFound,
+    /// An elementary PID or the PCR PID of a program has no row in the plan.
+    #[error("a stream of a program has no row in the plan")]
+    RateMissing,
+    /// A row of the plan has a PID that the program's PMT doesn't name.
+    #[error("a row of the plan names a stream that is not in its program")]
+    StreamUnknown,
+    /// A PMT, a NIT or a row of the SDT is too large for a section.
+    #[error("a table is too large for its section")]
+    TooLarge,
+    /// A round of the tables doesn't fit into its period.
+    #[error("the tables do not fit into their period")]
+    RoundTooLong,
+    /// The period is above what the limits of repetition allow.
+    #[error("the period of the tables is too long")]
+    PeriodTooLong,
+    /// There is no memory for the plan.
+    #[error("no memory")]
+    Memory,
+}
+
+impl PlanFault {
+    /// The number by which the fault is known to users: 1 to 13, in the order of the names above.
+    pub fn number(self) -> u8
+        ensures { result ≡ number_of self }
+    {
+        match self {
+            PlanFault::BadText => 1,
+            PlanFault::OutOfRange => 2,
+            PlanFault::ServiceTaken => 3,
+            PlanFault::PidTaken => 4,
+            PlanFault::NoProgram => 5,
+            PlanFault::NoSdtRow => 6,
+            PlanFault::CaFound => 7,
+            PlanFault::RateMissing => 8,
+            PlanFault::StreamUnknown => 9,
+            PlanFault::TooLarge => 10,
+            PlanFault::RoundTooLong => 11,
+            PlanFault::PeriodTooLong => 12,
+            PlanFault::Memory => 13,
+        }
+    }
+}
+
+impl From<AllocError> for PlanFault {
+    ghost use Rattle.std.specs.Prelude.{◌≡◌};
+    ghost use Rattle.request.specs.declared.plan_fault.PlanFault.TheVariants.{Memory};
+
+    ghost from_gives = { λ _ e. e ≡ Memory };
+
+    fn from(_e: AllocError) -> PlanFault {
+        PlanFault::Memory
+    }
+}
+
+impl<T: Drop> From<AllocFailed<T>> for PlanFault {
+    ghost use Rattle.std.specs.Prelude.{◌≡◌};
+    ghost use Rattle.request.specs.declared.plan_fault.PlanFault.TheVariants.{Memory};
+
+    ghost from_gives = { λ _ e. e ≡ Memory };
+
+    fn from(_e: AllocFailed<T>) -> PlanFault {
+        PlanFault::Memory
+    }
+}
