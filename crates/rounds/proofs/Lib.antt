@@ -1,0 +1,3 @@
+pub mod RoundLaws
+pub mod RecurringLaws
+pub mod TurnLaws
