@@ -1,0 +1,3 @@
+pub mod LevelLaws
+pub mod BytesLaws
+pub mod BucketLaws

@@ -1,0 +1,16 @@
+-- A queue as contracts see it.
+use Rattle.std.specs.Prelude.{ℕ, List, [], ◌∷◌, ◌++◌, drop}
+use Rattle.tspkt.specs.declared.stamped.Stamped.{Stamped}
+
+-- what waits, the head first, and how many may
+pub record QueueValue : Type 0 where
+  pub items : List Stamped
+  pub capacity : ℕ
+
+-- the queue with one more item behind the others
+abbrev pub with_last : QueueValue → Stamped → QueueValue
+with_last q item = record q { items = q.items ++ item ∷ [] }
+
+-- the queue without its head
+abbrev pub without_first : QueueValue → QueueValue
+without_first q = record q { items = drop 1 q.items }

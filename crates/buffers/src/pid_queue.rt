@@ -1,0 +1,85 @@
+//! The packets of a PID that wait.
+
+ghost use Rattle.std.specs.Prelude.{◌≡◌, ◌<◌, ◌≤◌, ◌↔◌, [], false, length, slice_get, option_copied, IsTrue, IsOk, IfOk, OnOk, IfErr};
+ghost use Rattle.buffers.specs.QueueValue.{QueueValue, with_last, without_first};
+
+use circular_buffer::HeapCircularBuffer;
+use std::alloc::{AllocError, Global};
+use std::marker::Model;
+use tspkt::Stamped;
+
+/// A queue that holds at most so many packets. Its room is made with it.
+#[derive(Drop)]
+pub struct PidQueue {
+    waiting: HeapCircularBuffer<Stamped>,
+}
+
+impl Model for PidQueue {
+    ghost use Rattle.std.specs.Prelude.{◌≤◌, length};
+    ghost use Rattle.buffers.specs.QueueValue.{QueueValue};
+
+    ghost Value = { QueueValue };
+
+    ghost view = { λ q. record { items = q.waiting.items; capacity = q.waiting.capacity } };
+
+    ghost invariant = { λ q. length q.waiting.items ≤ q.waiting.capacity };
+}
+
+impl PidQueue {
+    /// An empty queue of a capacity of 1 to 1,024 packets.
+    pub fn with_capacity(alloc: Global, capacity: usize) -> Result<PidQueue, AllocError>
+        requires from { 1 ≤ capacity }
+        requires to { capacity ≤ 1024 }
+        ensures { IfOk result (λ q. q ≡ record { items = []; capacity = capacity }) }
+    {
+        let waiting = HeapCircularBuffer::with_capacity(alloc, capacity)?;
+        Ok(PidQueue { waiting })
+    }
+
+    /// How many packets wait.
+    pub fn len(&self) -> usize
+        ensures value { result ≡ length self.now.items }
+        ensures within { result ≤ self.now.capacity }
+    {
+        self.waiting.len()
+    }
+
+    /// Whether nothing waits.
+    pub fn is_empty(&self) -> bool
+        ensures { IsTrue result ↔ (self.now.items ≡ []) }
+    {
+        self.waiting.is_empty()
+    }
+
+    /// Whether no more may wait.
+    pub fn is_full(&self) -> bool
+        ensures full { IsTrue result ↔ (length self.now.items ≡ self.now.capacity) }
+        ensures room { result ≡ false → length self.now.items < self.now.capacity }
+    {
+        self.waiting.is_full()
+    }
+
+    /// The packet that waits longest.
+    pub fn head(&self) -> Option<&Stamped>
+        ensures { option_copied result ≡ slice_get self.now.items 0 }
+    {
+        self.waiting.front()
+    }
+
+    /// Puts a packet behind the others. A full queue hands it back, and stays as it was.
+    pub fn offer(&mut self, item: Stamped) -> Result<(), Stamped>
+        ensures accepted { IsOk result ↔ (length self.old.items < self.old.capacity) }
+        ensures ok { OnOk result (self.new ≡ with_last self.old item) }
+        ensures err { IfErr result (λ refused. (refused ≡ item) × (self.new ≡ self.old)) }
+    {
+        self.waiting.try_push_back(item)
+    }
+
+    /// Removes the packet that waits longest; none where nothing waits.
+    pub fn take(&mut self) -> Option<Stamped>
+        ensures first { result ≡ slice_get self.old.items 0 }
+        ensures rest { self.new ≡ without_first self.old }
+    {
+        self.waiting.pop_front()
+    }
+}
