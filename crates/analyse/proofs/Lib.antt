@@ -1,0 +1,10 @@
+pub mod RangeLaws
+pub mod SyncLaws
+pub mod CounterLaws
+pub mod GapLaws
+pub mod SlotLaws
+pub mod CountersLaws
+pub mod SectionLaws
+pub mod PatWatchLaws
+pub mod TableIdLaws
+pub mod GapsLaws

@@ -1,0 +1,12 @@
+pub mod Slots
+pub mod Gaps
+pub mod InForce
+pub mod Faults
+pub mod SyncWatching
+pub mod CounterWatching
+pub mod GapWatching
+pub mod SlotReading
+pub mod CountersWatching
+pub mod SectionWatching
+pub mod PatWatching
+pub mod GapsWatching

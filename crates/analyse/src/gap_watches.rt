@@ -1,0 +1,161 @@
+//! The watches of the gaps of all PIDs.
+
+ghost use Rattle.std.specs.Prelude.{◌≡◌, option_map};
+ghost use Rattle.analyse.specs.GapsWatching.{is_of_packet};
+ghost use Rattle.analyse.specs.GapWatching.{is_long};
+
+use crate::fault::Fault;
+use crate::fault_kind::FaultKind;
+use crate::gap_watch::since_behind;
+use std::alloc::{AllocError, Global};
+use std::marker::Model;
+use tspkt::Packet;
+
+/// PIDs are below this.
+const PID_COUNT: usize = 8192;
+
+/// Whether an open gap is as long as the limit behind `count` slots.
+fn is_long(limit: u64, count: u64, since: Option<u64>) -> bool
+    ensures { result ≡ is_long limit count since }
+{
+    match since {
+        Some(since) => since <= count && count - since == limit,
+        None => false,
+    }
+}
+
+/// Whether it is a packet of this PID.
+fn is_of_packet(packet: Option<&Packet>, pid: u16) -> bool
+    ensures { result ≡ is_of_packet (option_map (λ p. p.now) packet.entry) pid }
+{
+    match packet {
+        Some(packet) => packet.pid() == pid,
+        None => false,
+    }
+}
+
+/// Watches of each PID whether something of it comes at least once in so many slots (the limits of ETSI TR 101 290,
+/// 5.2.1, in slots). A number of slots at which nothing happens to a PID costs nothing.
+#[derive(Drop)]
+pub struct GapWatches {
+    limit: u64,
+    watched: Vec<bool>,
+    since: Vec<Option<u64>>,
+}
+
+impl Model for GapWatches {
+    ghost use Rattle.std.specs.Prelude.{◌≡◌, length};
+    ghost use Rattle.analyse.specs.GapsWatching.{GapsState};
+
+    ghost Value = { GapsState };
+
+    ghost view = { λ w. record { limit = w.limit; watched = w.watched.items; since = w.since.items } };
+
+    ghost invariant = { λ w. (length w.watched.items ≡ 8192) × (length w.since.items ≡ 8192) };
+}
+
+impl GapWatches {
+    ghost use Rattle.std.specs.Prelude.{◌≡◌, ◌+◌, ◌++◌, ◌<◌, ℕ, Bool, Some, false, option_map, slice_index_or, IfOk, OnOk};
+    ghost use Rattle.analyse.specs.GapsWatching.{is_watched, since_of, ChangesTo, IsChangedAt, HaveSeenNumbers, OnlyMarked, gaps_at, long_gaps};
+    ghost use Rattle.analyse.specs.Faults.{told_if};
+    ghost use Rattle.analyse.specs.GapWatching.{is_long};
+
+    /// Watches with this limit that have seen nothing.
+    pub fn new(alloc: Global, limit: u64) -> Result<GapWatches, AllocError>
+        ensures limit { IfOk result (λ w. w.limit ≡ limit) }
+        ensures seen { IfOk result (λ w. (watched mark : ℕ → ℕ → Bool) → HaveSeenNumbers w watched mark 0) }
+    {
+        let mut watched = Vec::new(alloc);
+        watched.resize(PID_COUNT, false)?;
+        let mut since = Vec::new(alloc);
+        since.resize(PID_COUNT, None)?;
+        Ok(GapWatches {
+            limit,
+            watched,
+            since,
+        })
+    }
+
+    /// Sees a number of slots at which the same PIDs are watched as before, and the last slot is a mark of its PID, if it
+    /// is this packet, and of no other.
+    pub fn pass(&mut self, count: u64, marked: Option<&Packet>)
+        ensures limit { self.new.limit ≡ self.old.limit }
+        ensures watched { self.new.watched ≡ self.old.watched }
+        ensures seen { (watched mark : ℕ → ℕ → Bool) → HaveSeenNumbers self.old watched mark count
+            → OnlyMarked self.old watched mark count (option_map (λ p. p.now) marked.entry)
+            → HaveSeenNumbers self.new watched mark (count + 1) }
+    {
+        let Some(packet) = marked else {
+            return;
+        };
+        let pid = usize::from(packet.pid());
+        if self.watched[pid] {
+            self.since[pid] = Some(count);
+        }
+    }
+
+    /// Sees a number of slots at which these PIDs are watched. A PID that wasn't watched before has a mark, and so has the
+    /// PID of this packet, if the last slot is a mark.
+    pub fn change(&mut self, count: u64, set: &[bool; 8192], marked: Option<&Packet>)
+        ensures seen { (watched mark : ℕ → ℕ → Bool) → HaveSeenNumbers self.old watched mark count
+            → ChangesTo self.old set.now watched mark count (option_map (λ p. p.now) marked.entry)
+            → HaveSeenNumbers self.new watched mark (count + 1) }
+        ensures watched { (pid : ℕ) → pid < 8192 → is_watched self.new pid ≡ slice_index_or set.now pid false }
+        ensures limit { self.new.limit ≡ self.old.limit }
+    {
+        for pid in 0..8192_u16 {
+            self.change_one(count, pid, set[usize::from(pid)], is_of_packet(marked, pid));
+        }
+    }
+
+    /// One PID's part of a change.
+    fn change_one(&mut self, count: u64, pid: u16, watched: bool, marked: bool)
+        requires { pid < 8192 }
+        ensures { IsChangedAt self.old self.new count pid watched marked }
+    {
+        let place = usize::from(pid);
+        let mark = marked || watched && !self.watched[place];
+        self.since[place] = since_behind(self.since[place], count, watched, mark);
+        self.watched[place] = watched;
+    }
+
+    /// Tells the gaps of the slot behind `count` slots, in the order of PIDs, behind those of `out`.
+    pub fn tell(&self, count: u64, kind: FaultKind, out: &mut Vec<Fault>) -> Result<(), AllocError>
+        ensures told { OnOk result ((watched mark : ℕ → ℕ → Bool) → HaveSeenNumbers self.now watched mark (count + 1)
+            → out.new.items ≡ out.old.items ++ gaps_at self.now.limit watched mark kind count) }
+    {
+        self.tell_long(count, kind, out)
+    }
+
+    /// Tells the open gaps that are as long as the limit.
+    fn tell_long(&self, count: u64, kind: FaultKind, out: &mut Vec<Fault>) -> Result<(), AllocError>
+        ensures { OnOk result (out.new.items ≡ out.old.items ++ long_gaps self.now kind count 8192) }
+    {
+        for pid in 0..8192_u16 {
+            self.tell_one(count, kind, pid, out)?;
+        }
+        Ok(())
+    }
+
+    /// Tells the gap of one PID where it is as long as the limit.
+    fn tell_one(
+        &self,
+        count: u64,
+        kind: FaultKind,
+        pid: u16,
+        out: &mut Vec<Fault>,
+    ) -> Result<(), AllocError>
+        requires { pid < 8192 }
+        ensures { OnOk result (out.new.items
+            ≡ out.old.items ++ told_if (is_long self.now.limit count (since_of self.now pid)) kind count (Some pid)) }
+    {
+        if is_long(self.limit, count, self.since[usize::from(pid)]) {
+            out.push(Fault {
+                slot: count,
+                kind,
+                pid: Some(pid),
+            })?;
+        }
+        Ok(())
+    }
+}

@@ -1,0 +1,145 @@
+//! The watch of the PAT.
+
+ghost use Rattle.std.specs.Prelude.{◌≡◌, ◌==◌, ◌&&◌, ◌||◌, not, Bool, false, Option, Some, None, List, ℕ, option_map, is_some, Ok, IfOk};
+ghost use Rattle.std.specs.List.{list_any};
+ghost use Rattle.tspkt.specs.Bits.{field};
+ghost use Rattle.tables.specs.OnPid.{pat_section_of};
+ghost use Rattle.analyse.specs.PatWatching.{is_pat_in, is_other_in, is_scrambled};
+
+use crate::gap_watch::GapWatch;
+use crate::section_watch::SectionWatch;
+use section::Told;
+use std::alloc::{AllocError, Global};
+use std::marker::Model;
+use tables::{Pat, TableFault};
+use tspkt::Packet;
+
+/// Whether the bytes are a section of the PAT.
+fn is_pat(alloc: Global, bytes: &[u8]) -> bool
+    ensures { result ≡ is_some (pat_section_of bytes.now) }
+{
+    match Pat::read(alloc, bytes) {
+        Ok(_) => true,
+        // There was no memory to read it, and it has no fault.
+        Err(TableFault::Memory) => true,
+        Err(_) => false,
+    }
+}
+
+/// Whether what was told is a section of the PAT.
+fn is_pat_in(alloc: Global, told: &Told) -> bool
+    ensures { result ≡ is_pat_in told.now }
+{
+    match told {
+        Told::Section(bytes) => is_pat(alloc, bytes),
+        _ => false,
+    }
+}
+
+/// The table_id of a section.
+#[tactic(auto, using(crate::proofs::TableIdLaws::table_id_at))]
+fn table_id(bytes: &[u8]) -> u8
+    ensures { result ≡ field bytes.now 0 8 }
+{
+    if bytes.is_empty() {
+        return 0;
+    }
+    bytes[0]
+}
+
+/// Whether what was told is a section with another table_id than the PAT's.
+fn is_other_in(told: &Told) -> bool
+    ensures { result ≡ is_other_in told.now }
+{
+    match told {
+        Told::Section(bytes) => table_id(bytes) != 0,
+        _ => false,
+    }
+}
+
+/// Whether it is a scrambled packet of the PAT's PID.
+fn is_scrambled(packet: Option<&Packet>) -> bool
+    ensures { result ≡ is_scrambled (option_map (λ p. p.now) packet.entry) }
+{
+    match packet {
+        Some(packet) => packet.pid() == 0 && packet.scrambling() != 0,
+        None => false,
+    }
+}
+
+fn has_pat(alloc: Global, told: &[Told]) -> bool
+    ensures { result ≡ list_any is_pat_in told.now }
+{
+    told.iter().any(|told| is_pat_in(alloc, told))
+}
+
+fn has_other(told: &[Told]) -> bool
+    ensures { result ≡ list_any is_other_in told.now }
+{
+    told.iter().any(|told| is_other_in(told))
+}
+
+/// Whether the PAT didn't come, another section did, or the packet is scrambled.
+fn is_bad(missed: bool, told: &[Told], packet: Option<&Packet>) -> bool
+    ensures { result ≡ ((missed || list_any is_other_in told.now)
+        || is_scrambled (option_map (λ p. p.now) packet.entry)) }
+{
+    missed || has_other(told) || is_scrambled(packet)
+}
+
+/// Watches PID 0x0000 (ETSI TR 101 290, 5.2.1: PAT_error_2): a section of the PAT comes within its limit of slots, none
+/// with another table_id comes, and no packet is scrambled.
+#[derive(Drop)]
+pub struct PatWatch {
+    alloc: Global,
+    sections: SectionWatch,
+    told: Vec<Told>,
+    gap: GapWatch,
+    marked: bool,
+}
+
+impl Model for PatWatch {
+    ghost use Rattle.analyse.specs.PatWatching.{PatState};
+
+    ghost Value = { PatState };
+
+    ghost view = { λ w. record { sections = w.sections; gap = w.gap; marked = w.marked } };
+}
+
+impl PatWatch {
+    ghost use Rattle.std.specs.Prelude.{◌≡◌, [], ◌∷◌, ◌++◌, ℕ, List, length, option_map, OnOk, IfOk};
+    ghost use Rattle.analyse.specs.SlotReading.{IsReadAs};
+    ghost use Rattle.analyse.specs.PatWatching.{HasSeenPat};
+    ghost use Rattle.analyse.specs.Faults.{is_pat_bad_at};
+
+    /// A watch that has seen no slot. The PAT has to come within so many slots.
+    pub fn new(alloc: Global, limit: u64) -> PatWatch
+        ensures limit { result.gap.limit ≡ limit }
+        ensures seen { HasSeenPat result [] }
+    {
+        PatWatch {
+            alloc,
+            sections: SectionWatch::new(0x0000),
+            told: Vec::new(alloc),
+            gap: GapWatch::new(limit),
+            marked: true,
+        }
+    }
+
+    /// Sees what the next slot is read as, and tells whether the PAT is faulty at it. `count` is the number of slots
+    /// before it. An `Err` is want of memory; nothing is said of the watch behind it.
+    pub fn push(&mut self, count: u64, packet: Option<&Packet>) -> Result<bool, AllocError>
+        ensures limit { self.new.gap.limit ≡ self.old.gap.limit }
+        ensures seen { OnOk result ((slots : List (List ℕ)) (slot : List ℕ) → HasSeenPat self.old slots
+            → length slots ≡ count → IsReadAs slot (option_map (λ p. p.now) packet.entry)
+            → HasSeenPat self.new (slots ++ slot ∷ [])) }
+        ensures bad { IfOk result (λ bad. (slots : List (List ℕ)) (slot : List ℕ) → HasSeenPat self.old slots
+            → length slots ≡ count → IsReadAs slot (option_map (λ p. p.now) packet.entry)
+            → bad ≡ is_pat_bad_at self.old.gap.limit (slots ++ slot ∷ []) count) }
+    {
+        let missed = self.gap.push(count, true, self.marked);
+        self.sections.see(packet, &mut self.told)?;
+        self.marked = has_pat(self.alloc, &self.told);
+        Ok(is_bad(missed, &self.told, packet))
+    }
+}
