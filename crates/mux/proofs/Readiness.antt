@@ -20,23 +20,23 @@ use Rattle.mux.proofs.Plans.{IsAt, has_of, contains_of}
 use Rattle.mux.proofs.Steps.{length_states, length_queues}
 
 -- the state that is kept of an input, at any default
-state_get : {r : Run} {h : List Event} {states : List InputState} {queues : List QueueValue} {n : ℕ} → AgreesWith r h states queues n → (i : ℕ) (d : InputState) → i < length r.plan.inputs → get_or states i d ≡ state_of h i
+state_get : {r : Run} {h : List Event} {states : List InputState} {queues : List QueueValue} → AgreesWith r h states queues → (i : ℕ) (d : InputState) → i < length r.plan.inputs → get_or states i d ≡ state_of h i
 state_get {r} {h} k i d l = ap (λ ys. get_or ys i d) k.states_are ∙ get_or-map-range_with_len (state_of h) 0 (length r.plan.inputs) i i d l (omega arith)
 
 -- the queue that is kept at a place
-queue_get : {r : Run} {h : List Event} {states : List InputState} {queues : List QueueValue} {n : ℕ} → AgreesWith r h states queues n → (k : ℕ) (st : Stream) → IsAt r.plan k st → slice_get queues k ≡ Some (queue_of r.plan.queue_capacity h st)
+queue_get : {r : Run} {h : List Event} {states : List InputState} {queues : List QueueValue} → AgreesWith r h states queues → (k : ℕ) (st : Stream) → IsAt r.plan k st → slice_get queues k ≡ Some (queue_of r.plan.queue_capacity h st)
 queue_get {r} {h} kept k st at = ap (λ ys. slice_get ys k) kept.queues_are ∙ slice_get-map (queue_of r.plan.queue_capacity h) r.plan.streams k ∙ ap (option_map (queue_of r.plan.queue_capacity h)) at
 
 -- whether an input is ready, by what is kept of it
-ready_is : {r : Run} {h : List Event} {states : List InputState} {queues : List QueueValue} {n : ℕ} → AgreesWith r h states queues n → (now i : ℕ) (d : InputState) → now ≡ slot_time r.plan (slots h) → i < length r.plan.inputs
+ready_is : {r : Run} {h : List Event} {states : List InputState} {queues : List QueueValue} → AgreesWith r h states queues → (now i : ℕ) (d : InputState) → now ≡ slot_time r.plan (slots h) → i < length r.plan.inputs
     → ready_at now (get_or states i d) ≡ is_ready r.plan i h
 ready_is {r} {h} k now i d t l = ap (ready_at now) (state_get k i d l) ∙ ap (λ m. ready_at m (state_of h i)) t
 
-pub all_ready : {r : Run} {h : List Event} {states : List InputState} {queues : List QueueValue} {n : ℕ} → AgreesWith r h states queues n → (now : ℕ) → now ≡ slot_time r.plan (slots h)
+pub all_ready : {r : Run} {h : List Event} {states : List InputState} {queues : List QueueValue} → AgreesWith r h states queues → (now : ℕ) → now ≡ slot_time r.plan (slots h)
     → All (λ x. IsTrue (ready_at now x)) states → AllReady r.plan h
 all_ready {r} {h} k now t all i l = sym (ready_is k now i (state_of h i) t l) ∙ all i (state_of h i) (let e = length_states k in omega arith)
 
-pub not_ready : {r : Run} {h : List Event} {states : List InputState} {queues : List QueueValue} {n : ℕ} → AgreesWith r h states queues n → (now i : ℕ) → now ≡ slot_time r.plan (slots h)
+pub not_ready : {r : Run} {h : List Event} {states : List InputState} {queues : List QueueValue} → AgreesWith r h states queues → (now i : ℕ) → now ≡ slot_time r.plan (slots h)
     → i < length states → ((d : InputState) → ready_at now (get_or states i d) ≡ false) → ((j : ℕ) (d : InputState) → j < i → IsTrue (ready_at now (get_or states j d)))
     → (i < length r.plan.inputs) × (is_ready r.plan i h ≡ false) × ((j : ℕ) → j < i → IsTrue (is_ready r.plan j h))
 not_ready {r} {h} k now i t l isnt below =
@@ -47,7 +47,7 @@ not_ready {r} {h} k now i t l isnt below =
     )
 
 -- all inputs are closed, and nothing waits
-pub done_from : {r : Run} {h : List Event} {states : List InputState} {queues : List QueueValue} {n : ℕ} → AgreesWith r h states queues n → All (λ (x : InputState). IsTrue x.closed) states → All (λ (q : QueueValue). q.items ≡ []) queues → IsDone r.plan h
+pub done_from : {r : Run} {h : List Event} {states : List InputState} {queues : List QueueValue} → AgreesWith r h states queues → All (λ (x : InputState). IsTrue x.closed) states → All (λ (q : QueueValue). q.items ≡ []) queues → IsDone r.plan h
 done_from {r} {h} {states} {queues} k closed empty = record {
   closed = λ i l. sym (ap (λ (x : InputState). x.closed) (state_get k i (state_of h i) l)) ∙ closed i (state_of h i) (let e = length_states k in omega arith);
   empty = λ st in_plan.
@@ -57,10 +57,10 @@ done_from {r} {h} {states} {queues} k closed empty = record {
       sym (ap (λ (q : QueueValue). q.items) (get_or_from_slice_get queues has.0 (queue_of r.plan.queue_capacity h st) (queue_of r.plan.queue_capacity h st) at)) ∙ empty has.0 (queue_of r.plan.queue_capacity h st) l;
 }
 
-pub closed_from : {r : Run} {h : List Event} {states : List InputState} {queues : List QueueValue} {n : ℕ} → AgreesWith r h states queues n → IsDone r.plan h → All (λ (x : InputState). IsTrue x.closed) states
+pub closed_from : {r : Run} {h : List Event} {states : List InputState} {queues : List QueueValue} → AgreesWith r h states queues → IsDone r.plan h → All (λ (x : InputState). IsTrue x.closed) states
 closed_from {r} {h} k done i d l = let e = length_states k in ap (λ (x : InputState). x.closed) (state_get k i d (omega arith)) ∙ done.closed i (omega arith)
 
-pub empty_from : {r : Run} {h : List Event} {states : List InputState} {queues : List QueueValue} {n : ℕ} → AgreesWith r h states queues n → IsDone r.plan h → All (λ (q : QueueValue). q.items ≡ []) queues
+pub empty_from : {r : Run} {h : List Event} {states : List InputState} {queues : List QueueValue} → AgreesWith r h states queues → IsDone r.plan h → All (λ (q : QueueValue). q.items ≡ []) queues
 empty_from {r} {h} {states} {queues} k done i d l =
     let e = length_queues k in
     let nobody : Stream = record { input = 0; pid = 0; output_pid = 0 } in
@@ -69,7 +69,7 @@ empty_from {r} {h} {states} {queues} k done i d l =
     ap (λ (q : QueueValue). q.items) (get_or_from_slice_get queues i (queue_of r.plan.queue_capacity h st) d (queue_get k i st at)) ∙ done.empty st (contains_of r.plan i st at)
 
 -- an eligible head is due at its place, and the other way round
-due_from : {r : Run} {h : List Event} {states : List InputState} {queues : List QueueValue} {n : ℕ} → AgreesWith r h states queues n → (now : ℕ) → now ≡ slot_time r.plan (slots h) → (st : Stream) (item : Stamped)
+due_from : {r : Run} {h : List Event} {states : List InputState} {queues : List QueueValue} → AgreesWith r h states queues → (now : ℕ) → now ≡ slot_time r.plan (slots h) → (st : Stream) (item : Stamped)
     → (e : IsEligible r.plan h st item) → IsDueHead r.plan.streams queues now (has_of r.plan st e.stream).0 st item
 due_from {r} {h} k now t st item e =
     let has = has_of r.plan st e.stream in
@@ -81,7 +81,7 @@ due_from {r} {h} k now t st item e =
       due = let l = e.due in omega arith;
     }
 
-due_to : {r : Run} {h : List Event} {states : List InputState} {queues : List QueueValue} {n : ℕ} → AgreesWith r h states queues n → (now : ℕ) → now ≡ slot_time r.plan (slots h) → (k : ℕ) (st : Stream) (item : Stamped)
+due_to : {r : Run} {h : List Event} {states : List InputState} {queues : List QueueValue} → AgreesWith r h states queues → (now : ℕ) → now ≡ slot_time r.plan (slots h) → (k : ℕ) (st : Stream) (item : Stamped)
     → IsDueHead r.plan.streams queues now k st item → IsEligible r.plan h st item
 due_to {r} {h} kept now t k st item due =
     let same : due.queue ≡ queue_of r.plan.queue_capacity h st = same_Some _ _ (sym due.here ∙ queue_get kept k st due.stream) in
@@ -93,11 +93,11 @@ due_to {r} {h} kept now t k st item due =
     }
 
 -- what the next slot carries
-pub none_goes : {r : Run} {h : List Event} {states : List InputState} {queues : List QueueValue} {n : ℕ} → AgreesWith r h states queues n → (now : ℕ) → now ≡ slot_time r.plan (slots h)
+pub none_goes : {r : Run} {h : List Event} {states : List InputState} {queues : List QueueValue} → AgreesWith r h states queues → (now : ℕ) → now ≡ slot_time r.plan (slots h)
     → ((k : ℕ) (st : Stream) (item : Stamped) → IsDueHead r.plan.streams queues now k st item → ⊥) → IsContent r.plan h Null
 none_goes {r} k now t none = λ st item e. none (has_of r.plan st e.stream).0 st item (due_from k now t st item e)
 
-pub one_goes : {r : Run} {h : List Event} {states : List InputState} {queues : List QueueValue} {n : ℕ} → AgreesWith r h states queues n → (now : ℕ) → now ≡ slot_time r.plan (slots h)
+pub one_goes : {r : Run} {h : List Event} {states : List InputState} {queues : List QueueValue} → AgreesWith r h states queues → (now : ℕ) → now ≡ slot_time r.plan (slots h)
     → (c : Candidate) → IsFirstDueHead r.plan.streams queues now c → (slice_get r.plan.streams c.place ≡ Some c.stream) × IsContent r.plan h (Elementary c.stream)
 one_goes {r} k now t c best =
     (best.due_head.stream, (best.item, due_to k now t c.place c.stream best.item best.due_head, λ su other e. best.first (has_of r.plan su e.stream).0 su other (due_from k now t su other e)))

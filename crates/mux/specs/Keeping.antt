@@ -6,6 +6,7 @@ use Rattle.mux.specs.declared.event.Event.{Event}
 use Rattle.mux.specs.declared.stream.Stream.{Stream}
 use Rattle.mux.specs.declared.input_state.InputState.{InputState}
 use Rattle.mux.specs.QueueValue.{QueueValue}
+use Rattle.mux.specs.SlotClock.{ClockValue, clock_at}
 use Rattle.mux.specs.PlanValue.{IsPlan}
 use Rattle.mux.specs.History.{Run, taken, queue, slots, last_stamp, is_closed, full_noted, emitted}
 use Rattle.mux.specs.Totals.{contents, is_of_input, is_elementary}
@@ -32,19 +33,19 @@ queue_of capacity h st = record { items = queue st h; capacity = capacity }
 
 -- the history is lawful, and what is kept of inputs and streams agrees with it
 pub record AgreesWith (r : Run) (h : List Event)
-    (states : List InputState) (queues : List QueueValue) (n : ℕ) : Type 0 where
+    (states : List InputState) (queues : List QueueValue) : Type 0 where
   pub plan : IsPlan r.plan
   pub limit : r.limit ≤ MAX_SLOTS
   pub lawful : IsLawful r.plan h
   pub within : slots h ≤ r.limit
   pub states_are : states ≡ map (state_of h) (range_with_len 0 (length r.plan.inputs))
   pub queues_are : queues ≡ map (queue_of r.plan.queue_capacity h) r.plan.streams
-  pub n_is : n ≡ slots h
 
--- and so do the packets that went out and the number of those of streams
+-- and so do the clock, the packets that went out and the number of those of streams
 pub record IsKept (r : Run) (h : List Event) (states : List InputState) (queues : List QueueValue)
-    (n : ℕ) (packets : List (List ℕ)) (elementary : ℕ) : Type 0 where
-  pub agrees : AgreesWith r h states queues n
+    (clock : ClockValue) (packets : List (List ℕ)) (elementary : ℕ) : Type 0 where
+  pub agrees : AgreesWith r h states queues
+  pub clock_is : clock ≡ clock_at r.plan.rate (slots h)
   pub output : IsOutput r.plan h
   pub packets_are : packets ≡ emitted r.plan h
   pub elementary_is : elementary ≡ count_by is_elementary (contents h)

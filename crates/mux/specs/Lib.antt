@@ -7,6 +7,7 @@ pub mod Totals
 pub mod Output
 pub mod Faithful
 pub mod QueueValue
+pub mod SlotClock
 pub mod Stored
 pub mod Keeping
 pub mod Choosing

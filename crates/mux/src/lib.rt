@@ -22,6 +22,7 @@ mod pid_queue;
 mod plan;
 mod plan_fault;
 mod slot;
+mod slot_clock;
 mod stored_event;
 mod stream;
 mod taken;

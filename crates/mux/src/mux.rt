@@ -21,13 +21,14 @@ use crate::input_state::InputState;
 use crate::pid_queue::PidQueue;
 use crate::plan::Plan;
 use crate::slot::Slot;
+use crate::slot_clock::SlotClock;
 use crate::stored_event::StoredEvent;
 use crate::stream::Stream;
 use crate::taken::Taken;
 use crate::totals::Totals;
 use std::alloc::{AllocError, Global};
 use std::marker::Model;
-use tspkt::{Packet, Stamped, null, rewrite, time};
+use tspkt::{Packet, Stamped, null, rewrite};
 
 /// The greatest number of slots of a run.
 pub const MAX_SLOTS: u64 = 1_000_000;
@@ -42,7 +43,7 @@ pub struct Mux {
     inputs: Vec<InputState>,
     queues: Vec<PidQueue>,
     emitted: Vec<Packet>,
-    slots: u64,
+    clock: SlotClock,
     elementary: u64,
 }
 
@@ -62,7 +63,7 @@ impl Model for Mux {
     ghost invariant = { λ m. IsKept
         (record { plan = m.plan; limit = m.limit })
         (history_of m.plan.streams (reverse m.stored.items) (reverse m.taken.items))
-        m.inputs.items m.queues.items m.slots m.emitted.items m.elementary };
+        m.inputs.items m.queues.items m.clock m.emitted.items m.elementary };
 }
 
 /// What is kept of so many inputs before the first packet.
@@ -103,7 +104,7 @@ impl Mux {
         requires { slots ≤ MAX_SLOTS }
         ensures { IfOk result (λ m. m ≡ opened plan slots) }
     {
-        let _ = plan.rate();
+        let clock = SlotClock::new(plan.rate());
         let inputs = new_states(alloc, plan.inputs().len())?;
         let queues = new_queues(alloc, plan.streams(), plan.queue_capacity())?;
         Ok(Mux {
@@ -114,7 +115,7 @@ impl Mux {
             inputs,
             queues,
             emitted: Vec::new(alloc),
-            slots: 0,
+            clock,
             elementary: 0,
         })
     }
@@ -124,7 +125,7 @@ impl Mux {
         ensures count { result ≡ slots self.now.events }
         ensures sound { IsSound self.now }
     {
-        self.slots
+        self.clock.slot()
     }
 
     /// The packet of a slot that was sent.
@@ -155,7 +156,7 @@ impl Mux {
         Counts {
             tables: 0,
             elementary: self.elementary,
-            null: self.slots - self.elementary,
+            null: self.clock.slot() - self.elementary,
         }
     }
 
@@ -283,15 +284,14 @@ impl Mux {
         ensures full { result ≡ true → self.now.run.limit ≤ slots self.now.events }
         ensures within { result ≡ false → slots self.now.events < self.now.run.limit }
     {
-        self.limit <= self.slots
+        self.limit <= self.clock.slot()
     }
 
     /// When the next slot goes out, in ticks of 27 MHz.
     fn now(&self) -> u64
-        requires { slots self.now.events < self.now.run.limit }
         ensures { result ≡ slot_time self.now.run.plan (slots self.now.events) }
     {
-        time(188 * self.slots + 10, self.plan.rate())
+        self.clock.time()
     }
 
     /// The least input that isn't ready for the next slot, which goes out now.
@@ -326,7 +326,7 @@ impl Mux {
         self.emitted.push(packet)?;
         self.stored.push_reserved(StoredEvent::Null);
         clear_full(&mut self.inputs);
-        self.slots += 1;
+        self.clock.advance();
         Ok(packet)
     }
 
@@ -348,7 +348,7 @@ impl Mux {
             .push_reserved(StoredEvent::Elementary(place as u8));
         clear_full(&mut self.inputs);
         self.inputs[stream.input].sent += 1;
-        self.slots += 1;
+        self.clock.advance();
         self.elementary += 1;
         Ok(packet)
     }

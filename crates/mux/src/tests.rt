@@ -1,5 +1,6 @@
 //! Runs by hand, with numbers worked out on paper.
 
+mod clock;
 mod helpers;
 mod inputs;
 mod memory;

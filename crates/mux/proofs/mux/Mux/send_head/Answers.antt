@@ -46,8 +46,8 @@ overflow_add-index_mut c =
     let limit = k.limit in
     omega (arith, count_within (is_of_input c.args.stream.input) h)
 
-pub overflow_add-self-2 : goal.overflow_add-self-2
-overflow_add-self-2 c =
+pub overflow_add-self : goal.overflow_add-self
+overflow_add-self c =
     let k = c.self.invariant.agrees in
     let h = history_of c.self.inside.plan.streams (reverse c.self.inside.stored.items) (reverse c.self.inside.taken.items) in
     let e = c.self.invariant.elementary_is in
@@ -65,8 +65,8 @@ invariant_of-self-2 c =
     let e = with_elementary c.self.inside.plan c.self.inside.stored.items _ (reverse c.self.inside.taken.items) c.args.place c.args.stream at
     (c.push_reserved-2.ensures.items ∙ ap (λ (es : List StoredEvent). es ++ stored.Elementary c.args.place ∷ []) c.in_ok-reserve.ensures.items) in
     let p = c.rewrite-packet.ensures.value ∙ sent_packet_is c.self.invariant.agrees c.args.place c.args.stream c.index_mut.result.now c.unwrap-item.result c.args.now at c.index_mut.ensures.value (sym c.pop_front.ensures.first ∙ c.unwrap-item.ensures) t in
-    sending_head c.self.invariant c.args.place c.args.stream c.index_mut-2.result.now c.index_mut.result.now c.pop_front.new.self _ c.clear_full.new.inputs.items _ e c.clear_full.ensures
-    c.index_mut-2.ensures.value l at c.index_mut.ensures.value c.pop_front.ensures.rest
+    sending_head c.self.invariant c.args.place c.args.stream c.index_mut-2.result.now c.index_mut.result.now c.pop_front.new.self _ c.clear_full.new.inputs.items _ _ e c.clear_full.ensures
+    c.index_mut-2.ensures.value l at c.index_mut.ensures.value c.pop_front.ensures.rest c.advance.ensures
     (c.push_reserved.ensures.items ∙ ap (λ (ps : List (List ℕ)). ps ++ c.rewrite-packet.result ∷ []) c.in_ok-reserve-2.ensures.items ∙ ap (λ x. c.self.inside.emitted.items ++ x ∷ []) p)
     (subst S (sym c.self.view_is) c.requires.within) (subst R (sym c.self.view_is) c.requires.may)
 
