@@ -4,7 +4,7 @@ use Rattle.std.specs.List.{position, position_from, remove}
 use Rattle.std.proofs.lemmas.List.Quantifiers.{position-Some}
 use Rattle.std.proofs.lemmas.Iterator.Adapters.{position_from-zero}
 use Rattle.std.proofs.lemmas.Bool.{and_parts, eqb-true}
-use Rattle.tables.specs.InForce.{SectionValue, is_of_same_version, front_of_version, run_of_current, run_of, all_in_force, complete_up_to, complete_table}
+use Rattle.tables.specs.InForce.{SectionValue, is_of_same_version, front_of_version, run_of_current, run_of, in_force, all_in_force, complete_up_to, complete_table}
 use Rattle.tables.specs.Kept.{without, newest_of_each, kept_with, StandsFor, kept_under, all_kept, kept_table, tables_of}
 use Rattle.tables.specs.declared.header.Header.{Header}
 
@@ -110,6 +110,10 @@ newest_at m s before false e rest = without_other s.header.section_number m (new
 newest_found : {V : Type 0} (m : ℕ) (run : List (SectionValue V)) → kept_under (newest_of_each run) m ≡ kept_under run m
 newest_found m [] = refl
 newest_found m (s ∷ before) = newest_at m s before (s.header.section_number == m) refl (newest_found m before)
+
+-- the section that is kept under a number is in force under it
+pub under_in_force : {V : Type 0} (kept sections : List (SectionValue V)) (number : ℕ) → StandsFor kept sections → kept_under kept number ≡ in_force sections number
+under_in_force kept sections number stands = ap (λ k. kept_under k number) stands ∙ newest_found number (run_of sections)
 
 all_in_force_kept : {V : Type 0} (sections : List (SectionValue V)) (first count : ℕ) → all_kept (newest_of_each (run_of sections)) first count ≡ all_in_force sections first count
 all_in_force_kept sections first zero = refl

@@ -75,7 +75,7 @@ fn take_section<T>(sections: &mut Vec<TableSection<T>>, number: u8) -> Option<T>
 
 impl<T: Drop> TableRun<T> {
     ghost use Rattle.std.specs.Prelude.{◌≡◌, List, [], ◌∷◌, option_map, is_some, IfOk, OnOk, OnErr};
-    ghost use Rattle.tables.specs.InForce.{SectionValue, complete_table};
+    ghost use Rattle.tables.specs.InForce.{SectionValue, in_force, complete_table};
     ghost use Rattle.tables.specs.Kept.{StandsFor, kept_under, kept_table, tables_of};
 
     /// One that no section came to.
@@ -118,6 +118,19 @@ impl<T: Drop> TableRun<T> {
         ensures { result ≡ is_some (kept_under self.now number) }
     {
         place_of(&self.sections, number).is_some()
+    }
+
+    /// The table of the section that is in force under this number.
+    pub fn under(&self, number: u8) -> Option<&T>
+        ensures kept { option_map (λ t. t.now) result
+            ≡ option_map (λ s. s.table) (kept_under self.now number) }
+        ensures in_force { (sections : List (SectionValue T)) → StandsFor self.now sections →
+            option_map (λ t. t.now) result
+            ≡ option_map (λ s. s.table) (in_force sections number) }
+    {
+        let place = place_of(&self.sections, number)?;
+        let section = &self.sections[place];
+        Some(&section.table)
     }
 
     /// Whether the table is complete: a section is in force under every number from 0 to
