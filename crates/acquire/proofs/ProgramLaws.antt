@@ -1,6 +1,6 @@
 -- The PMTs of programs are sought behind the PAT.
 use Rattle.std.proofs.Common.{◌≡◌, ℕ, ◌+◌, ◌<◌, ◌==◌, Bool, true, false, cond, List, [], ◌∷◌, ◌++◌, Option, Some, None, is_some, option_map, option_and_then, map, filter_map, find, drop, length, get_or, refl, sym, ◌∙◌, ap, append_assoc}
-use Rattle.std.specs.List.{flat_map}
+use Rattle.std.specs.List.{flat_map, zip}
 use Rattle.std.specs.Option.{option_or}
 use Rattle.std.proofs.lemmas.List.{append-nil, drop_more}
 use Rattle.std.proofs.lemmas.List.Folds.{find-append}
@@ -10,12 +10,12 @@ use Rattle.tables.specs.OnPid.{value_of, pat_section_of, pat_sections, pmts_on}
 use Rattle.tables.specs.Pat.{PatValue}
 use Rattle.tables.specs.Pmt.{PmtValue, pmt_of}
 use Rattle.tables.specs.declared.pat_row.PatRow.{PatRow}
-use Rattle.acquire.specs.Findings.{or_later, first_complete, pat_found, behind_pat_from, behind_pat, pmt_pid_of, first_pmt_on}
-use Rattle.acquire.specs.Reading.{ReaderState, reader_on, reader_step, sections_in}
+use Rattle.acquire.specs.Findings.{or_later, first_complete, pat_found, behind_pat_from, behind_pat, pmt_pid_of, first_pmt_on, pmt_found}
+use Rattle.acquire.specs.Reading.{ReaderState, reader_on, reader_step, reader_behind, sections_in}
 use Rattle.acquire.specs.Taken.{FirstTableState, HasTaken}
-use Rattle.acquire.specs.Seen.{is_pmt_of, pmts_in, pmt_finder_on, pmt_finder_behind, pmt_finder_begun, pmt_finder_of}
+use Rattle.acquire.specs.Seen.{is_pmt_of, pmts_in, pmt_finder_on, pmt_told, pmt_finder_behind, places_behind, pmt_finder_begun, pmt_finder_of}
 use Rattle.acquire.specs.declared.pmt_finder.PmtFinder.{PmtFinder}
-use Rattle.acquire.proofs.TakenLaws.{first_stays}
+use Rattle.acquire.proofs.TakenLaws.{or_none, first_stays}
 use Rattle.acquire.proofs.ReadingLaws.{reader_more, values_more, none_of}
 
 -- ---- the rows of the PAT
@@ -94,23 +94,58 @@ first_more pid program packets p =
     ∙ find-append (is_pmt_of program) (pmts_on pid packets) later
     ∙ or_is (find (is_pmt_of program) (pmts_on pid packets)) (find (is_pmt_of program) later))
 
-finder_with : ℕ → Option ReaderState → Option PmtValue → PmtFinder
-finder_with program reader found = record { program = program; reader = reader; found = found }
+finder_with : ℕ → Option ReaderState → PmtFinder
+finder_with program reader = record { program = program; reader = reader }
 
-pub pmt_more : (program : ℕ) (pid : Option ℕ) (packets : List (List ℕ)) (p : List ℕ) → pmt_finder_behind p (pmt_finder_on program pid packets) ≡ pmt_finder_on program pid (packets ++ p ∷ [])
-unfolding finder_with
+-- a reader goes on until the PMT is found
+unless_found : Option PmtValue → ReaderState → Option ReaderState
+unless_found found reader = cond (is_some found) None (Some reader)
+
+finder_step : (program : ℕ) (p : List ℕ) (r : ReaderState) (o : Option PmtValue)
+    → pmt_finder_behind p (finder_with program (unless_found o r))
+    ≡ finder_with program (unless_found (or_later o (find (is_pmt_of program) (pmts_in (reader_step r p).told))) (reader_behind r p))
+unfolding finder_with unless_found
+finder_step program p r None = refl
+finder_step program p r (Some x) = refl
+
+pmt_more : (program : ℕ) (pid : Option ℕ) (packets : List (List ℕ)) (p : List ℕ) → pmt_finder_behind p (pmt_finder_on program pid packets) ≡ pmt_finder_on program pid (packets ++ p ∷ [])
+unfolding finder_with unless_found
 pmt_more program None packets p = refl
 pmt_more program (Some pid) packets p =
-    ap (λ r. finder_with program (Some r) (or_later (first_pmt_on pid program packets) (find (is_pmt_of program) (pmts_in (reader_step (reader_on pid packets) p).told)))) (reader_more pid packets p)
-    ∙ ap (λ o. finder_with program (Some (reader_on pid (packets ++ p ∷ []))) o) (first_more pid program packets p)
+    let r = reader_on pid packets in
+    finder_step program p r (first_pmt_on pid program packets)
+    ∙ ap (λ o. finder_with program (unless_found o (reader_behind r p))) (first_more pid program packets p)
+    ∙ ap (λ s. finder_with program (unless_found (first_pmt_on pid program (packets ++ p ∷ [])) s)) (reader_more pid packets p)
 
-pub map_of_map : {A B C : Type 0} (f : B → C) (g : A → B) (h : A → C) (xs : List A) → ((x : A) → f (g x) ≡ h x) → map f (map g xs) ≡ map h xs
+told_step : (program : ℕ) (p : List ℕ) (r : ReaderState) (o : Option PmtValue)
+    → or_later (pmt_told p (finder_with program (unless_found o r))) o ≡ or_later o (find (is_pmt_of program) (pmts_in (reader_step r p).told))
+unfolding finder_with unless_found
+told_step program p r None = or_none (find (is_pmt_of program) (pmts_in (reader_step r p).told))
+told_step program p r (Some x) = refl
+
+found_more : (program : ℕ) (pid : Option ℕ) (packets : List (List ℕ)) (p : List ℕ)
+    → or_later (pmt_told p (pmt_finder_on program pid packets)) (option_and_then (λ pid. first_pmt_on pid program packets) pid)
+    ≡ option_and_then (λ pid. first_pmt_on pid program (packets ++ p ∷ [])) pid
+unfolding finder_with unless_found
+found_more program None packets p = refl
+found_more program (Some pid) packets p =
+    told_step program p (reader_on pid packets) (first_pmt_on pid program packets) ∙ first_more pid program packets p
+
+nothing_yet : (program : ℕ) (pid : Option ℕ) → option_and_then (λ pid. first_pmt_on pid program []) pid ≡ None
+nothing_yet program None = refl
+nothing_yet program (Some pid) = refl
+
+map_of_map : {A B C : Type 0} (f : B → C) (g : A → B) (h : A → C) (xs : List A) → ((x : A) → f (g x) ≡ h x) → map f (map g xs) ≡ map h xs
 map_of_map f g h [] e = refl
 map_of_map f g h (x ∷ xs) e = ap (λ y. y ∷ map f (map g xs)) (e x) ∙ ap (λ l. h x ∷ l) (map_of_map f g h xs e)
 
 map_alike : {A B : Type 0} (f g : A → B) (xs : List A) → ((x : A) → f x ≡ g x) → map f xs ≡ map g xs
 map_alike f g [] e = refl
 map_alike f g (x ∷ xs) e = ap (λ y. y ∷ map f xs) (e x) ∙ ap (λ l. g x ∷ l) (map_alike f g xs e)
+
+map_of_zip : {A B C D : Type 0} (f : B × C → D) (g : A → B) (h : A → C) (k : A → D) (xs : List A) → ((x : A) → f (g x, h x) ≡ k x) → map f (zip (map g xs) (map h xs)) ≡ map k xs
+map_of_zip f g h k [] e = refl
+map_of_zip f g h k (x ∷ xs) e = ap (λ y. y ∷ map f (zip (map g xs) (map h xs))) (e x) ∙ ap (λ l. k x ∷ l) (map_of_zip f g h k xs e)
 
 found_again : (packets : List (List ℕ)) (p : List ℕ) (o : Option (List PatRow)) → pat_found packets ≡ o → is_some o ≡ true → pat_found packets ≡ pat_found (packets ++ p ∷ [])
 found_again packets p None e s = absurd (cc)
@@ -125,6 +160,15 @@ begun_more packets p programs s =
     pmt_more program (option_and_then (pmt_pid_of program) (pat_found packets)) (behind_pat packets) p
     ∙ ap (λ o. pmt_finder_on program (option_and_then (pmt_pid_of program) o) (behind_pat packets ++ p ∷ [])) (found_again packets p (pat_found packets) refl s)
     ∙ ap (pmt_finder_on program (option_and_then (pmt_pid_of program) (pat_found (packets ++ p ∷ [])))) (sym (behind_some_from [] packets p refl s)))
+
+pub places_more : (packets : List (List ℕ)) (p : List ℕ) (programs : List ℕ) → is_some (pat_found packets) ≡ true
+    → places_behind p (map (pmt_finder_of packets) programs) (map (λ program. pmt_found program packets) programs) ≡ map (λ program. pmt_found program (packets ++ p ∷ [])) programs
+places_more packets p programs s =
+    map_of_zip (λ (q : PmtFinder × Option PmtValue). or_later (pmt_told p q.0) q.1) (pmt_finder_of packets) (λ program. pmt_found program packets) (λ program. pmt_found program (packets ++ p ∷ [])) programs
+    (λ program.
+    found_more program (option_and_then (pmt_pid_of program) (pat_found packets)) (behind_pat packets) p
+    ∙ ap (λ o. option_and_then (λ pid. first_pmt_on pid program (behind_pat packets ++ p ∷ [])) (option_and_then (pmt_pid_of program) o)) (found_again packets p (pat_found packets) refl s)
+    ∙ ap (λ l. option_and_then (λ pid. first_pmt_on pid program l) (option_and_then (pmt_pid_of program) (pat_found (packets ++ p ∷ [])))) (sym (behind_some_from [] packets p refl s)))
 
 -- the packet completes the PAT
 pub begun_now : (packets : List (List ℕ)) (p : List ℕ) (programs : List ℕ) (rows : List PatRow) → is_some (pat_found packets) ≡ false → pat_found (packets ++ p ∷ []) ≡ Some rows
@@ -143,6 +187,16 @@ begun_later packets p programs n m =
     (λ program.
     ap (λ o. pmt_finder_on program (option_and_then (pmt_pid_of program) o) (behind_pat packets)) (none_of (pat_found packets) n)
     ∙ sym (ap (λ o. pmt_finder_on program (option_and_then (pmt_pid_of program) o) (behind_pat (packets ++ p ∷ []))) (none_of (pat_found (packets ++ p ∷ [])) m)))
+
+-- up to the packet that completes the PAT no PMT is found
+pub places_wait : (packets : List (List ℕ)) (p : List ℕ) (programs : List ℕ) → is_some (pat_found packets) ≡ false
+    → map (λ program. pmt_found program packets) programs ≡ map (λ program. pmt_found program (packets ++ p ∷ [])) programs
+places_wait packets p programs n =
+    map_alike (λ program. pmt_found program packets) (λ program. pmt_found program (packets ++ p ∷ [])) programs
+    (λ program.
+    ap (λ o. option_and_then (λ pid. first_pmt_on pid program (behind_pat packets)) (option_and_then (pmt_pid_of program) o)) (none_of (pat_found packets) n)
+    ∙ sym (ap (λ l. option_and_then (λ pid. first_pmt_on pid program l) (option_and_then (pmt_pid_of program) (pat_found (packets ++ p ∷ [])))) (behind_none_from [] packets p n)
+    ∙ nothing_yet program (option_and_then (pmt_pid_of program) (pat_found (packets ++ p ∷ [])))))
 
 -- ---- the PID of a program
 

@@ -8,18 +8,8 @@ use Rattle.tables.specs.OnPid.{sdt_sections}
 use Rattle.tables.specs.Sdt.{SdtValue}
 use Rattle.acquire.specs.Findings.{first_complete, sdt_found, pmt_found, findings, all_some, is_all_found}
 use Rattle.acquire.specs.Taken.{FirstTableState, HasTaken}
-use Rattle.acquire.specs.Seen.{pmt_finder_of, HasSoughtPrograms, AcquireState, HasSeen}
-use Rattle.acquire.specs.declared.pmt_finder.PmtFinder.{PmtFinder}
-use Rattle.acquire.specs.declared.program_finder.ProgramFinder.{ProgramFinder}
+use Rattle.acquire.specs.Seen.{AcquireState, HasSeen, knows_all}
 use Rattle.acquire.proofs.TakenLaws.{some_mapped}
-use Rattle.acquire.proofs.ProgramLaws.{map_of_map}
-
--- the PMTs that were found
-pub pmts_found : (wanted : List ℕ) (f : ProgramFinder) (packets : List (List ℕ)) → HasSoughtPrograms wanted f packets
-    → map (λ (p : PmtFinder). p.found) f.pmts.items ≡ map (λ program. pmt_found program packets) wanted
-pmts_found wanted f packets sought =
-    ap (map (λ (p : PmtFinder). p.found)) sought.begun
-    ∙ map_of_map (λ (p : PmtFinder). p.found) (pmt_finder_of packets) (λ program. pmt_found program packets) wanted (λ program. refl)
 
 rows_of_sdts : (sections : List (SectionValue SdtValue)) → flat_map (λ (s : SectionValue SdtValue). s.table.rows) sections ≡ flat_map (λ (s : SdtValue). s.rows) (tables_of sections)
 rows_of_sdts [] = refl
@@ -41,13 +31,11 @@ mapped_twice f g None = refl
 mapped_twice f g (Some x) = refl
 
 -- all that is wanted was found
-pub all_is_found : (wanted : List ℕ) (a : AcquireState) (packets : List (List ℕ)) → HasSeen wanted a packets
-    → (length a.programs.pmts.items == 0 || (all_some (map (λ (p : PmtFinder). p.found) a.programs.pmts.items) && is_some a.sdt.table.found))
-    ≡ is_all_found wanted (findings wanted packets)
+pub all_is_found : (wanted : List ℕ) (a : AcquireState) (packets : List (List ℕ)) → HasSeen wanted a packets → knows_all a ≡ is_all_found wanted (findings wanted packets)
 all_is_found wanted a packets seen =
-    let count : length a.programs.pmts.items ≡ length wanted = ap length seen.programs.begun ∙ length-map wanted (pmt_finder_of packets) in
+    let count : length a.programs.found.items ≡ length wanted = ap length seen.programs.found ∙ length-map wanted (λ program. pmt_found program packets) in
     let sdt : is_some a.sdt.table.found ≡ is_some (sdt_found packets) =
     sym (some_mapped (flat_map (λ (s : SdtValue). s.rows)) a.sdt.table.found) ∙ ap is_some (sdt_is_found a.sdt.table packets seen.sdt.taken) in
-    ap (λ n. n == 0 || (all_some (map (λ (p : PmtFinder). p.found) a.programs.pmts.items) && is_some a.sdt.table.found)) count
-    ∙ ap (λ l. length wanted == 0 || (all_some l && is_some a.sdt.table.found)) (pmts_found wanted a.programs packets seen.programs)
+    ap (λ n. n == 0 || (all_some a.programs.found.items && is_some a.sdt.table.found)) count
+    ∙ ap (λ l. length wanted == 0 || (all_some l && is_some a.sdt.table.found)) seen.programs.found
     ∙ ap (λ b. length wanted == 0 || (all_some (map (λ program. pmt_found program packets) wanted) && b)) sdt

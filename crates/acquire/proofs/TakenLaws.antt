@@ -5,7 +5,7 @@ use Rattle.tables.specs.Kept.{StandsFor, tables_of, newest_of_each}
 use Rattle.acquire.specs.Findings.{or_later, first_complete_behind, first_complete}
 use Rattle.acquire.specs.Taken.{newest_first, FirstTableState, HasTaken}
 
-or_none : {V : Type 0} (o : Option V) → or_later o None ≡ o
+pub or_none : {V : Type 0} (o : Option V) → or_later o None ≡ o
 or_none None = refl
 or_none (Some x) = refl
 

@@ -1,10 +1,10 @@
 -- What the parts of acquisition have seen: their states behind packets.
-use Rattle.std.specs.Prelude.{◌≡◌, ℕ, ◌==◌, Bool, ◌&&◌, ◌||◌, List, [], ◌∷◌, ◌++◌, length, map, Option, Some, None, is_some, option_map, option_and_then, find, filter_map}
+use Rattle.std.specs.Prelude.{◌≡◌, ℕ, ◌==◌, Bool, ◌&&◌, ◌||◌, if◌then◌else◌, List, [], ◌∷◌, ◌++◌, length, map, Option, Some, None, is_some, option_map, option_and_then, find, filter_map}
 use Rattle.tables.specs.InForce.{SectionValue}
 use Rattle.tables.specs.OnPid.{sections_on, value_of, pat_section_of, sdt_section_of}
 use Rattle.tables.specs.Pmt.{PmtValue, pmt_of}
 use Rattle.section.specs.declared.told.Told.{Told}
-use Rattle.acquire.specs.Findings.{Findings, findings, is_all_found, all_some, or_later, first_pmt_on, pmt_pid_of, pat_found, behind_pat}
+use Rattle.acquire.specs.Findings.{Findings, findings, is_all_found, all_some, or_later, first_pmt_on, pmt_pid_of, pat_found, behind_pat, pmt_found}
 use Rattle.acquire.specs.Reading.{ReaderState, reader_on, reader_step, reader_behind, sections_in}
 use Rattle.acquire.specs.Taken.{FirstTableState, HasTaken}
 use Rattle.acquire.specs.declared.pat_finder.PatFinder.{PatFinder}
@@ -13,7 +13,7 @@ use Rattle.acquire.specs.declared.pmt_finder.PmtFinder.{PmtFinder}
 use Rattle.acquire.specs.declared.program_finder.ProgramFinder.{ProgramFinder}
 use Rattle.acquire.specs.declared.found.Found.{Found}
 use Rattle.tables.specs.Sdt.{SdtValue}
-use Rattle.std.specs.List.{flat_map}
+use Rattle.std.specs.List.{flat_map, zip}
 use Rattle.tables.specs.declared.pat_row.PatRow.{PatRow}
 
 -- the first complete table of a PID was sought in these packets: what it has taken, and where it goes on
@@ -35,21 +35,27 @@ pmts_in told = filter_map (λ b. value_of (pmt_of b)) (sections_in told)
 abbrev pub is_pmt_of : ℕ → PmtValue → Bool
 is_pmt_of program v = v.header.current_next_indicator && v.header.table_id_extension == program
 
--- a program whose PMT is sought on a PID, where it has one, in these packets
+-- a program whose PMT is sought on a PID, where it has one, in these packets; once it was found, no more
 abbrev pub pmt_finder_on : ℕ → Option ℕ → List (List ℕ) → PmtFinder
 pmt_finder_on program pid packets = record {
   program = program;
-  reader = option_map (λ pid. reader_on pid packets) pid;
-  found = option_and_then (λ pid. first_pmt_on pid program packets) pid;
+  reader = option_and_then (λ pid. if is_some (first_pmt_on pid program packets) then None else Some (reader_on pid packets)) pid;
 }
+
+-- the PMT that a packet more brings
+abbrev pub pmt_told : List ℕ → PmtFinder → Option PmtValue
+pmt_told packet f = option_and_then (λ r. find (is_pmt_of f.program) (pmts_in (reader_step r packet).told)) f.reader
 
 -- one packet more
 abbrev pub pmt_finder_behind : List ℕ → PmtFinder → PmtFinder
 pmt_finder_behind packet f = record {
   program = f.program;
-  reader = option_map (λ r. reader_behind r packet) f.reader;
-  found = or_later f.found (option_and_then (λ r. find (is_pmt_of f.program) (pmts_in (reader_step r packet).told)) f.reader);
+  reader = if is_some (pmt_told packet f) then None else option_map (λ r. reader_behind r packet) f.reader;
 }
+
+-- what is found behind a packet more, in the places of the programs
+abbrev pub places_behind : List ℕ → List PmtFinder → List (Option PmtValue) → List (Option PmtValue)
+places_behind packet finders found = map (λ (p : PmtFinder × Option PmtValue). or_later (pmt_told packet p.0) p.1) (zip finders found)
 
 -- the PAT was found, and the PMT is sought from here on
 abbrev pub pmt_finder_begun : List PatRow → PmtFinder → PmtFinder
@@ -62,7 +68,8 @@ pmt_finder_of packets program = pmt_finder_on program (option_and_then (pmt_pid_
 -- the PAT and the PMTs of programs were sought in these packets
 pub record HasSoughtPrograms (programs : List ℕ) (f : ProgramFinder) (packets : List (List ℕ)) : Type 0 where
   pub sought : HasSoughtPat f.pat packets
-  pub begun : f.pmts.items ≡ map (pmt_finder_of packets) programs
+  pub finders : f.finders.items ≡ map (pmt_finder_of packets) programs
+  pub found : f.found.items ≡ map (λ program. pmt_found program packets) programs
 
 -- what acquisition knows, and whether memory was refused
 pub record AcquireState : Type 0 where
@@ -99,4 +106,4 @@ IsFound a found = (wanted : List ℕ) (packets : List (List ℕ)) → HasSeen wa
 
 -- whether all is found, by what is known
 abbrev pub knows_all : AcquireState → Bool
-knows_all a = length a.programs.pmts.items == 0 || (all_some (map (λ f. f.found) a.programs.pmts.items) && is_some a.sdt.table.found)
+knows_all a = length a.programs.found.items == 0 || (all_some a.programs.found.items && is_some a.sdt.table.found)

@@ -90,14 +90,14 @@ impl Acquire {
         }
     }
 
-    /// What was found in the packets that were pushed, where no push was refused. An `Err` is want
-    /// of memory.
-    pub fn found(self) -> Result<Found, AllocError>
-        ensures { IfOk result (IsFound self) }
+    /// What was found in the packets that were pushed, where no push was refused. It takes no
+    /// memory.
+    pub fn found(self) -> Found
+        ensures { IsFound self result }
     {
-        Ok(Found {
-            pmts: self.programs.into_found(self.alloc)?,
+        Found {
+            pmts: self.programs.into_found(),
             sdt: self.sdt.into_found(),
-        })
+        }
     }
 }

@@ -18,5 +18,5 @@ pub fn find_tables(alloc: Global, programs: &[u16], packets: &[Packet]) -> Resul
     for packet in packets {
         acquire.push(packet)?;
     }
-    acquire.found()
+    Ok(acquire.found())
 }

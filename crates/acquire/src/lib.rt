@@ -7,6 +7,7 @@ mod first_table;
 mod found;
 mod pat_finder;
 mod pmt_finder;
+mod pmt_finders;
 mod program_finder;
 mod sdt_finder;
 mod section_reader;

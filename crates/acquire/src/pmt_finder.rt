@@ -12,12 +12,11 @@ use tables::{Pmt, TableFault};
 use tspkt::Packet;
 
 /// Finds the first current PMT of a program on the PID that the PAT gives it (ISO/IEC 13818-1,
-/// 2.4.4.8).
+/// 2.4.4.8). Its PID is read from the PAT on until the PMT is found.
 #[derive(Drop)]
 pub struct PmtFinder {
     program: u16,
     reader: Option<SectionReader>,
-    found: Option<Pmt>,
 }
 
 /// The PMT in the bytes, where it is a current one of the program. An `Err` is want of memory.
@@ -53,8 +52,8 @@ fn first_pmt(alloc: Global, program: u16, told: &[Told]) -> Result<Option<Pmt>, 
 }
 
 impl PmtFinder {
-    ghost use Rattle.std.specs.Prelude.{◌≡◌, [], None, OnOk, is_some};
-    ghost use Rattle.acquire.specs.Seen.{pmt_finder_on, pmt_finder_behind};
+    ghost use Rattle.std.specs.Prelude.{◌≡◌, [], None, IfOk, OnOk};
+    ghost use Rattle.acquire.specs.Seen.{pmt_finder_on, pmt_finder_behind, pmt_told};
 
     /// One of a program for which no PID is known.
     pub fn new(program: u16) -> PmtFinder
@@ -63,7 +62,6 @@ impl PmtFinder {
         PmtFinder {
             program,
             reader: None,
-            found: None,
         }
     }
 
@@ -72,7 +70,6 @@ impl PmtFinder {
         ensures { self.new ≡ pmt_finder_on self.old.program pid [] }
     {
         self.reader = pid.map(SectionReader::new);
-        self.found = None;
     }
 
     /// The program_number.
@@ -82,37 +79,26 @@ impl PmtFinder {
         self.program
     }
 
-    /// Whether the PMT was found.
-    pub fn is_found(&self) -> bool
-        ensures { result ≡ is_some self.now.found }
-    {
-        self.found.is_some()
-    }
-
-    /// The PMT, where it was found.
-    pub fn into_found(self) -> Option<Pmt>
-        ensures { result ≡ self.found }
-    {
-        self.found
-    }
-
-    /// Reads the next packet, of whatever PID; `told` is room for what it tells. An `Err` is want
-    /// of memory.
+    /// Reads the next packet, of whatever PID, and answers the PMT where the packet completes it;
+    /// `told` is room for what it tells. Behind the PMT it reads nothing. An `Err` is want of
+    /// memory.
     pub fn push(
         &mut self,
         alloc: Global,
         packet: &Packet,
         told: &mut Vec<Told>,
-    ) -> Result<(), AllocError>
-        ensures { OnOk result (self.new ≡ pmt_finder_behind packet.now self.old) }
+    ) -> Result<Option<Pmt>, AllocError>
+        ensures pmt { IfOk result (λ pmt. pmt ≡ pmt_told packet.now self.old) }
+        ensures state { OnOk result (self.new ≡ pmt_finder_behind packet.now self.old) }
     {
         let Some(reader) = &mut self.reader else {
-            return Ok(());
+            return Ok(None);
         };
         reader.push(packet, told)?;
-        if self.found.is_none() {
-            self.found = first_pmt(alloc, self.program, told)?;
+        let pmt = first_pmt(alloc, self.program, told)?;
+        if pmt.is_some() {
+            self.reader = None;
         }
-        Ok(())
+        Ok(pmt)
     }
 }

@@ -81,7 +81,7 @@ fn all_tables(rt: HostRuntime) -> Result<(), Fail> {
         answers.push(acquire.push(packet)?)?;
     }
     assert_eq!(rt; answers.as_slice(), [false, false, true, true].as_slice());
-    let found = acquire.found()?;
+    let found = acquire.found();
     assert_eq!(rt; found.pmts.len(), 1);
     let Some(Some(pmt)) = found.pmts.first() else {
         return Err(Fail::from("no PMT"));

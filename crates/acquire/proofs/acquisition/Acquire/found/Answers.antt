@@ -5,16 +5,13 @@ use Rattle.tables.specs.Sdt.{SdtValue}
 use Rattle.tables.specs.declared.sdt_row.SdtRow.{SdtRow}
 use Rattle.acquire.specs.Findings.{Findings, sdt_found, pmt_found}
 use Rattle.acquire.specs.Seen.{AcquireState}
-use Rattle.acquire.specs.declared.pmt_finder.PmtFinder.{PmtFinder}
-use Rattle.acquire.proofs.SeenLaws.{pmts_found, sdt_is_found, mapped_twice}
+use Rattle.acquire.proofs.SeenLaws.{sdt_is_found, mapped_twice}
 use Rattle.acquire.proofs.acquisition.Acquire.found.Goals as goal
 
 pub returns : goal.returns
 returns c programs packets seen =
-    let pmts : c.in_ok-into_found.field-0.items ≡ map (λ program. pmt_found program packets) programs =
-    c.in_ok-into_found.ensures
-    ∙ ap (λ (a : AcquireState). map (λ (p : PmtFinder). p.found) a.programs.pmts.items) c.self.view_is
-    ∙ pmts_found programs c.args.self.programs packets seen.programs in
+    let pmts : c.into_found.result.items ≡ map (λ program. pmt_found program packets) programs =
+    c.into_found.ensures ∙ ap (λ (a : AcquireState). a.programs.found.items) c.self.view_is ∙ seen.programs.found in
     let sdt : option_map (λ sdts. flat_map (λ (s : SdtValue). s.rows) sdts.items) c.into_found-2.result ≡ sdt_found packets =
     mapped_twice (λ sdts. sdts.items) (flat_map (λ (s : SdtValue). s.rows)) c.into_found-2.result
     ∙ ap (option_map (flat_map (λ (s : SdtValue). s.rows))) (c.into_found-2.ensures ∙ ap (λ (a : AcquireState). a.sdt.table.found) c.self.view_is)

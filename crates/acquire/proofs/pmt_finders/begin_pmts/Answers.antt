@@ -4,7 +4,7 @@ use Rattle.std.specs.List.{flat_map}
 use Rattle.tables.specs.Pat.{PatValue}
 use Rattle.acquire.specs.Findings.{pmt_pid_of}
 use Rattle.acquire.specs.Seen.{pmt_finder_on, pmt_finder_begun}
-use Rattle.acquire.proofs.program_finder.begin_pmts.Goals as goal
+use Rattle.acquire.proofs.pmt_finders.begin_pmts.Goals as goal
 
 pub loop-finder-preserved : goal.loop-finder-preserved
 loop-finder-preserved c =

@@ -2,7 +2,7 @@ use Rattle.std.proofs.Common.{◌≡◌, ◌++◌, map, take, drop}
 use Rattle.std.specs.List.{flat_map}
 use Rattle.tables.specs.Pat.{PatValue}
 use Rattle.acquire.specs.Seen.{pmt_finder_begun}
-use Rattle.acquire.proofs.program_finder.begin_pmts.Given as goal
+use Rattle.acquire.proofs.pmt_finders.begin_pmts.Given as goal
 
 abbrev pub invariant-loop-finder : goal.invariant-loop-finder
 invariant-loop-finder l =

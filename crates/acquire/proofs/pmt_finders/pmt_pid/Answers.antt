@@ -3,7 +3,7 @@ use Rattle.std.specs.List.{flat_map}
 use Rattle.tables.specs.Pat.{PatValue}
 use Rattle.acquire.specs.Findings.{or_later, pmt_pid_of}
 use Rattle.acquire.proofs.ProgramLaws.{pid_step}
-use Rattle.acquire.proofs.program_finder.pmt_pid.Goals as goal
+use Rattle.acquire.proofs.pmt_finders.pmt_pid.Goals as goal
 
 pub returns-in-Some : goal.returns-in-Some
 returns-in-Some c =

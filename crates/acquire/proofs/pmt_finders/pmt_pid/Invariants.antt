@@ -2,7 +2,7 @@ use Rattle.std.proofs.Common.{◌≡◌, drop}
 use Rattle.std.specs.List.{flat_map}
 use Rattle.tables.specs.Pat.{PatValue}
 use Rattle.acquire.specs.Findings.{pmt_pid_of}
-use Rattle.acquire.proofs.program_finder.pmt_pid.Given as goal
+use Rattle.acquire.proofs.pmt_finders.pmt_pid.Given as goal
 
 abbrev pub invariant-loop-pat : goal.invariant-loop-pat
 invariant-loop-pat l =
