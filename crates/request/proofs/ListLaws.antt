@@ -1,11 +1,11 @@
 -- Tests over lists of lists, and filters.
-use Rattle.std.proofs.Common.{ℕ, ◌≡◌, ◌||◌, ◌&&◌, Bool, true, false, cond, List, [], ◌∷◌, ◌++◌, map, length, drop, take, length-drop, ◌-◌, refl, ap, ◌∙◌, arith, All}
-use Rattle.std.proofs.lemmas.List.{take_all}
+use Rattle.std.proofs.Common.{ℕ, ◌≡◌, ◌||◌, ◌&&◌, Bool, true, false, cond, List, [], ◌∷◌, ◌++◌, map, length, drop, take, length-drop, ◌-◌, refl, ap, ◌∙◌, arith, All, ◌<◌}
+use Rattle.std.proofs.lemmas.List.{take_all, length-map, get_or-map}
 use Rattle.std.proofs.lemmas.List.Folds.{list_any-append, list_all-append}
 use Rattle.std.proofs.lemmas.List.Elements.{All-map, All-weaker}
 use Rattle.std.proofs.lemmas.List.Sums.{AllPass-from_list_all}
 use Rattle.std.proofs.lemmas.Bool.{and_parts, and_from}
-use Rattle.std.specs.List.{list_any, list_all, flat_map, filter}
+use Rattle.std.specs.List.{list_any, list_all, flat_map, filter, AllPairs}
 
 pub list_any-map : {X Y : Type 0} (p : Y → Bool) (f : X → Y) (xs : List X) → list_any p (map f xs) ≡ list_any (λ x. p (f x)) xs
 list_any-map p f [] = refl
@@ -68,3 +68,10 @@ map-map g f (x ∷ xs) = ap (λ ys. g (f x) ∷ ys) (map-map g f xs)
 pub map-append : {X Y : Type 0} (f : X → Y) (xs ys : List X) → map f (xs ++ ys) ≡ map f xs ++ map f ys
 map-append f [] ys = refl
 map-append f (x ∷ xs) ys = ap (λ zs. f x ∷ zs) (map-append f xs ys)
+
+-- a fact of each two elements, behind a map
+pub all_pairs-map : {X Y : Type 0} (R : Y → Y → Type 0) (f : X → Y) (xs : List X) (d : X) → AllPairs (λ a b. R (f a) (f b)) xs → AllPairs R (map f xs)
+all_pairs-map R f xs d pairs i j e l m =
+    let within : j < length xs = omega (arith, length-map xs f) in
+    let before : i < length xs = omega arith in
+    rw (get_or-map f xs i d e before, get_or-map f xs j d e within) (pairs i j d l within)

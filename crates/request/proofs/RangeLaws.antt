@@ -27,7 +27,7 @@ pub natural_between : (low high : ℕ) (z : ℤ) → is_between low high z ≡ t
 natural_between low high (pos n) e = refl
 natural_between low high (negsuc n) e = cc
 
-same_int : (x y : ℤ) → is_natural x ≡ true → is_natural y ≡ true → natural_of x ≡ natural_of y → int_eq x y ≡ true
+pub same_int : (x y : ℤ) → is_natural x ≡ true → is_natural y ≡ true → natural_of x ≡ natural_of y → int_eq x y ≡ true
 same_int (pos a) (pos b) e f g = ap (int_eq (pos a)) (sym (ap pos g)) ∙ int_eq_equiv.refl (pos a)
 same_int (pos a) (negsuc b) e f g = cc
 same_int (negsuc a) y e f g = cc

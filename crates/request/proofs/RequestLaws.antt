@@ -1,5 +1,5 @@
 -- A plan without fault is a request.
-use Rattle.std.proofs.Common.{ℕ, ◌<◌, ◌≤◌, ◌≡◌, ◌≢◌, ◌&&◌, Bool, true, false, not, cond, leb, List, [], ◌∷◌, ◌++◌, map, length, None, Some, refl, ap, ◌∙◌, sym, subst, arith, All, inl, inr}
+use Rattle.std.proofs.Common.{ℕ, ℤ, pos, negsuc, ◌<◌, ◌≤◌, ◌≡◌, ◌≢◌, ◌&&◌, Bool, true, false, not, cond, leb, List, [], ◌∷◌, ◌++◌, map, length, None, Some, refl, ap, ◌∙◌, sym, subst, arith, All, inl, inr}
 use Rattle.std.specs.List.{list_any, list_all, filter, AllPairs}
 use Rattle.std.specs.Ordering.{int_eq}
 use Rattle.std.proofs.lemmas.Cmp.{int_eq_equiv}
@@ -7,7 +7,8 @@ use Rattle.std.proofs.lemmas.Bool.{and_parts, and_from, or_parts, or_left, or_ri
 use Rattle.std.proofs.lemmas.List.{length-map}
 use Rattle.std.proofs.lemmas.List.Folds.{list_all-map, list_all-append, Any-from_list_any}
 use Rattle.std.proofs.lemmas.List.Sums.{fails_before_first, AllPass-from_list_all}
-use Rattle.std.proofs.lemmas.List.Elements.{All-weaker}
+use Rattle.std.proofs.lemmas.List.Elements.{All-nil, All-cons, All-weaker}
+use Rattle.std.proofs.lemmas.List.Kept.{AllPairs-cons, AllPairs-filter}
 use Rattle.std.proofs.lemmas.Map.Views.{any-filter_same}
 use Rattle.tables.specs.Descriptors.{are_whole}
 use Rattle.request.specs.declared.limits.TheConstants.{MIN_RATE, MAX_RATE, MIN_LEAK, MAX_LEAK, MAX_OFFSET, MAX_SLOTS, MAX_VERSION, MAX_ITEMS, MAX_ID, FIRST_PID, LAST_PID, MAX_INPUTS, MAX_SERVICES, MAX_STREAMS, MAX_NAME, FIRST_LETTER, LAST_LETTER, MAX_DESCRIPTORS}
@@ -17,9 +18,9 @@ use Rattle.request.specs.declared.stream.Stream.{Stream}
 use Rattle.request.specs.Parts.{InputPartsValue, ServicePartsValue, PartsValue}
 use Rattle.request.specs.Ranges.{is_count_between, is_between, is_place, is_rate, is_pid, is_program_number, has_good_rates, has_good_sizes, has_good_ids, is_letter, is_network_name, are_descriptors, is_input, are_inputs, is_stream, is_service, are_services, has_good_top, has_good_lists}
 use Rattle.request.specs.Request.{row_of, service_rows, rows_of, has_same_source, without_repeats, stream_rows_of, has_repeat, has_bad_range, has_service_twice, output_pids, has_pid_twice, request_fault_of, natural_of, ServiceValue, input_of, stream_of, stream_number, service_of, request_of, IsBetween, IsInput, IsStream, IsService, IsRequest}
-use Rattle.request.proofs.ListLaws.{list_all_weaker, list_all-filter, list_all-flat_map, all_from, map-map, map-append}
+use Rattle.request.proofs.ListLaws.{list_all_weaker, list_all-filter, list_all-flat_map, all_from, map-map, map-append, all_pairs-map}
 use Rattle.request.proofs.StreamLaws.{same_source_symm, same_source_congr}
-use Rattle.request.proofs.RangeLaws.{count_between, between, place, is_natural, natural_between, distinct}
+use Rattle.request.proofs.RangeLaws.{count_between, between, place, is_natural, natural_between, same_int, distinct}
 use Rattle.request.proofs.FaultLaws.{IsRanged, ranged_of}
 
 -- each row is a stream or repeats one
@@ -193,6 +194,56 @@ pids_apart inputs services e f =
     (list_all-map is_natural (λ (r : StreamRow). r.out) streams ∙ list_all_weaker (is_row inputs) (λ r. is_natural r.out) (out_natural inputs) streams (streams_ranged inputs services e))
     (list_all-map is_natural (λ (s : ServicePartsValue). s.pmt) services ∙ list_all_weaker (is_service inputs) (λ s. is_natural s.pmt) (pmt_natural inputs) services e)) f)
 
+-- streams of different sources
+
+-- two rows of whole numbers that don't have one input and PID
+abbrev AreApart : StreamRow → StreamRow → Type 0
+AreApart a b = natural_of a.input ≡ natural_of b.input → natural_of a.pid ≢ natural_of b.pid
+
+input_natural : (inputs : ℕ) (z : ℤ) → is_place inputs z ≡ true → is_natural z ≡ true
+input_natural inputs (pos n) e = refl
+input_natural inputs (negsuc n) e = e
+
+source_natural : (inputs : ℕ) (r : StreamRow) → is_row inputs r ≡ true → (is_natural r.input ≡ true) × (is_natural r.pid ≡ true)
+source_natural inputs r e =
+    let a = and_parts (is_place inputs r.input) ((is_pid r.pid && is_pid r.out) && is_between MIN_LEAK MAX_LEAK r.leak) e in
+    let b = and_parts (is_pid r.pid && is_pid r.out) (is_between MIN_LEAK MAX_LEAK r.leak) a.1 in
+    (input_natural inputs r.input a.0, natural_between FIRST_PID LAST_PID r.pid (and_parts (is_pid r.pid) (is_pid r.out) b.0).0)
+
+apart : (inputs : ℕ) (a b : StreamRow) → is_row inputs a ≡ true → is_row inputs b ≡ true → has_same_source a b ≡ false → AreApart a b
+apart inputs a b e f differ same_input same_pid =
+    let x = source_natural inputs a e in
+    let y = source_natural inputs b f in
+    false≢true
+    (sym differ
+    ∙ and_from (int_eq a.input b.input) (int_eq a.pid b.pid) (same_int a.input b.input x.0 y.0 same_input) (same_int a.pid b.pid x.1 y.1 same_pid))
+
+kept_apart : (inputs : ℕ) (r x : StreamRow) (rest : List StreamRow) (s : Bool) → has_same_source r x ≡ s → is_row inputs r ≡ true → is_row inputs x ≡ true
+    → All (AreApart r) rest → All (AreApart r) (cond (not s) (x ∷ rest) rest)
+kept_apart inputs r x rest true same e f more = more
+kept_apart inputs r x rest false differ e f more = All-cons (AreApart r) x rest (apart inputs r x e f differ) more
+
+rest_apart : (inputs : ℕ) (r : StreamRow) (rows : List StreamRow) → is_row inputs r ≡ true → list_all (is_row inputs) rows ≡ true → All (AreApart r) (filter (λ other. not (has_same_source r other)) rows)
+rest_apart inputs r [] e f = All-nil (AreApart r)
+rest_apart inputs r (x ∷ rows) e f =
+    let both = and_parts (is_row inputs x) (list_all (is_row inputs) rows) f in
+    kept_apart inputs r x (filter (λ other. not (has_same_source r other)) rows) (has_same_source r x) refl e both.0 (rest_apart inputs r rows e both.1)
+
+rows_apart : (inputs : ℕ) (rows : List StreamRow) → list_all (is_row inputs) rows ≡ true → AllPairs AreApart (without_repeats rows)
+unfolding without_repeats
+rows_apart inputs [] e = λ i j d l m. absurd (omega arith)
+rows_apart inputs (r ∷ rows) e =
+    let both = and_parts (is_row inputs r) (list_all (is_row inputs) rows) e in
+    AllPairs-cons AreApart r (filter (λ other. not (has_same_source r other)) (without_repeats rows))
+    (rest_apart inputs r (without_repeats rows) both.0 (kept_rows (is_row inputs) rows both.1))
+    (AllPairs-filter AreApart (λ other. not (has_same_source r other)) (without_repeats rows) (rows_apart inputs rows both.1))
+
+streams_apart : (inputs : ℕ) (services : List ServicePartsValue) → list_all (is_service inputs) services ≡ true
+    → AllPairs (λ (a b : Stream). a.input ≡ b.input → a.pid ≢ b.pid) (map stream_of (stream_rows_of services))
+streams_apart inputs services e =
+    all_pairs-map (λ (a b : Stream). a.input ≡ b.input → a.pid ≢ b.pid) stream_of (stream_rows_of services) (record { input = pos 0; pid = pos 0; out = pos 0; leak = pos 0 })
+    (rows_apart inputs (rows_of services) (rows_ranged inputs services e))
+
 -- what no fault tells
 
 pub record IsFaultless (p : PartsValue) : Type 0 where
@@ -319,6 +370,7 @@ request_is p e =
       stream_count = subst (IsBetween 1 MAX_STREAMS) (sym streams_length) (count_between 1 MAX_STREAMS (length streams) f.ranged.few_streams);
       streams = subst (λ (n : ℕ). All (IsStream n) (map stream_of streams)) (sym inputs_length)
           (all_from (is_row (length p.inputs)) stream_of (IsStream (length p.inputs)) (stream_is (length p.inputs)) streams (streams_ranged (length p.inputs) p.services lists.services));
+      one_stream_a_source = streams_apart (length p.inputs) p.services lists.services;
       one_service_a_number = numbers_apart streams (length p.inputs) p.services lists.services f.services;
       one_use_an_output_pid = pids_apart (length p.inputs) p.services lists.services (no_output_twice p f.pids);
     }

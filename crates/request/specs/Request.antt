@@ -203,6 +203,8 @@ pub record IsRequest (r : RequestValue) : Type 0 where
   pub services : All (IsService (length r.inputs) (length r.streams)) r.services
   pub stream_count : IsBetween 1 MAX_STREAMS (length r.streams)
   pub streams : All (IsStream (length r.inputs)) r.streams
+  -- no two streams have one input and PID
+  pub one_stream_a_source : AllPairs (λ (a b : Stream). a.input ≡ b.input → a.pid ≢ b.pid) r.streams
   -- no number of a service is there twice, and no output PID
   pub one_service_a_number : AllPairs (λ a b. a ≢ b) (map (λ (s : ServiceValue). s.service) r.services)
   pub one_use_an_output_pid : AllPairs (λ a b. a ≢ b) (map (λ (s : Stream). s.output_pid) r.streams ++ map (λ (s : ServiceValue). s.pmt) r.services)

@@ -5,6 +5,7 @@
 #![tactic(auto)]
 
 mod build;
+mod copies;
 mod input;
 mod input_parts;
 mod judge;

@@ -1,6 +1,7 @@
 //! A plan in numbers, without fault.
 
 use crate::build::{make_inputs, make_services, make_settings, make_streams};
+use crate::copies::{copy_inputs, copy_services};
 use crate::input::Input;
 use crate::judge::judge;
 use crate::parts::Parts;
@@ -8,7 +9,7 @@ use crate::plan_fault::PlanFault;
 use crate::service::Service;
 use crate::settings::Settings;
 use crate::stream::Stream;
-use std::alloc::Global;
+use std::alloc::{AllocError, Global};
 use std::marker::Model;
 
 /// What a user asks for: which services of which inputs go into the multiplex, each number in its range, and no number
@@ -81,6 +82,20 @@ impl Request {
     {
         let parts = Parts::read(alloc, text)?;
         Request::new(alloc, parts)
+    }
+
+    /// An equal request. It is refused only for want of memory.
+    pub fn copy(&self, alloc: Global) -> Result<Request, AllocError>
+        ensures { IfOk result (λ r. r ≡ self.now) }
+    {
+        Ok(Request {
+            settings: self.settings,
+            network_name: String::from_str(alloc, self.network_name.as_str())?,
+            transport_descriptors: self.transport_descriptors.to_vec(alloc)?,
+            inputs: copy_inputs(alloc, &self.inputs)?,
+            services: copy_services(alloc, &self.services)?,
+            streams: self.streams.to_vec(alloc)?,
+        })
     }
 
     /// The rate of the multiplex, in bits a second, 500,000 to 100,000,000.

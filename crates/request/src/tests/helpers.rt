@@ -1,28 +1,43 @@
 //! Parts and texts that the tests share.
 
-use crate::{InputParts, Parts, ServiceParts, StreamParts};
+use crate::{InputParts, Parts, PlanFault, Request, ServiceParts, StreamParts};
 use std::alloc::{AllocError, Global};
 
-/// The example plan up to its lists.
-pub const TOP: &str =
-    "rate = 1504000\nperiod = 100\nwatch = 1000\nversion = 0\nqueue = 64\nring = 64
-transport_stream_id = 1\noriginal_network_id = 2\nnetwork_id = 3\n";
-/// Its texts.
-pub const NAMES: &str = "network_name = \"N\"\ntransport_descriptors = \"\"\n";
-/// Its input.
-pub const INPUT: &str = "[[input]]\nfile = \"x.ts\"\nrate = 1504000\noffset = 0\n";
-/// Its service.
-pub const SERVICE: &str = "[[service]]\ninput = 0\nprogram = 100\nservice = 500\npmt = 256\n";
-/// The service's stream.
-pub const STREAM: &str = "[[service.stream]]\npid = 257\nout = 512\nleak = 2000000\n";
+/// The example plan.
+pub const EXAMPLE: &str = "rate = 1504000
+period = 100
+watch = 1000
+version = 0
+queue = 64
+ring = 64
+transport_stream_id = 1
+original_network_id = 2
+network_id = 3
+network_name = \"N\"
+transport_descriptors = \"\"
+[[input]]
+file = \"x.ts\"
+rate = 1504000
+offset = 0
+[[service]]
+input = 0
+program = 100
+service = 500
+pmt = 256
+[[service.stream]]
+pid = 257
+out = 512
+leak = 2000000
+";
 
-/// The pieces, one behind the other.
-pub fn join(alloc: Global, pieces: &[&str]) -> Result<String, AllocError> {
-    let mut text = String::new(alloc);
-    for piece in pieces {
-        text.push_str(piece)?;
-    }
-    Ok(text)
+/// The request that a text writes.
+pub fn read(alloc: Global, text: &str) -> Result<Request, PlanFault> {
+    Request::read(alloc, text)
+}
+
+/// The fault of parts.
+pub fn fault(alloc: Global, parts: Parts) -> Option<PlanFault> {
+    Request::new(alloc, parts).err()
 }
 
 /// A stream's row.
@@ -55,10 +70,8 @@ pub fn input(alloc: Global) -> Result<InputParts, AllocError> {
     })
 }
 
-/// The parts of a plan of one input, without services.
-pub fn no_services(alloc: Global) -> Result<Parts, AllocError> {
-    let mut inputs = Vec::new(alloc);
-    inputs.push(input(alloc)?)?;
+/// The parts of a plan without inputs and services.
+pub fn no_lists(alloc: Global) -> Result<Parts, AllocError> {
     Ok(Parts {
         rate: 1_504_000,
         period: 100,
@@ -71,15 +84,41 @@ pub fn no_services(alloc: Global) -> Result<Parts, AllocError> {
         network_id: 3,
         network_name: String::from_str(alloc, "N")?,
         transport_descriptors: Vec::new(alloc),
-        inputs,
+        inputs: Vec::new(alloc),
         services: Vec::new(alloc),
     })
 }
 
 /// The parts of the example plan.
 pub fn example(alloc: Global) -> Result<Parts, AllocError> {
-    let mut parts = no_services(alloc)?;
+    let mut parts = no_lists(alloc)?;
     let streams = [stream(257, 512, 2_000_000)];
+    parts.inputs.push(input(alloc)?)?;
     parts.services.push(service(alloc, 500, 256, &streams)?)?;
     Ok(parts)
+}
+
+/// The numbers of the inputs behind the lengths of their names, of the services with the numbers of their streams, and of the streams.
+pub fn rows(alloc: Global, request: &Request) -> Result<Vec<u64>, AllocError> {
+    let mut rows = Vec::new(alloc);
+    for input in request.inputs() {
+        rows.extend_from_slice(&[input.file.len() as u64, input.rate, input.offset])?;
+    }
+    for service in request.services() {
+        rows.push(service.input as u64)?;
+        for number in [service.program, service.service, service.pmt] {
+            rows.push(u64::from(number))?;
+        }
+        for number in &service.streams {
+            rows.push(*number as u64)?;
+        }
+    }
+    for stream in request.streams() {
+        rows.push(stream.input as u64)?;
+        for pid in [stream.pid, stream.output_pid] {
+            rows.push(u64::from(pid))?;
+        }
+        rows.push(stream.leak)?;
+    }
+    Ok(rows)
 }

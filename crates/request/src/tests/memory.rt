@@ -1,30 +1,23 @@
-//! Want of memory: a plan without fault is read, or there was no memory. `rt try --test --fail-alloc N` refuses
-//! allocation N; with none refused the plan is read.
+//! Want of memory: a plan without fault is read and copied, or there was no memory. `rt try --test --fail-alloc N` refuses
+//! allocation N; with none refused the plan is read and copied.
 
-use crate::tests::helpers::{INPUT, NAMES, SERVICE, STREAM, TOP, join};
-use crate::{PlanFault, Request};
-use std::alloc::{AllocError, Global};
-use std::test::Fail;
-
-/// The example plan's text, again where memory was refused.
-fn text(alloc: Global) -> Result<String, AllocError> {
-    let pieces = [TOP, NAMES, INPUT, SERVICE, STREAM];
-    match join(alloc, &pieces) {
-        Ok(text) => Ok(text),
-        Err(_) => join(alloc, &pieces),
-    }
-}
+use crate::PlanFault;
+use crate::tests::helpers::{EXAMPLE, read};
+use std::alloc::AllocError;
 
 #[test]
-fn want_of_memory_is_told(rt: HostRuntime) -> Result<(), Fail> {
-    let text = text(rt.alloc())?;
-    let request = match Request::read(rt.alloc(), text.as_str()) {
+fn want_of_memory_is_told(rt: HostRuntime) -> Result<(), PlanFault> {
+    let request = match read(rt.alloc(), EXAMPLE) {
         Ok(request) => request,
         Err(fault) => {
             assert_eq!(rt; fault, PlanFault::Memory);
-            Request::read(rt.alloc(), text.as_str())?
+            read(rt.alloc(), EXAMPLE)?
         }
     };
-    assert_eq!(rt; request.streams().len(), 1);
+    let copy = match request.copy(rt.alloc()) {
+        Ok(copy) => copy,
+        Err(AllocError) => request.copy(rt.alloc())?,
+    };
+    assert_eq!(rt; copy.streams(), request.streams());
     Ok(())
 }

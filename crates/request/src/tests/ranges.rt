@@ -1,10 +1,8 @@
 //! The limits of the ranges, on both sides.
 
-use crate::tests::helpers::{example, input, no_services, service, stream};
-use crate::{Parts, PlanFault, Request};
+use crate::tests::helpers::{example, fault, input, no_lists, service, stream};
+use crate::{Parts, PlanFault};
 use std::alloc::{AllocError, Global};
-use std::process::Abort;
-use std::test::Fail;
 
 /// A number of a plan.
 #[derive(Clone, Copy, Debug)]
@@ -23,9 +21,9 @@ enum Key {
     Leak,
 }
 
-/// The example plan with another number.
+/// The example plan with another number, and another input behind its own.
 fn changed(alloc: Global, key: Key, number: i64) -> Result<Parts, AllocError> {
-    let mut parts = no_services(alloc)?;
+    let mut parts = no_lists(alloc)?;
     let mut first = input(alloc)?;
     let mut row = stream(257, 512, 2_000_000);
     let mut only = service(alloc, 500, 256, &[])?;
@@ -46,11 +44,12 @@ fn changed(alloc: Global, key: Key, number: i64) -> Result<Parts, AllocError> {
     only.streams.push(row)?;
     parts.services.push(only)?;
     parts.inputs.push(first)?;
+    parts.inputs.push(input(alloc)?)?;
     Ok(parts)
 }
 
 #[test]
-fn ends_of_ranges(rt: HostRuntime) -> Result<(), Fail> {
+fn ends_of_ranges(rt: HostRuntime) -> Result<(), PlanFault> {
     let out = Some(PlanFault::OutOfRange);
     for (key, below, least, most, above) in [
         (Key::Rate, 499_999, 500_000, 100_000_000, 100_000_001),
@@ -67,123 +66,110 @@ fn ends_of_ranges(rt: HostRuntime) -> Result<(), Fail> {
         (Key::Leak, 999, 1_000, 100_000_000, 100_000_001),
     ] {
         for (number, wanted) in [(below, out), (least, None), (most, None), (above, out)] {
-            let told = Request::new(rt.alloc(), changed(rt.alloc(), key, number)?).err();
+            let told = fault(rt.alloc(), changed(rt.alloc(), key, number)?);
             assert_eq!(rt; told, wanted, "{key:?} {number}");
         }
     }
     Ok(())
 }
 
-/// The fault of a service of so many streams.
-fn fault_of_streams(alloc: Global, count: u8) -> Result<Option<PlanFault>, AllocError> {
-    let mut parts = no_services(alloc)?;
-    let mut only = service(alloc, 500, 256, &[])?;
-    for place in 0..count {
-        let place = i64::from(place);
-        only.streams
-            .push(stream(0x20 + place, 0x200 + place, 1_000))?;
+/// The fault of a plan of so many inputs and services, where the first service has so many streams.
+fn fault_of_counts(
+    alloc: Global,
+    inputs: u8,
+    services: u8,
+    streams: u8,
+) -> Result<Option<PlanFault>, AllocError> {
+    let mut parts = no_lists(alloc)?;
+    let mut rows = Vec::new(alloc);
+    for _ in 0..inputs {
+        parts.inputs.push(input(alloc)?)?;
     }
-    parts.services.push(only)?;
-    Ok(Request::new(alloc, parts).err())
+    for place in 0..streams {
+        let place = i64::from(place);
+        rows.push(stream(0x20 + place, 0x200 + place, 1_000))?;
+    }
+    for place in 0..services {
+        let place = i64::from(place);
+        let next = service(alloc, 1 + place, 0x20 + place, rows.as_slice())?;
+        parts.services.push(next)?;
+        rows.clear();
+    }
+    Ok(fault(alloc, parts))
 }
 
 #[test]
-fn counts_of_streams(rt: HostRuntime) -> Result<(), Fail> {
-    assert_eq!(rt; fault_of_streams(rt.alloc(), 64)?, None);
-    assert_eq!(rt;
-        fault_of_streams(rt.alloc(), 65)?,
-        Some(PlanFault::OutOfRange)
-    );
+fn counts(rt: HostRuntime) -> Result<(), PlanFault> {
+    let out = Some(PlanFault::OutOfRange);
+    for (inputs, services, streams, wanted) in [
+        (0, 1, 1, out),
+        (8, 1, 1, None),
+        (9, 1, 1, out),
+        (1, 0, 0, out),
+        (1, 16, 1, None),
+        (1, 17, 1, out),
+        (1, 1, 0, out),
+        (1, 1, 64, None),
+        (1, 1, 65, out),
+    ] {
+        let told = fault_of_counts(rt.alloc(), inputs, services, streams)?;
+        assert_eq!(rt; told, wanted, "{inputs} {services} {streams}");
+    }
     Ok(())
 }
 
-/// The fault of descriptors of 180 bytes each, and one of so many.
-fn fault_of_descriptors(alloc: Global, last: u8) -> Result<Option<PlanFault>, AllocError> {
+/// The fault of four descriptors of 180 bytes each, and one of so many more, with some bytes cut off.
+fn fault_of_descriptors(
+    alloc: Global,
+    last: u8,
+    cut: usize,
+) -> Result<Option<PlanFault>, AllocError> {
     let mut parts = example(alloc)?;
     for count in [178, 178, 178, 178, last] {
-        parts.transport_descriptors.push(0x41)?;
-        parts.transport_descriptors.push(count)?;
+        parts
+            .transport_descriptors
+            .extend_from_slice(&[0x41, count])?;
         for _ in 0..count {
             parts.transport_descriptors.push(0)?;
         }
     }
-    Ok(Request::new(alloc, parts).err())
+    let length = parts.transport_descriptors.len().saturating_sub(cut);
+    parts.transport_descriptors.truncate(length);
+    Ok(fault(alloc, parts))
 }
 
 #[test]
-fn sizes_of_descriptors(rt: HostRuntime) -> Result<(), Fail> {
+fn sizes_of_descriptors(rt: HostRuntime) -> Result<(), PlanFault> {
     let out = Some(PlanFault::OutOfRange);
-    assert_eq!(rt; fault_of_descriptors(rt.alloc(), 178)?, None);
-    assert_eq!(rt; fault_of_descriptors(rt.alloc(), 179)?, out);
-    let mut parts = example(rt.alloc())?;
-    parts.transport_descriptors.push(0x41)?;
-    assert_eq!(rt; Request::new(rt.alloc(), parts).err(), out);
+    for (last, cut, wanted) in [(178, 0, None), (179, 0, out), (178, 1, out)] {
+        let told = fault_of_descriptors(rt.alloc(), last, cut)?;
+        assert_eq!(rt; told, wanted, "{last} {cut}");
+    }
     Ok(())
 }
 
-/// The fault of a network's name.
-fn fault_of_name(alloc: Global, name: &str) -> Result<Option<PlanFault>, AllocError> {
+/// The fault of a network's name: so many times the letters.
+fn fault_of_name(alloc: Global, count: u8, letters: &str) -> Result<Option<PlanFault>, AllocError> {
     let mut parts = example(alloc)?;
-    parts.network_name = String::from_str(alloc, name)?;
-    Ok(Request::new(alloc, parts).err())
-}
-
-/// A text of 8 letters.
-const EIGHT: &str = "a b~c de";
-
-#[test]
-fn names_of_networks(rt: HostRuntime) -> Result<(), Fail> {
-    let out = Some(PlanFault::OutOfRange);
-    let mut name = String::new(rt.alloc());
-    assert_eq!(rt; fault_of_name(rt.alloc(), name.as_str())?, out);
-    for _ in 0..8 {
-        name.push_str(EIGHT)?;
+    parts.network_name.clear();
+    for _ in 0..count {
+        parts.network_name.push_str(letters)?;
     }
-    assert_eq!(rt; fault_of_name(rt.alloc(), name.as_str())?, None);
-    name.push_str("a")?;
-    assert_eq!(rt; fault_of_name(rt.alloc(), name.as_str())?, out);
-    assert_eq!(rt; fault_of_name(rt.alloc(), "a\n")?, out);
-    assert_eq!(rt; fault_of_name(rt.alloc(), "ü")?, out);
-    Ok(())
-}
-
-/// The fault of a plan of so many inputs.
-fn fault_of_inputs(alloc: Global, more: u8) -> Result<Option<PlanFault>, AllocError> {
-    let mut parts = example(alloc)?;
-    for _ in 0..more {
-        parts.inputs.push(input(alloc)?)?;
-    }
-    Ok(Request::new(alloc, parts).err())
-}
-
-/// The fault of a plan of so many services.
-fn fault_of_services(alloc: Global, more: u8) -> Result<Option<PlanFault>, AllocError> {
-    let mut parts = example(alloc)?;
-    for place in 0..more {
-        let place = i64::from(place);
-        parts
-            .services
-            .push(service(alloc, 1 + place, 0x20 + place, &[])?)?;
-    }
-    Ok(Request::new(alloc, parts).err())
-}
-
-/// Compares a fault.
-fn is(rt: &impl Abort, told: Option<PlanFault>, wanted: Option<PlanFault>) {
-    assert_eq!(rt; told, wanted);
+    Ok(fault(alloc, parts))
 }
 
 #[test]
-fn counts_of_inputs_and_services(rt: HostRuntime) -> Result<(), Fail> {
+fn names_of_networks(rt: HostRuntime) -> Result<(), PlanFault> {
     let out = Some(PlanFault::OutOfRange);
-    is(&rt, fault_of_inputs(rt.alloc(), 7)?, None);
-    is(&rt, fault_of_inputs(rt.alloc(), 8)?, out);
-    is(&rt, fault_of_services(rt.alloc(), 15)?, None);
-    is(&rt, fault_of_services(rt.alloc(), 16)?, out);
-    is(
-        &rt,
-        Request::new(rt.alloc(), no_services(rt.alloc())?).err(),
-        out,
-    );
+    for (count, letters, wanted) in [
+        (0, "a", out),
+        (8, "a b~c de", None),
+        (65, "a", out),
+        (1, "a\n", out),
+        (1, "ü", out),
+    ] {
+        let told = fault_of_name(rt.alloc(), count, letters)?;
+        assert_eq!(rt; told, wanted, "{count} {letters}");
+    }
     Ok(())
 }

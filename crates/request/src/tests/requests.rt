@@ -1,14 +1,8 @@
 //! Numbers and PIDs that are used twice, and the order of the faults.
 
-use crate::tests::helpers::{example, no_services, service, stream};
+use crate::tests::helpers::{example, fault, rows, service, stream};
 use crate::{Parts, PlanFault, Request, StreamParts};
 use std::alloc::{AllocError, Global};
-use std::test::Fail;
-
-/// The fault of the parts.
-fn fault(alloc: Global, parts: Parts) -> Option<PlanFault> {
-    Request::new(alloc, parts).err()
-}
 
 /// A plan of two services of one input.
 fn two(alloc: Global, second: i64, pmt: i64, streams: &[StreamParts]) -> Result<Parts, AllocError> {
@@ -18,18 +12,15 @@ fn two(alloc: Global, second: i64, pmt: i64, streams: &[StreamParts]) -> Result<
 }
 
 #[test]
-fn faults_of_two_services(rt: HostRuntime) -> Result<(), Fail> {
+fn faults_of_two_services(rt: HostRuntime) -> Result<(), PlanFault> {
+    let number = Some(PlanFault::ServiceTaken);
     let taken = Some(PlanFault::PidTaken);
-    for (number, pmt, row, wanted) in [
+    let out = Some(PlanFault::OutOfRange);
+    for (second, pmt, row, wanted) in [
         (501, 300, stream(258, 513, 1_000), None),
         // one stream of both services
         (501, 300, stream(257, 512, 2_000_000), None),
-        (
-            500,
-            300,
-            stream(258, 513, 1_000),
-            Some(PlanFault::ServiceTaken),
-        ),
+        (500, 300, stream(258, 513, 1_000), number),
         // an output PID of two streams, of a stream and a PMT, and of two PMTs
         (501, 300, stream(258, 512, 1_000), taken),
         (501, 300, stream(258, 256, 1_000), taken),
@@ -39,58 +30,47 @@ fn faults_of_two_services(rt: HostRuntime) -> Result<(), Fail> {
         (501, 300, stream(257, 512, 2_000_001), taken),
         (501, 300, stream(257, 513, 2_000_000), taken),
         // the lesser of two faults
-        (
-            500,
-            256,
-            stream(258, 513, 1_000),
-            Some(PlanFault::ServiceTaken),
-        ),
-        (500, 256, stream(258, 513, 999), Some(PlanFault::OutOfRange)),
-        (501, 256, stream(258, 513, 999), Some(PlanFault::OutOfRange)),
-        (500, 300, stream(258, 513, 999), Some(PlanFault::OutOfRange)),
+        (500, 256, stream(258, 513, 1_000), number),
+        (500, 256, stream(258, 513, 999), out),
+        (501, 256, stream(258, 513, 999), out),
+        (500, 300, stream(258, 513, 999), out),
     ] {
-        let parts = two(rt.alloc(), number, pmt, &[row])?;
-        assert_eq!(rt; fault(rt.alloc(), parts), wanted, "{number} {pmt} {row:?}");
+        let told = fault(rt.alloc(), two(rt.alloc(), second, pmt, &[row])?);
+        assert_eq!(rt; told, wanted, "{second} {pmt} {row:?}");
     }
     Ok(())
 }
 
+/// A service may have no stream, and not two of one PID.
 #[test]
-fn one_pid_twice_in_a_service(rt: HostRuntime) -> Result<(), Fail> {
+fn streams_of_the_second_service(rt: HostRuntime) -> Result<(), PlanFault> {
     let row = stream(258, 513, 1_000);
-    let parts = two(rt.alloc(), 501, 300, &[row, row])?;
-    assert_eq!(rt; fault(rt.alloc(), parts), Some(PlanFault::PidTaken));
-    Ok(())
-}
-
-#[test]
-fn a_shared_stream_has_one_number(rt: HostRuntime) -> Result<(), Fail> {
-    let rows = [stream(258, 513, 1_000), stream(257, 512, 2_000_000)];
-    let request = Request::new(rt.alloc(), two(rt.alloc(), 501, 300, &rows)?)?;
-    assert_eq!(rt; request.streams().len(), 2);
-    let mut numbers = Vec::new(rt.alloc());
-    for service in request.services() {
-        numbers.extend_from_slice(service.streams.as_slice())?;
+    for (rows, wanted) in [
+        ([].as_slice(), None),
+        ([row, row].as_slice(), Some(PlanFault::PidTaken)),
+    ] {
+        let told = fault(rt.alloc(), two(rt.alloc(), 501, 300, rows)?);
+        assert_eq!(rt; told, wanted);
     }
-    assert_eq!(rt; numbers.as_slice(), [0, 1, 0].as_slice());
     Ok(())
 }
 
 #[test]
-fn a_service_may_have_no_stream(rt: HostRuntime) -> Result<(), Fail> {
-    let parts = two(rt.alloc(), 501, 300, &[])?;
-    assert_eq!(rt; fault(rt.alloc(), parts), None);
-    let mut parts = no_services(rt.alloc())?;
-    parts.services.push(service(rt.alloc(), 500, 256, &[])?)?;
-    assert_eq!(rt; fault(rt.alloc(), parts), Some(PlanFault::OutOfRange));
+fn a_shared_stream_has_one_number(rt: HostRuntime) -> Result<(), PlanFault> {
+    let rows_of_second = [stream(258, 513, 1_000), stream(257, 512, 2_000_000)];
+    let request = Request::new(rt.alloc(), two(rt.alloc(), 501, 300, &rows_of_second)?)?;
+    let wanted = [
+        4, 1_504_000, 0, 0, 100, 500, 256, 0, 0, 100, 501, 300, 1, 0, 0, 257, 512, 2_000_000, 0,
+        258, 513, 1_000,
+    ];
+    assert_eq!(rt; rows(rt.alloc(), &request)?.as_slice(), wanted.as_slice());
     Ok(())
 }
 
 #[test]
-fn faults_have_numbers_and_texts(rt: HostRuntime) -> Result<(), Fail> {
-    assert_eq!(rt; PlanFault::BadText.number(), 1);
-    assert_eq!(rt; PlanFault::Memory.number(), 13);
-    let text = format!(in rt.alloc(); "{}", PlanFault::ServiceTaken)?;
-    assert_eq!(rt; text.as_str(), "two services have one number");
+fn faults_have_numbers_and_texts(rt: HostRuntime) -> Result<(), PlanFault> {
+    let fault = PlanFault::ServiceTaken;
+    let text = format!(in rt.alloc(); "{}: {fault}", fault.number())?;
+    assert_eq!(rt; text.as_str(), "3: two services have one number");
     Ok(())
 }

@@ -1,99 +1,74 @@
 //! Texts, read and refused.
 
-use crate::tests::helpers::{INPUT, NAMES, SERVICE, STREAM, TOP, join};
-use crate::{PlanFault, Request, Stream};
-use std::alloc::Global;
-use std::process::Abort;
-use std::test::Fail;
+use crate::tests::helpers::{EXAMPLE, read, rows};
+use crate::{PlanFault, Request};
+use std::alloc::{AllocError, Global};
 
-/// The fault of the pieces, one behind the other.
-fn fault(alloc: Global, pieces: &[&str]) -> Result<Option<PlanFault>, Fail> {
-    let text = join(alloc, pieces)?;
-    Ok(Request::read(alloc, text.as_str()).err())
+/// The rates and periods.
+fn rates(request: &Request) -> [u64; 3] {
+    [request.rate(), request.period(), request.watch()]
 }
 
-/// The numbers of the example plan.
-fn has_example_numbers(rt: &impl Abort, request: &Request) {
-    assert_eq!(rt; request.rate(), 1_504_000);
-    assert_eq!(rt; (request.period(), request.watch()), (100, 1_000));
-    assert_eq!(rt; (request.queue(), request.ring()), (64, 64));
-    assert_eq!(rt; request.version(), 0);
-    assert_eq!(rt; request.transport_stream_id(), 1);
-    assert_eq!(rt; request.original_network_id(), 2);
-    assert_eq!(rt; request.network_id(), 3);
-    assert_eq!(rt; request.network_name(), "N");
-    assert!(rt; request.transport_descriptors().is_empty());
+/// The other numbers at the top, and how long the name and the descriptors are.
+fn sizes(request: &Request) -> [usize; 8] {
+    [
+        usize::from(request.version()),
+        request.queue(),
+        request.ring(),
+        usize::from(request.transport_stream_id()),
+        usize::from(request.original_network_id()),
+        usize::from(request.network_id()),
+        request.network_name().len(),
+        request.transport_descriptors().len(),
+    ]
 }
 
+/// The example plan, read and copied.
 #[test]
-fn example_plan(rt: HostRuntime) -> Result<(), Fail> {
-    let text = join(rt.alloc(), &[TOP, NAMES, INPUT, SERVICE, STREAM])?;
-    let request = Request::read(rt.alloc(), text.as_str())?;
-    has_example_numbers(&rt, &request);
-    for input in request.inputs() {
-        assert_eq!(rt; input.file.as_str(), "x.ts");
-        assert_eq!(rt; (input.rate, input.offset), (1_504_000, 0));
-    }
-    for service in request.services() {
-        assert_eq!(rt; (service.input, service.program), (0, 100));
-        assert_eq!(rt; (service.service, service.pmt), (500, 256));
-        assert_eq!(rt; service.streams.as_slice(), [0].as_slice());
-    }
-    let stream = Stream {
-        input: 0,
-        pid: 257,
-        output_pid: 512,
-        leak: 2_000_000,
-    };
-    assert_eq!(rt; request.streams(), [stream].as_slice());
-    assert_eq!(rt; (request.inputs().len(), request.services().len()), (1, 1));
+fn example_plan(rt: HostRuntime) -> Result<(), PlanFault> {
+    let request = read(rt.alloc(), EXAMPLE)?.copy(rt.alloc())?;
+    assert_eq!(rt; rates(&request), [1_504_000, 100, 1_000]);
+    assert_eq!(rt; sizes(&request), [0, 64, 64, 1, 2, 3, 1, 0]);
+    let rows = rows(rt.alloc(), &request)?;
+    let input = [4, 1_504_000, 0];
+    let service = [0, 100, 500, 256, 0];
+    let stream = [0, 257, 512, 2_000_000];
+    let wanted = [input.as_slice(), service.as_slice(), stream.as_slice()].concat(rt.alloc())?;
+    assert_eq!(rt; rows.as_slice(), wanted.as_slice());
     Ok(())
 }
 
+/// The fault of the example plan with another text in the place of one of its texts.
+fn fault(alloc: Global, old: &str, new: &str) -> Result<Option<PlanFault>, AllocError> {
+    let text = EXAMPLE.replace(alloc, old, new)?;
+    Ok(read(alloc, text.as_str()).err())
+}
+
+/// The faults of texts: bad ones, and numbers that are too large or negative.
 #[test]
-fn bad_texts(rt: HostRuntime) -> Result<(), Fail> {
+fn faults_of_texts(rt: HostRuntime) -> Result<(), PlanFault> {
     let bad = Some(PlanFault::BadText);
-    let names = "network_name = \"N\"\ntransport_descriptors = ";
-    for pieces in [
-        [TOP, NAMES, "=", INPUT],
-        [TOP, NAMES, "watch2 = 1\n", INPUT],
-        [TOP, names, "\"4\"\n", INPUT],
-        [TOP, names, "\"4 0\"\n", INPUT],
-        [TOP, names, "[]\n", INPUT],
-        [TOP, "network_name = 1\n", "", INPUT],
+    let out = Some(PlanFault::OutOfRange);
+    for (old, new, wanted) in [
+        ("offset = 0", "offset = 1", None),
+        ("offset = 0", "offset = 9223372036854775807", out),
+        ("offset = 0", "offset = -1", out),
+        ("offset = 0", "offset = 9223372036854775808", bad),
+        ("offset = 0", "offset = 1.0", bad),
+        ("offset = 0", "offset = true", bad),
+        ("offset = 0", "offset = 2026-01-01", bad),
+        ("offset = 0", "offset = \"1\"", bad),
+        ("offset = 0", "=", bad),
+        ("ring = 64", "ring = 64\nwatch2 = 1", bad),
+        ("\"\"", "\"4\"", bad),
+        ("\"\"", "\"4 0\"", bad),
+        ("\"\"", "[]", bad),
+        ("\"N\"", "1", bad),
+        ("[[service", "[[other", bad),
+        ("[[service.stream]]", "", bad),
     ] {
-        let [a, b, c, d] = pieces;
-        assert_eq!(rt;
-            fault(rt.alloc(), &[a, b, c, d, SERVICE, STREAM])?,
-            bad,
-            "{b} {c}"
-        );
-    }
-    assert_eq!(rt; fault(rt.alloc(), &[TOP, NAMES, INPUT])?, bad);
-    assert_eq!(rt; fault(rt.alloc(), &[TOP, NAMES, INPUT, SERVICE])?, bad);
-    Ok(())
-}
-
-#[test]
-fn numbers_too_large_are_no_bad_text(rt: HostRuntime) -> Result<(), Fail> {
-    for (offset, wanted) in [
-        ("1", None),
-        ("9223372036854775807", Some(PlanFault::OutOfRange)),
-        ("-1", Some(PlanFault::OutOfRange)),
-        ("9223372036854775808", Some(PlanFault::BadText)),
-        ("1.0", Some(PlanFault::BadText)),
-        ("true", Some(PlanFault::BadText)),
-        ("2026-01-01", Some(PlanFault::BadText)),
-        ("\"1\"", Some(PlanFault::BadText)),
-    ] {
-        let input = [
-            "[[input]]\nfile = \"x.ts\"\nrate = 1504000\noffset = ",
-            offset,
-            "\n",
-        ];
-        let [a, b, c] = input;
-        let told = fault(rt.alloc(), &[TOP, NAMES, a, b, c, SERVICE, STREAM])?;
-        assert_eq!(rt; told, wanted, "at {offset}");
+        let told = fault(rt.alloc(), old, new)?;
+        assert_eq!(rt; told, wanted, "with {new}");
     }
     Ok(())
 }
