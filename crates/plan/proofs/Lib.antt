@@ -1,4 +1,2 @@
-pub mod TestLaws
-pub mod ChoiceLaws
-pub mod FaultLaws
 pub mod StreamPlaceLaws
+pub mod BuildLaws

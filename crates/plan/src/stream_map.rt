@@ -48,6 +48,16 @@ impl StreamMap {
         Ok(StreamMap { inputs, numbers })
     }
 
+    /// An equal look-up. It fails only for want of memory.
+    pub fn copy(&self, alloc: Global) -> Result<StreamMap, AllocError>
+        ensures { IfOk result (λ map. map ≡ self.now) }
+    {
+        Ok(StreamMap {
+            inputs: self.inputs,
+            numbers: Vec::from_slice(alloc, &self.numbers)?,
+        })
+    }
+
     /// The number of the first stream with this PID of this input; none where there is no such
     /// stream, also for an input that isn't there and for a PID of 8,192 and more.
     pub fn find(&self, input: usize, pid: u16) -> Option<usize>

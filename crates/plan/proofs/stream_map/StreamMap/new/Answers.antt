@@ -1,4 +1,4 @@
-use Rattle.std.proofs.Common.{rules, arith, ◌≡◌, ◌+◌, ◌*◌, ℕ, List, Option, None, Some, length, get_or, length-set, ap, ◌∙◌}
+use Rattle.std.proofs.Common.{rules, arith, ◌≡◌, ◌+◌, ◌*◌, ℕ, List, Option, Some, get_or, length-set, ◌∙◌}
 use Rattle.std.specs.Option.{option_or}
 use Rattle.request.specs.declared.stream.Stream.{Stream}
 use Rattle.plan.proofs.StreamPlaceLaws.{put_next, finds_taken}

@@ -1,0 +1,9 @@
+pub mod CountLaws
+pub mod DescriptorsLaws
+pub mod GroupLaws
+pub mod ListLaws
+pub mod OutputLaws
+pub mod PacketLaws
+pub mod RoomLaws
+pub mod StreamLaws
+pub mod SdtCountLaws

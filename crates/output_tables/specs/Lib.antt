@@ -1,0 +1,4 @@
+pub mod Output
+pub mod OnPid
+pub mod Room
+pub mod TableSet

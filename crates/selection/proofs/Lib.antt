@@ -1,0 +1,4 @@
+pub mod TestLaws
+pub mod ChoiceLaws
+pub mod FaultLaws
+pub mod ServiceLaws

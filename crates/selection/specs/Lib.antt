@@ -1,0 +1,4 @@
+pub mod Chosen
+pub mod ChosenView
+pub mod ByNumber
+pub mod Faults
