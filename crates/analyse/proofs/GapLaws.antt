@@ -120,3 +120,23 @@ since_quiet watched mark count since off q s =
     (λ (p : watched count ≡ true). since_more watched mark count since true false p q s)
     (λ (p : watched count ≡ false). rw (off p) (since_more watched mark count since false false p q s))
     (cases_Bool (watched count))
+
+-- the same, where both what is watched and the marks agree on the numbers that were seen
+open_agree : (watched seen mark other : ℕ → Bool) (first count : ℕ) → first < count → ((k : ℕ) → k < count → watched k ≡ seen k) → ((k : ℕ) → k < count → mark k ≡ other k) → is_open watched mark first count ≡ is_open seen other first count
+unfolding is_open
+open_agree watched seen mark other first count h w e =
+    let a = e first h in
+    let b = each_same (first + 1) count (λ k. not (mark k)) (λ k. not (other k)) (λ k p q. ap not (e k q)) in
+    let c = each_same first count watched seen (λ k p q. w k q) in
+    rw (a, b, c) refl
+
+pub since_agree : (watched seen mark other : ℕ → Bool) (count : ℕ) (since : Option ℕ) → ((k : ℕ) → k < count → watched k ≡ seen k) → ((k : ℕ) → k < count → mark k ≡ other k) → IsSince watched mark count since → IsSince seen other count since
+since_agree watched seen mark other count None w e s = λ first h. sym (open_agree watched seen mark other first count h w e) ∙ s first h
+since_agree watched seen mark other count (Some first) w e s = (s.0, sym (open_agree watched seen mark other first count s.0 w e) ∙ s.1)
+
+-- a gap is told of what is seen up to its slot
+pub gap_agree : (limit : ℕ) (watched seen mark other : ℕ → Bool) (m : ℕ) → ((k : ℕ) → k < m + 1 → watched k ≡ seen k) → ((k : ℕ) → k < m + 1 → mark k ≡ other k) → is_gap_at limit watched mark m ≡ is_gap_at limit seen other m
+gap_agree limit watched seen mark other m w e =
+    gap_is limit watched mark m
+    ∙ ap (λ (b : Bool). nat_le limit m && b) (open_agree watched seen mark other (m - limit) (m + 1) (omega arith) w e)
+    ∙ sym (gap_is limit seen other m)

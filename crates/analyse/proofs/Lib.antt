@@ -8,3 +8,11 @@ pub mod SectionLaws
 pub mod PatWatchLaws
 pub mod TableIdLaws
 pub mod GapsLaws
+pub mod ProgramsLaws
+pub mod PmtLaws
+pub mod PmtWatchLaws
+pub mod PmtWatchesLaws
+pub mod WatchedLaws
+pub mod TablesLaws
+pub mod StreamLaws
+pub mod FaultsLaws

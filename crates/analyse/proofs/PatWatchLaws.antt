@@ -15,7 +15,10 @@ use Rattle.analyse.specs.Slots.{packets_in, is_packet}
 use Rattle.analyse.specs.Gaps.{is_gap_at}
 use Rattle.analyse.specs.Faults.{grew_at, pat_count, other_count, is_pat_mark, is_scrambled_at, is_pat_bad_at}
 use Rattle.analyse.specs.SlotReading.{IsReadAs}
-use Rattle.analyse.specs.PatWatching.{is_pat_in, is_other, is_other_in, is_scrambled, HasSeenPat}
+use Rattle.analyse.specs.PatWatching.{is_other, is_other_in, is_scrambled, HasSeenPat}
+use Rattle.tables.specs.InForce.{SectionValue}
+use Rattle.tables.specs.Pat.{PatValue}
+use Rattle.analyse.specs.ProgramsWatching.{ProgramsState, HasRows, is_pat_in, pats_in}
 use Rattle.analyse.specs.SectionWatching.{SectionState, HasSeenOnPid}
 use Rattle.analyse.specs.GapWatching.{GapState, HasSeenNumbers, IsSince}
 use Rattle.analyse.proofs.GapLaws.{since_same}
@@ -23,7 +26,7 @@ use Rattle.analyse.proofs.SlotLaws.{all_slots, new_slot}
 
 -- ---- growth
 
-grew_last : (count : List (List ℕ) → ℕ) (slots : List (List ℕ)) (x : List ℕ) → grew_at count (slots ++ x ∷ []) (length slots + 1) ≡ not (count (slots ++ x ∷ []) == count slots)
+pub grew_last : (count : List (List ℕ) → ℕ) (slots : List (List ℕ)) (x : List ℕ) → grew_at count (slots ++ x ∷ []) (length slots + 1) ≡ not (count (slots ++ x ∷ []) == count slots)
 grew_last count slots x =
     let n = length slots in
     let back : n + 1 - 1 ≡ n = omega arith in
@@ -32,7 +35,7 @@ grew_last count slots x =
     let front : take n (slots ++ x ∷ []) ≡ slots = take-append_seam slots (x ∷ []) in
     rw back (rw (some, all, front) refl)
 
-grew_before : (count : List (List ℕ) → ℕ) (slots : List (List ℕ)) (x : List ℕ) (k : ℕ) → k ≤ length slots → grew_at count (slots ++ x ∷ []) k ≡ grew_at count slots k
+pub grew_before : (count : List (List ℕ) → ℕ) (slots : List (List ℕ)) (x : List ℕ) (k : ℕ) → k ≤ length slots → grew_at count (slots ++ x ∷ []) k ≡ grew_at count slots k
 grew_before count slots x k h =
     let a = take-append-le k slots (x ∷ []) h in
     let b = take-append-le (k - 1) slots (x ∷ []) (omega arith) in
@@ -42,7 +45,7 @@ pub mark_before : (slots : List (List ℕ)) (x : List ℕ) (k : ℕ) → k ≤ l
 mark_before slots x k h = ap (λ (b : Bool). k == 0 || b) (grew_before pat_count slots x k h)
 
 -- a list that got longer got more than nothing
-longer : {X : Type 0} (xs ys zs : List X) → ys ≡ xs ++ zs → not (length ys == length xs) ≡ not (length zs == 0)
+pub longer : {X : Type 0} (xs ys zs : List X) → ys ≡ xs ++ zs → not (length ys == length xs) ≡ not (length zs == 0)
 longer xs ys zs e =
     let n = ap length e ∙ length-append xs zs in
     let same : (length xs + length zs == length xs) ≡ (length zs == 0) = grind (arith, nat_tests) in
@@ -61,17 +64,18 @@ kept_test : (test : List ℕ → Bool) (y : List ℕ) (ys : List (List ℕ)) (t 
 kept_test test y ys false b h = h
 kept_test test y ys true b h = some_more (length ys)
 
-pat_step : (o : Option (List ℕ)) (rest : List (List ℕ)) (b : Bool) → b ≡ not (length (filter_map pat_section_of rest) == 0) → (is_some (option_and_then pat_section_of o) || b) ≡ not (length (filter_map pat_section_of (cons_option o rest)) == 0)
-pat_step None rest b h = h
-pat_step (Some y) rest b h = kept_some (pat_section_of y) (filter_map pat_section_of rest) b h
+read_step : {V : Type 0} (read : List ℕ → Option V) (o : Option (List ℕ)) (rest : List (List ℕ)) (b : Bool) → b ≡ not (length (filter_map read rest) == 0) → (is_some (option_and_then read o) || b) ≡ not (length (filter_map read (cons_option o rest)) == 0)
+read_step read None rest b h = h
+read_step read (Some y) rest b h = kept_some (read y) (filter_map read rest) b h
 
 other_step : (o : Option (List ℕ)) (rest : List (List ℕ)) (b : Bool) → b ≡ not (length (filter (λ s. not (field s 0 8 == 0)) rest) == 0) → (is_other o || b) ≡ not (length (filter (λ s. not (field s 0 8 == 0)) (cons_option o rest)) == 0)
 other_step None rest b h = h
 other_step (Some y) rest b h = kept_test (λ s. not (field s 0 8 == 0)) y (filter (λ s. not (field s 0 8 == 0)) rest) (not (field y 0 8 == 0)) b h
 
-any_pat : (told : List Told) → list_any is_pat_in told ≡ not (length (filter_map pat_section_of (filter_map section_in told)) == 0)
-any_pat [] = refl
-any_pat (t ∷ told) = pat_step (section_in t) (filter_map section_in told) (list_any is_pat_in told) (any_pat told)
+-- whether something was told that is read as a table
+pub any_read : {V : Type 0} (read : List ℕ → Option V) (told : List Told) → list_any (λ t. is_some (option_and_then read (section_in t))) told ≡ not (length (filter_map read (filter_map section_in told)) == 0)
+any_read read [] = refl
+any_read read (t ∷ told) = read_step read (section_in t) (filter_map section_in told) (list_any (λ t. is_some (option_and_then read (section_in t))) told) (any_read read told)
 
 any_other : (told : List Told) → list_any is_other_in told ≡ not (length (filter (λ b. not (field b 0 8 == 0)) (filter_map section_in told)) == 0)
 any_other [] = refl
@@ -79,13 +83,14 @@ any_other (t ∷ told) = other_step (section_in t) (filter_map section_in told) 
 
 -- ---- together
 
+pats_last : (slots : List (List ℕ)) (x : List ℕ) (told : List Told) → sections_on 0x0000 (packets_in (slots ++ x ∷ [])) ≡ sections_on 0x0000 (packets_in slots) ++ filter_map section_in told → pat_sections (packets_in (slots ++ x ∷ [])) ≡ pat_sections (packets_in slots) ++ pats_in told
+pats_last slots x told e = ap (filter_map pat_section_of) e ∙ filter_map-append pat_section_of (sections_on 0x0000 (packets_in slots)) (filter_map section_in told)
+
 pub marked_last : (slots : List (List ℕ)) (x : List ℕ) (told : List Told) → sections_on 0x0000 (packets_in (slots ++ x ∷ [])) ≡ sections_on 0x0000 (packets_in slots) ++ filter_map section_in told → list_any is_pat_in told ≡ is_pat_mark (slots ++ x ∷ []) (length slots + 1)
 marked_last slots x told e =
     let some : (length slots + 1 == 0) ≡ false = grind (arith, nat_tests) in
-    let more : pat_sections (packets_in (slots ++ x ∷ [])) ≡ pat_sections (packets_in slots) ++ filter_map pat_section_of (filter_map section_in told) =
-    ap (filter_map pat_section_of) e ∙ filter_map-append pat_section_of (sections_on 0x0000 (packets_in slots)) (filter_map section_in told) in
-    any_pat told
-    ∙ sym (longer (pat_sections (packets_in slots)) (pat_sections (packets_in (slots ++ x ∷ []))) (filter_map pat_section_of (filter_map section_in told)) more)
+    any_read pat_section_of told
+    ∙ sym (longer (pat_sections (packets_in slots)) (pat_sections (packets_in (slots ++ x ∷ []))) (pats_in told) (pats_last slots x told e))
     ∙ sym (grew_last pat_count slots x)
     ∙ sym (ap (λ (b : Bool). b || grew_at pat_count (slots ++ x ∷ []) (length slots + 1)) some)
 
@@ -116,7 +121,7 @@ bad_last limit slots x told packet missed e r g =
 
 -- ---- the watch behind one more slot
 
-module _ (a new_a : SectionState) (g new_g : GapState) (b new_b : Bool) (slots : List (List ℕ)) (x : List ℕ) (count : ℕ) (told : List Told) (s : HasSeenPat (record { sections = a; gap = g; marked = b }) slots) (e : length slots ≡ count) (more : sections_on a.pid (packets_in (slots ++ x ∷ [])) ≡ sections_on a.pid (packets_in slots) ++ filter_map section_in told) where
+module _ (a new_a : SectionState) (g new_g : GapState) (b new_b : Bool) (p new_p : ProgramsState) (slots : List (List ℕ)) (x : List ℕ) (count : ℕ) (told : List Told) (s : HasSeenPat (record { sections = a; gap = g; marked = b; programs = p }) slots) (e : length slots ≡ count) (more : sections_on a.pid (packets_in (slots ++ x ∷ [])) ≡ sections_on a.pid (packets_in slots) ++ filter_map section_in told) where
   gap_now : HasSeenNumbers g (λ k. true) (is_pat_mark (slots ++ x ∷ [])) count
   gap_now = record {
     since = since_same (λ k. true) (is_pat_mark slots) (is_pat_mark (slots ++ x ∷ [])) count g.since
@@ -130,8 +135,8 @@ module _ (a new_a : SectionState) (g new_g : GapState) (b new_b : Bool) (slots :
   more_pat : sections_on 0x0000 (packets_in (slots ++ x ∷ [])) ≡ sections_on 0x0000 (packets_in slots) ++ filter_map section_in told
   more_pat = subst (λ (k : ℕ). sections_on k (packets_in (slots ++ x ∷ [])) ≡ sections_on k (packets_in slots) ++ filter_map section_in told) s.pid more
 
-  pub seen_pat : new_a.pid ≡ a.pid → HasSeenOnPid new_a (packets_in (slots ++ x ∷ [])) → ((watched mark : ℕ → Bool) → HasSeenNumbers g watched mark count → watched count ≡ true → mark count ≡ b → HasSeenNumbers new_g watched mark (count + 1)) → new_b ≡ list_any is_pat_in told → HasSeenPat (record { sections = new_a; gap = new_g; marked = new_b }) (slots ++ x ∷ [])
-  seen_pat pid seen each marked =
+  pub seen_pat : new_a.pid ≡ a.pid → HasSeenOnPid new_a (packets_in (slots ++ x ∷ [])) → ((watched mark : ℕ → Bool) → HasSeenNumbers g watched mark count → watched count ≡ true → mark count ≡ b → HasSeenNumbers new_g watched mark (count + 1)) → new_b ≡ list_any is_pat_in told → ((sections : List (SectionValue PatValue)) → HasRows p sections → HasRows new_p (sections ++ pats_in told)) → HasSeenPat (record { sections = new_a; gap = new_g; marked = new_b; programs = new_p }) (slots ++ x ∷ [])
+  seen_pat pid seen each marked rows =
       let size : count + 1 ≡ length (slots ++ x ∷ []) = ap (λ (k : ℕ). k + 1) (sym e) ∙ sym (length-append slots (x ∷ [])) in
       let behind = each (λ k. true) (is_pat_mark (slots ++ x ∷ [])) gap_now refl marked_now in
       record {
@@ -139,6 +144,7 @@ module _ (a new_a : SectionState) (g new_g : GapState) (b new_b : Bool) (slots :
         sections = seen;
         gap = subst (λ (k : ℕ). HasSeenNumbers new_g (λ j. true) (is_pat_mark (slots ++ x ∷ [])) k) size behind;
         marked = marked ∙ marked_last slots x told more_pat ∙ ap (is_pat_mark (slots ++ x ∷ [])) (sym (length-append slots (x ∷ [])));
+        programs = subst (HasRows new_p) (sym (pats_last slots x told more_pat)) (rows (pat_sections (packets_in slots)) s.programs);
       }
 
   pub bad_pat : (missed : Bool) (packet : Option (List ℕ)) → IsReadAs x packet → ((watched mark : ℕ → Bool) → HasSeenNumbers g watched mark count → watched count ≡ true → mark count ≡ b → missed ≡ is_gap_at g.limit watched mark count) → ((missed || list_any is_other_in told) || is_scrambled packet) ≡ is_pat_bad_at g.limit (slots ++ x ∷ []) count

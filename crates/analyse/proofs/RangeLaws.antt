@@ -1,8 +1,9 @@
 -- Tests of each, or of some, number of a range.
-use Rattle.std.proofs.Common.{◌≡◌, ℕ, zero, suc, ◌+◌, ◌-◌, ◌<◌, ◌≤◌, refl, sym, ◌∙◌, ap, arith, Bool, true, false, ◌&&◌, ◌||◌, ⊎_elim}
+use Rattle.std.proofs.Common.{◌≡◌, List, ◌++◌, append_assoc, ℕ, zero, suc, ◌+◌, ◌-◌, ◌<◌, ◌≤◌, refl, sym, ◌∙◌, ap, arith, Bool, true, false, ◌&&◌, ◌||◌, ⊎_elim}
 use Rattle.std.proofs.Math.Bool.{and_assoc, or_assoc}
 use Rattle.std.proofs.lemmas.Bool.{and_parts, cases_lt}
-use Rattle.std.specs.List.{list_any, list_all, range_with_len}
+use Rattle.std.specs.List.{flat_map, list_any, list_all, range_with_len}
+use Rattle.std.proofs.lemmas.List.{append-nil}
 use Rattle.analyse.specs.Slots.{each_from, some_from}
 
 pub and_true : (x : Bool) → (x && true) ≡ x
@@ -90,3 +91,10 @@ any_and test b a (suc n) = ap (λ (c : Bool). (test a && b) || c) (any_and test 
 
 pub some_and : (end : ℕ) (test : ℕ → Bool) (b : Bool) → some_from 0 end (λ k. test k && b) ≡ (some_from 0 end test && b)
 some_and end test b = any_and test b 0 (end - 0)
+
+-- a list for each number of the range: one number more
+pub flat_more : {X : Type 0} (f : ℕ → List X) (first n : ℕ) → flat_map f (range_with_len first (suc n)) ≡ flat_map f (range_with_len first n) ++ f (first + n)
+flat_more f first zero = let e : first + 0 ≡ first = omega arith in rw e (append-nil (f first))
+flat_more {X = X} f first (suc n) =
+    let e : first + suc n ≡ first + 1 + n = omega arith in
+    rw e (ap (λ (l : List X). f first ++ l) (flat_more f (first + 1) n) ∙ sym (append_assoc (f first) (flat_map f (range_with_len (first + 1) n)) (f (first + 1 + n))))

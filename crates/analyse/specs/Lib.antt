@@ -10,3 +10,10 @@ pub mod CountersWatching
 pub mod SectionWatching
 pub mod PatWatching
 pub mod GapsWatching
+pub mod ProgramsWatching
+pub mod PmtWatching
+pub mod WatchedPids
+pub mod TablesWatching
+pub mod StreamWatching
+pub mod Analysed
+pub mod FaultNames

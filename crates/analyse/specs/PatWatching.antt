@@ -1,22 +1,22 @@
 -- What a watch of the PAT knows of the slots so far, from which PAT_error_2 at the next slot follows.
-use Rattle.std.specs.Prelude.{◌≡◌, ℕ, ◌==◌, Bool, true, false, ◌&&◌, not, List, length, Option, Some, None, is_some, option_and_then}
+use Rattle.std.specs.Prelude.{◌≡◌, ℕ, ◌==◌, Bool, true, false, ◌&&◌, not, List, length, Option, Some, None}
 use Rattle.tspkt.specs.Bits.{field}
 use Rattle.tspkt.specs.Packet.{pid_of, transport_scrambling_control_of}
 use Rattle.section.specs.declared.told.Told.{Told}
-use Rattle.tables.specs.OnPid.{section_in, pat_section_of}
+use Rattle.tables.specs.OnPid.{section_in, pat_sections}
 use Rattle.analyse.specs.Slots.{packets_in}
 use Rattle.analyse.specs.Faults.{is_pat_mark}
 use Rattle.analyse.specs.SectionWatching.{SectionState, HasSeenOnPid}
+use Rattle.analyse.specs.ProgramsWatching.{ProgramsState, HasRows}
 use Rattle.analyse.specs.GapWatching.{GapState, HasSeenNumbers}
 
 pub record PatState : Type 0 where
   pub sections : SectionState
   pub gap : GapState
   pub marked : Bool
+  pub programs : ProgramsState
 
--- what was told is a section of the PAT, or a section with another table_id
-abbrev pub is_pat_in : Told → Bool
-is_pat_in t = is_some (option_and_then pat_section_of (section_in t))
+-- what was told is a section with another table_id
 
 abbrev pub is_other : Option (List ℕ) → Bool
 is_other None = false
@@ -36,3 +36,4 @@ pub record HasSeenPat (w : PatState) (slots : List (List ℕ)) : Type 0 where
   pub sections : HasSeenOnPid w.sections (packets_in slots)
   pub gap : HasSeenNumbers w.gap (λ k. true) (is_pat_mark slots) (length slots)
   pub marked : w.marked ≡ is_pat_mark slots (length slots)
+  pub programs : HasRows w.programs (pat_sections (packets_in slots))

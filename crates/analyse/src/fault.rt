@@ -1,6 +1,7 @@
 //! A fault of a stream.
 
 use crate::fault_kind::FaultKind;
+use std::fmt;
 
 /// A fault: its slot, its kind, and the PID that it is told of, where there is one.
 #[derive(Clone, Copy, Debug, PartialEq, Eq)]
@@ -10,4 +11,16 @@ pub struct Fault {
     pub kind: FaultKind,
     /// 0 to 0x1FFF; none for the faults of sync.
     pub pid: Option<u16>,
+}
+
+/// Prints as `slot 501 1.5.a 0x0100`, with `-` where there is no PID.
+impl fmt::Display for Fault {
+    fn fmt<W: fmt::Write>(&self, f: &mut fmt::Formatter<W>) -> fmt::Result {
+        let slot = self.slot;
+        let kind = self.kind;
+        match self.pid {
+            Some(pid) => write!(f, "slot {slot} {kind} 0x{pid:04X}"),
+            None => write!(f, "slot {slot} {kind} -"),
+        }
+    }
 }

@@ -1,7 +1,7 @@
 //! The watches of the gaps of all PIDs.
 
-ghost use Rattle.std.specs.Prelude.{◌≡◌, option_map};
-ghost use Rattle.analyse.specs.GapsWatching.{is_of_packet};
+ghost use Rattle.std.specs.Prelude.{◌≡◌, ◌+◌, ◌++◌, ◌≤◌, option_map, IfSome, OnOk};
+ghost use Rattle.analyse.specs.GapsWatching.{is_of_packet, is_also, told_also};
 ghost use Rattle.analyse.specs.GapWatching.{is_long};
 
 use crate::fault::Fault;
@@ -24,6 +24,35 @@ fn is_long(limit: u64, count: u64, since: Option<u64>) -> bool
     }
 }
 
+/// Whether it is the PID.
+fn is_also(also: Option<u16>, pid: u16) -> bool
+    ensures { result ≡ is_also also pid }
+{
+    match also {
+        Some(other) => other == pid,
+        None => false,
+    }
+}
+
+/// The lesser of a bound and the slot at which a gap that opens behind so many slots falls due.
+fn lesser_due(due: u64, since: u64, limit: u64) -> u64
+    ensures below { result ≤ due }
+    ensures at_most { result ≤ since + limit }
+{
+    due.min(since.saturating_add(limit))
+}
+
+/// The lesser of a bound and the slot at which an open gap falls due, where that is not before this slot.
+fn due_with(due: u64, since: Option<u64>, limit: u64, count: u64) -> u64
+    ensures below { result ≤ due }
+    ensures at_most { IfSome since (λ first. count ≤ first + limit → result ≤ first + limit) }
+{
+    match since {
+        Some(first) if count <= first.saturating_add(limit) => lesser_due(due, first, limit),
+        _ => due,
+    }
+}
+
 /// Whether it is a packet of this PID.
 fn is_of_packet(packet: Option<&Packet>, pid: u16) -> bool
     ensures { result ≡ is_of_packet (option_map (λ p. p.now) packet.entry) pid }
@@ -34,13 +63,35 @@ fn is_of_packet(packet: Option<&Packet>, pid: u16) -> bool
     }
 }
 
+/// Tells the PID `also`, where there is one.
+fn tell_also(
+    count: u64,
+    also: Option<u16>,
+    kind: FaultKind,
+    out: &mut Vec<Fault>,
+) -> Result<(), AllocError>
+    ensures { OnOk result (out.new.items ≡ out.old.items ++ told_also also kind count) }
+{
+    if let Some(pid) = also {
+        out.push(Fault {
+            slot: count,
+            kind,
+            pid: Some(pid),
+        })?;
+    }
+    Ok(())
+}
+
 /// Watches of each PID whether something of it comes at least once in so many slots (the limits of ETSI TR 101 290,
-/// 5.2.1, in slots). A number of slots at which nothing happens to a PID costs nothing.
+/// 5.2.1, in slots). A number of slots at which nothing happens to a PID costs nothing, and so does a slot at which no gap
+/// can fall due.
 #[derive(Drop)]
 pub struct GapWatches {
     limit: u64,
     watched: Vec<bool>,
     since: Vec<Option<u64>>,
+    /// No gap falls due before this slot.
+    due: u64,
 }
 
 impl Model for GapWatches {
@@ -49,20 +100,22 @@ impl Model for GapWatches {
 
     ghost Value = { GapsState };
 
-    ghost view = { λ w. record { limit = w.limit; watched = w.watched.items; since = w.since.items } };
+    ghost view = { λ w. record { limit = w.limit; watched = w.watched.items; since = w.since.items; due = w.due } };
 
     ghost invariant = { λ w. (length w.watched.items ≡ 8192) × (length w.since.items ≡ 8192) };
 }
 
 impl GapWatches {
-    ghost use Rattle.std.specs.Prelude.{◌≡◌, ◌+◌, ◌++◌, ◌<◌, ℕ, Bool, Some, false, option_map, slice_index_or, IfOk, OnOk};
-    ghost use Rattle.analyse.specs.GapsWatching.{is_watched, since_of, ChangesTo, IsChangedAt, HaveSeenNumbers, OnlyMarked, gaps_at, long_gaps};
+    ghost use Rattle.std.specs.Prelude.{◌≡◌, ◌+◌, ◌++◌, ◌<◌, ◌||◌, ℕ, Bool, Some, false, option_map, slice_index_or, IfOk, OnOk};
+    ghost use Rattle.std.specs.Option.{ForSome};
     ghost use Rattle.analyse.specs.Faults.{told_if};
     ghost use Rattle.analyse.specs.GapWatching.{is_long};
+    ghost use Rattle.analyse.specs.GapsWatching.{is_watched, since_of, ChangesTo, IsChangedAt, IsLowered, IsDue, HaveSeenNumbers, OnlyMarked, gaps_at, long_gaps};
 
     /// Watches with this limit that have seen nothing.
     pub fn new(alloc: Global, limit: u64) -> Result<GapWatches, AllocError>
         ensures limit { IfOk result (λ w. w.limit ≡ limit) }
+        ensures watched { IfOk result (λ w. (pid : ℕ) → is_watched w pid ≡ false) }
         ensures seen { IfOk result (λ w. (watched mark : ℕ → ℕ → Bool) → HaveSeenNumbers w watched mark 0) }
     {
         let mut watched = Vec::new(alloc);
@@ -73,6 +126,7 @@ impl GapWatches {
             limit,
             watched,
             since,
+            due: u64::MAX,
         })
     }
 
@@ -91,7 +145,16 @@ impl GapWatches {
         let pid = usize::from(packet.pid());
         if self.watched[pid] {
             self.since[pid] = Some(count);
+            self.due = lesser_due(self.due, count, self.limit);
         }
+    }
+
+    /// Whether the PID is watched.
+    pub fn is_watched(&self, pid: u16) -> bool
+        requires { pid < 8192 }
+        ensures { result ≡ is_watched self.now pid }
+    {
+        self.watched[usize::from(pid)]
     }
 
     /// Sees a number of slots at which these PIDs are watched. A PID that wasn't watched before has a mark, and so has the
@@ -103,9 +166,17 @@ impl GapWatches {
         ensures watched { (pid : ℕ) → pid < 8192 → is_watched self.new pid ≡ slice_index_or set.now pid false }
         ensures limit { self.new.limit ≡ self.old.limit }
     {
+        self.lower_due(count);
         for pid in 0..8192_u16 {
             self.change_one(count, pid, set[usize::from(pid)], is_of_packet(marked, pid));
         }
+    }
+
+    /// A gap may open behind so many slots.
+    fn lower_due(&mut self, count: u64)
+        ensures { IsLowered self.old self.new count }
+    {
+        self.due = lesser_due(self.due, count, self.limit);
     }
 
     /// One PID's part of a change.
@@ -119,37 +190,72 @@ impl GapWatches {
         self.watched[place] = watched;
     }
 
-    /// Tells the gaps of the slot behind `count` slots, in the order of PIDs, behind those of `out`.
-    pub fn tell(&self, count: u64, kind: FaultKind, out: &mut Vec<Fault>) -> Result<(), AllocError>
-        ensures told { OnOk result ((watched mark : ℕ → ℕ → Bool) → HaveSeenNumbers self.now watched mark (count + 1)
-            → out.new.items ≡ out.old.items ++ gaps_at self.now.limit watched mark kind count) }
+    /// Tells the gaps of the slot behind `count` slots, and the PID `also` as if it had one, in the order of PIDs and
+    /// behind those of `out`. An `Err` is want of memory.
+    pub fn tell(
+        &mut self,
+        count: u64,
+        also: Option<u16>,
+        kind: FaultKind,
+        out: &mut Vec<Fault>,
+    ) -> Result<(), AllocError>
+        requires { ForSome also (λ pid. pid < 8192) }
+        ensures limit { self.new.limit ≡ self.old.limit }
+        ensures watched { self.new.watched ≡ self.old.watched }
+        ensures seen { (watched mark : ℕ → ℕ → Bool) → HaveSeenNumbers self.old watched mark (count + 1)
+            → HaveSeenNumbers self.new watched mark (count + 1) }
+        ensures told { OnOk result ((watched mark : ℕ → ℕ → Bool) → HaveSeenNumbers self.old watched mark (count + 1)
+            → out.new.items ≡ out.old.items ++ gaps_at self.old.limit watched mark also kind count) }
     {
-        self.tell_long(count, kind, out)
+        if count < self.due {
+            return tell_also(count, also, kind, out);
+        }
+        self.tell_long(count, also, kind, out)?;
+        self.due = self.next_due(count);
+        Ok(())
     }
 
-    /// Tells the open gaps that are as long as the limit.
-    fn tell_long(&self, count: u64, kind: FaultKind, out: &mut Vec<Fault>) -> Result<(), AllocError>
-        ensures { OnOk result (out.new.items ≡ out.old.items ++ long_gaps self.now kind count 8192) }
+    /// The least slot, from this one on, at which an open gap falls due.
+    fn next_due(&self, count: u64) -> u64
+        ensures { IsDue self.now count result }
+    {
+        let mut due = u64::MAX;
+        for since in &self.since {
+            due = due_with(due, *since, self.limit, count);
+        }
+        due
+    }
+
+    /// Tells the open gaps that are as long as the limit, and `also`.
+    fn tell_long(
+        &self,
+        count: u64,
+        also: Option<u16>,
+        kind: FaultKind,
+        out: &mut Vec<Fault>,
+    ) -> Result<(), AllocError>
+        ensures { OnOk result (out.new.items ≡ out.old.items ++ long_gaps self.now also kind count 8192) }
     {
         for pid in 0..8192_u16 {
-            self.tell_one(count, kind, pid, out)?;
+            self.tell_one(count, pid, is_also(also, pid), kind, out)?;
         }
         Ok(())
     }
 
-    /// Tells the gap of one PID where it is as long as the limit.
+    /// Tells one PID, where its gap is as long as the limit or it is to be told too.
     fn tell_one(
         &self,
         count: u64,
-        kind: FaultKind,
         pid: u16,
+        is_also: bool,
+        kind: FaultKind,
         out: &mut Vec<Fault>,
     ) -> Result<(), AllocError>
         requires { pid < 8192 }
-        ensures { OnOk result (out.new.items
-            ≡ out.old.items ++ told_if (is_long self.now.limit count (since_of self.now pid)) kind count (Some pid)) }
+        ensures { OnOk result (out.new.items ≡ out.old.items
+            ++ told_if (is_long self.now.limit count (since_of self.now pid) || is_also) kind count (Some pid)) }
     {
-        if is_long(self.limit, count, self.since[usize::from(pid)]) {
+        if is_long(self.limit, count, self.since[usize::from(pid)]) || is_also {
             out.push(Fault {
                 slot: count,
                 kind,

@@ -1,40 +1,18 @@
 //! The watch of the PAT.
 
-ghost use Rattle.std.specs.Prelude.{◌≡◌, ◌==◌, ◌&&◌, ◌||◌, not, Bool, false, Option, Some, None, List, ℕ, option_map, is_some, Ok, IfOk};
+ghost use Rattle.std.specs.Prelude.{◌≡◌, ◌||◌, option_map};
 ghost use Rattle.std.specs.List.{list_any};
 ghost use Rattle.tspkt.specs.Bits.{field};
-ghost use Rattle.tables.specs.OnPid.{pat_section_of};
-ghost use Rattle.analyse.specs.PatWatching.{is_pat_in, is_other_in, is_scrambled};
+ghost use Rattle.analyse.specs.PatWatching.{is_other_in, is_scrambled};
 
 use crate::gap_watch::GapWatch;
+use crate::program_rows::ProgramRows;
 use crate::section_watch::SectionWatch;
 use section::Told;
 use std::alloc::{AllocError, Global};
 use std::marker::Model;
-use tables::{Pat, TableFault};
+use tables::PatRow;
 use tspkt::Packet;
-
-/// Whether the bytes are a section of the PAT.
-fn is_pat(alloc: Global, bytes: &[u8]) -> bool
-    ensures { result ≡ is_some (pat_section_of bytes.now) }
-{
-    match Pat::read(alloc, bytes) {
-        Ok(_) => true,
-        // There was no memory to read it, and it has no fault.
-        Err(TableFault::Memory) => true,
-        Err(_) => false,
-    }
-}
-
-/// Whether what was told is a section of the PAT.
-fn is_pat_in(alloc: Global, told: &Told) -> bool
-    ensures { result ≡ is_pat_in told.now }
-{
-    match told {
-        Told::Section(bytes) => is_pat(alloc, bytes),
-        _ => false,
-    }
-}
 
 /// The table_id of a section.
 #[tactic(auto, using(crate::proofs::TableIdLaws::table_id_at))]
@@ -67,12 +45,6 @@ fn is_scrambled(packet: Option<&Packet>) -> bool
     }
 }
 
-fn has_pat(alloc: Global, told: &[Told]) -> bool
-    ensures { result ≡ list_any is_pat_in told.now }
-{
-    told.iter().any(|told| is_pat_in(alloc, told))
-}
-
 fn has_other(told: &[Told]) -> bool
     ensures { result ≡ list_any is_other_in told.now }
 {
@@ -87,15 +59,24 @@ fn is_bad(missed: bool, told: &[Told], packet: Option<&Packet>) -> bool
     missed || has_other(told) || is_scrambled(packet)
 }
 
+/// What a slot tells of the PAT.
+#[derive(Clone, Copy, Debug, PartialEq, Eq)]
+pub struct PatSeen {
+    /// PAT_error_2.
+    pub bad: bool,
+    /// The programs of the PAT in force may have changed; where not, they stayed as they were.
+    pub changed: bool,
+}
+
 /// Watches PID 0x0000 (ETSI TR 101 290, 5.2.1: PAT_error_2): a section of the PAT comes within its limit of slots, none
 /// with another table_id comes, and no packet is scrambled.
 #[derive(Drop)]
 pub struct PatWatch {
-    alloc: Global,
     sections: SectionWatch,
     told: Vec<Told>,
     gap: GapWatch,
     marked: bool,
+    programs: ProgramRows,
 }
 
 impl Model for PatWatch {
@@ -103,14 +84,15 @@ impl Model for PatWatch {
 
     ghost Value = { PatState };
 
-    ghost view = { λ w. record { sections = w.sections; gap = w.gap; marked = w.marked } };
+    ghost view = { λ w. record { sections = w.sections; gap = w.gap; marked = w.marked; programs = w.programs } };
 }
 
 impl PatWatch {
-    ghost use Rattle.std.specs.Prelude.{◌≡◌, [], ◌∷◌, ◌++◌, ℕ, List, length, option_map, OnOk, IfOk};
+    ghost use Rattle.std.specs.Prelude.{◌≡◌, [], ◌∷◌, ◌++◌, ℕ, List, length, false, option_map, OnOk, IfOk};
     ghost use Rattle.analyse.specs.SlotReading.{IsReadAs};
     ghost use Rattle.analyse.specs.PatWatching.{HasSeenPat};
     ghost use Rattle.analyse.specs.Faults.{is_pat_bad_at};
+    ghost use Rattle.analyse.specs.InForce.{program_rows_behind};
 
     /// A watch that has seen no slot. The PAT has to come within so many slots.
     pub fn new(alloc: Global, limit: u64) -> PatWatch
@@ -118,28 +100,43 @@ impl PatWatch {
         ensures seen { HasSeenPat result [] }
     {
         PatWatch {
-            alloc,
             sections: SectionWatch::new(0x0000),
             told: Vec::new(alloc),
             gap: GapWatch::new(limit),
             marked: true,
+            programs: ProgramRows::new(alloc),
         }
+    }
+
+    /// The rows of programs of the PAT in force, in the order of section numbers. It need not be complete.
+    pub fn programs(&self) -> &[PatRow]
+        ensures kept { result.now ≡ self.now.programs.rows }
+        ensures in_force { (slots : List (List ℕ)) → HasSeenPat self.now slots
+            → result.now ≡ program_rows_behind slots }
+    {
+        self.programs.rows()
     }
 
     /// Sees what the next slot is read as, and tells whether the PAT is faulty at it. `count` is the number of slots
     /// before it. An `Err` is want of memory; nothing is said of the watch behind it.
-    pub fn push(&mut self, count: u64, packet: Option<&Packet>) -> Result<bool, AllocError>
+    pub fn push(&mut self, count: u64, packet: Option<&Packet>) -> Result<PatSeen, AllocError>
         ensures limit { self.new.gap.limit ≡ self.old.gap.limit }
         ensures seen { OnOk result ((slots : List (List ℕ)) (slot : List ℕ) → HasSeenPat self.old slots
             → length slots ≡ count → IsReadAs slot (option_map (λ p. p.now) packet.entry)
             → HasSeenPat self.new (slots ++ slot ∷ [])) }
-        ensures bad { IfOk result (λ bad. (slots : List (List ℕ)) (slot : List ℕ) → HasSeenPat self.old slots
+        ensures bad { IfOk result (λ seen. (slots : List (List ℕ)) (slot : List ℕ) → HasSeenPat self.old slots
             → length slots ≡ count → IsReadAs slot (option_map (λ p. p.now) packet.entry)
-            → bad ≡ is_pat_bad_at self.old.gap.limit (slots ++ slot ∷ []) count) }
+            → seen.bad ≡ is_pat_bad_at self.old.gap.limit (slots ++ slot ∷ []) count) }
+        ensures changed { IfOk result (λ seen. seen.changed ≡ false
+            → self.new.programs.rows ≡ self.old.programs.rows) }
     {
         let missed = self.gap.push(count, true, self.marked);
         self.sections.see(packet, &mut self.told)?;
-        self.marked = has_pat(self.alloc, &self.told);
-        Ok(is_bad(missed, &self.told, packet))
+        let programs = self.programs.push(&self.told)?;
+        self.marked = programs.came;
+        Ok(PatSeen {
+            bad: is_bad(missed, &self.told, packet),
+            changed: programs.changed,
+        })
     }
 }

@@ -67,26 +67,26 @@ fn the_pat_is_missed_once(rt: HostRuntime) -> Result<(), Fail> {
     let stuffing = null();
     for slot in 0..500 {
         assert!(rt;
-            !watch.push(slot, Some(&stuffing))?,
+            !watch.push(slot, Some(&stuffing))?.bad,
             "500 null packets tell nothing"
         );
     }
-    assert!(rt; watch.push(500, Some(&stuffing))?);
-    assert!(rt; !watch.push(501, Some(&stuffing))?);
+    assert!(rt; watch.push(500, Some(&stuffing))?.bad);
+    assert!(rt; !watch.push(501, Some(&stuffing))?.bad);
     Ok(())
 }
 
 #[test]
 fn the_pat_comes(rt: HostRuntime) -> Result<(), Fail> {
     let mut watch = PatWatch::new(rt.alloc(), 3);
-    assert!(rt; !watch.push(0, None)?);
-    assert!(rt; !watch.push(1, Some(&packet(&rt, 0, 0x10, &PAT)))?);
-    assert!(rt; !watch.push(2, None)?);
-    assert!(rt; !watch.push(3, None)?);
-    assert!(rt; !watch.push(4, None)?);
-    assert!(rt; watch.push(5, None)?);
+    assert!(rt; !watch.push(0, None)?.bad);
+    assert!(rt; !watch.push(1, Some(&packet(&rt, 0, 0x10, &PAT)))?.bad);
+    assert!(rt; !watch.push(2, None)?.bad);
+    assert!(rt; !watch.push(3, None)?.bad);
+    assert!(rt; !watch.push(4, None)?.bad);
+    assert!(rt; watch.push(5, None)?.bad);
     assert!(rt;
-        watch.push(6, Some(&packet(&rt, 0, 0x91, &PAT)))?,
+        watch.push(6, Some(&packet(&rt, 0, 0x91, &PAT)))?.bad,
         "it is scrambled"
     );
     Ok(())
@@ -101,14 +101,14 @@ fn gaps_are_told_of_the_pids_that_are_watched(rt: HostRuntime) -> Result<(), Fai
     set[7] = true;
     watches.change(0, &set, None);
     watches.pass(1, Some(&packet(&rt, 7, 0x10, &PAT)));
-    watches.tell(1, FaultKind::PidError, &mut told)?;
+    watches.tell(1, None, FaultKind::PidError, &mut told)?;
     assert_eq!(rt; told.len(), 0);
     watches.pass(2, Some(&packet(&rt, 2, 0x10, &PAT)));
-    watches.tell(2, FaultKind::PidError, &mut told)?;
+    watches.tell(2, None, FaultKind::PidError, &mut told)?;
     watches.pass(3, None);
-    watches.tell(3, FaultKind::PidError, &mut told)?;
+    watches.tell(3, None, FaultKind::PidError, &mut told)?;
     watches.pass(4, None);
-    watches.tell(4, FaultKind::PidError, &mut told)?;
+    watches.tell(4, None, FaultKind::PidError, &mut told)?;
     let first = Fault {
         slot: 2,
         kind: FaultKind::PidError,

@@ -11,8 +11,8 @@ returns-then-index-clause-seen c watched mark s o =
     let m = rw c.in-Some.is at o in
     let t = subst (λ (w : GapsState). HaveSeenNumbers w watched mark c.args.count) (sym c.self.view_is) s in
     let q = subst (λ (w : GapsState). OnlyMarked w watched mark c.args.count (Some c.in-Some.packet.now)) (sym c.self.view_is) m in
-    pass_on c.self.inside.limit c.self.inside.watched.items c.self.inside.since.items watched mark c.args.count c.from-pid.result c.in-Some.packet.now c.index.result.now
-    (c.from-pid.ensures ∙ c.pid.ensures.value) (omega (arith, c.from-pid.ensures, c.pid.ensures.fits)) c.self.invariant.0 c.self.invariant.1 c.index.ensures c.if-index.true t q
+    pass_on c.self.inside.limit c.self.inside.watched.items c.self.inside.since.items c.self.inside.due watched mark c.args.count c.from-pid.result c.in-Some.packet.now c.index.result.now
+    (c.from-pid.ensures ∙ c.pid.ensures.value) (omega (arith, c.from-pid.ensures, c.pid.ensures.fits)) c.self.invariant.0 c.self.invariant.1 c.index.ensures c.lesser_due-self-inside.result c.lesser_due-self-inside.ensures.below c.lesser_due-self-inside.ensures.at_most c.if-index.true t q
 
 pub returns-else-index-clause-seen : goal.returns-else-index-clause-seen
 returns-else-index-clause-seen c watched mark s o =
@@ -20,5 +20,5 @@ returns-else-index-clause-seen c watched mark s o =
     let t = subst (λ (w : GapsState). HaveSeenNumbers w watched mark c.args.count) (sym c.self.view_is) s in
     let q = subst (λ (w : GapsState). OnlyMarked w watched mark c.args.count (Some c.in-Some.packet.now)) (sym c.self.view_is) m in
     subst (λ (w : GapsState). HaveSeenNumbers w watched mark (c.args.count + 1)) c.self.view_is
-    (pass_off c.self.inside.limit c.self.inside.watched.items c.self.inside.since.items watched mark c.args.count c.from-pid.result c.in-Some.packet.now c.index.result.now
+    (pass_off c.self.inside.limit c.self.inside.watched.items c.self.inside.since.items c.self.inside.due watched mark c.args.count c.from-pid.result c.in-Some.packet.now c.index.result.now
     (c.from-pid.ensures ∙ c.pid.ensures.value) (omega (arith, c.from-pid.ensures, c.pid.ensures.fits)) c.self.invariant.0 c.self.invariant.1 c.index.ensures c.if-index.false t q)

@@ -1,0 +1,121 @@
+-- The PMT watches of all PIDs, behind one more slot.
+use Rattle.std.proofs.Common.{◌≡◌, ◌≢◌, ℕ, zero, suc, ◌+◌, ◌<◌, List, [], ◌∷◌, ◌++◌, length, get_or, refl, sym, ◌∙◌, ap, subst, arith, Option, None, Bool, true, false, ◌&&◌, ⊎_elim}
+use Rattle.std.specs.Prelude.{◌==◌, not, set, cond, map, replicate}
+use Rattle.std.proofs.lemmas.Bool.{cases_eq, false_from_ne_true}
+use Rattle.std.proofs.lemmas.Bool.Decides.{Decides-eqb, nat_tests}
+use Rattle.std.proofs.lemmas.List.{append-nil, get_or-set_same, get_or-set_other}
+use Rattle.std.proofs.lemmas.List.Elements.{filter-append}
+use Rattle.tspkt.specs.Packet.{pid_of, transport_scrambling_control_of}
+use Rattle.tables.specs.OnPid.{packets_on}
+use Rattle.analyse.specs.Slots.{packets_in, is_packet}
+use Rattle.analyse.specs.Faults.{grew_at, pmt_count}
+use Rattle.analyse.specs.SectionWatching.{is_on}
+use Rattle.analyse.specs.PmtWatching.{PmtState, PmtPids, boxed_state, state_of, pids_kept, pids_of_program, HasSeenPidPmts, HaveSeenPmts}
+use Rattle.analyse.proofs.SlotLaws.{packets_more, packets_same}
+use Rattle.analyse.proofs.PmtLaws.{no_newest}
+use Rattle.analyse.proofs.PatWatchLaws.{grew_last}
+
+-- a slot that is no packet of the PID that isn't scrambled
+unread : (pid : ℕ) (slots : List (List ℕ)) (x : List ℕ) → is_packet x ≡ true → is_on pid x ≡ false → packets_on pid (packets_in (slots ++ x ∷ [])) ≡ packets_on pid (packets_in slots)
+unread pid slots x h off =
+    ap (packets_on pid) (packets_more slots x h) ∙ filter-append (is_on pid) (packets_in slots) (x ∷ [])
+    ∙ ap (λ (b : Bool). packets_on pid (packets_in slots) ++ cond b (x ∷ []) []) off ∙ append-nil (packets_on pid (packets_in slots))
+
+none_read : (pid : ℕ) (slots : List (List ℕ)) (x : List ℕ) → is_packet x ≡ false → packets_on pid (packets_in (slots ++ x ∷ [])) ≡ packets_on pid (packets_in slots)
+none_read pid slots x h = ap (packets_on pid) (packets_same slots x h)
+
+module _ (pid : ℕ) (slots : List (List ℕ)) (x : List ℕ) (same : packets_on pid (packets_in (slots ++ x ∷ [])) ≡ packets_on pid (packets_in slots)) where
+  stays : (w : Option PmtState) → HasSeenPidPmts pid w slots → HasSeenPidPmts pid w (slots ++ x ∷ [])
+  stays w s =
+      let e : packets_on (state_of pid w).sections.pid (packets_in (slots ++ x ∷ [])) ≡ packets_on (state_of pid w).sections.pid (packets_in slots) =
+      ap (λ (k : ℕ). packets_on k (packets_in (slots ++ x ∷ []))) s.pid_is ∙ same ∙ ap (λ (k : ℕ). packets_on k (packets_in slots)) (sym s.pid_is) in
+      record {
+        pid_is = s.pid_is;
+        seen = record {
+          sections = record { assembler = rw e s.seen.sections.assembler };
+          newest = rw e s.seen.newest;
+        };
+      }
+
+  no_growth : grew_at (pmt_count pid) (slots ++ x ∷ []) (length slots + 1) ≡ false
+  no_growth =
+      let n = pmt_count pid slots in
+      let e : pmt_count pid (slots ++ x ∷ []) ≡ n = rw same refl in
+      let t : (n == n) ≡ true = (Decides-eqb n n).1 refl in
+      grew_last (pmt_count pid) slots x ∙ ap (λ (k : ℕ). not (k == n)) e ∙ ap not t
+
+pub none_stays : (ws : List (Option PmtState)) (slots : List (List ℕ)) (x : List ℕ) → is_packet x ≡ false → HaveSeenPmts ws slots → HaveSeenPmts ws (slots ++ x ∷ [])
+none_stays ws slots x h s = record { pids = λ pid. stays pid slots x (none_read pid slots x h) (get_or ws pid None) (s.pids pid) }
+
+pub none_grows : (slots : List (List ℕ)) (x : List ℕ) (pid : ℕ) → is_packet x ≡ false → grew_at (pmt_count pid) (slots ++ x ∷ []) (length slots + 1) ≡ false
+none_grows slots x pid h = no_growth pid slots x (none_read pid slots x h)
+
+scrambled_off : (pid : ℕ) (x : List ℕ) → transport_scrambling_control_of x ≢ 0 → is_on pid x ≡ false
+scrambled_off pid x e = grind (arith, nat_tests)
+
+other_off : (pid : ℕ) (x : List ℕ) → pid_of x ≢ pid → is_on pid x ≡ false
+other_off pid x e = grind (arith, nat_tests)
+
+pub scrambled_stays : (ws : List (Option PmtState)) (slots : List (List ℕ)) (x : List ℕ) → is_packet x ≡ true → transport_scrambling_control_of x ≢ 0 → HaveSeenPmts ws slots → HaveSeenPmts ws (slots ++ x ∷ [])
+scrambled_stays ws slots x h e s = record { pids = λ pid. stays pid slots x (unread pid slots x h (scrambled_off pid x e)) (get_or ws pid None) (s.pids pid) }
+
+pub scrambled_grows : (slots : List (List ℕ)) (x : List ℕ) (pid : ℕ) → is_packet x ≡ true → transport_scrambling_control_of x ≢ 0 → grew_at (pmt_count pid) (slots ++ x ∷ []) (length slots + 1) ≡ false
+scrambled_grows slots x pid h e = no_growth pid slots x (unread pid slots x h (scrambled_off pid x e))
+
+-- ---- the packet of a PID
+
+pub watch_seen : (ws : List (Option PmtState)) (place : ℕ) (new : Option PmtState) (slots : List (List ℕ)) (x : List ℕ) → place < length ws → is_packet x ≡ true → pid_of x ≡ place → (HasSeenPidPmts place (get_or ws place None) slots → HasSeenPidPmts place new (slots ++ x ∷ [])) → HaveSeenPmts ws slots → HaveSeenPmts (set ws place new) (slots ++ x ∷ [])
+watch_seen ws place new slots x small h e one s = record {
+  pids = λ pid.
+      ⊎_elim
+      (λ (same : pid ≡ place).
+      let now : get_or (set ws place new) pid None ≡ new = ap (λ (k : ℕ). get_or (set ws place new) k None) same ∙ get_or-set_same ws place new None small in
+      rw (now, same) (one (s.pids place)))
+      (λ (differ : pid ≢ place).
+      let kept : get_or (set ws place new) pid None ≡ get_or ws pid None = get_or-set_other ws place pid new None differ in
+      rw kept (stays pid slots x (unread pid slots x h (other_off pid x (λ q. differ (sym q ∙ e)))) (get_or ws pid None) (s.pids pid)))
+      (cases_eq pid place);
+}
+
+pub watch_came : (place pid : ℕ) (slots : List (List ℕ)) (x : List ℕ) (came : Bool) → is_packet x ≡ true → pid_of x ≡ place → came ≡ grew_at (pmt_count place) (slots ++ x ∷ []) (length slots + 1) → grew_at (pmt_count pid) (slots ++ x ∷ []) (length slots + 1) ≡ (came && pid_of x == pid)
+watch_came place pid slots x came h e c =
+    ⊎_elim
+    (λ (same : pid_of x ≡ pid).
+    let t : (pid_of x == pid) ≡ true = (Decides-eqb (pid_of x) pid).1 same in
+    ap (λ (k : ℕ). grew_at (pmt_count k) (slots ++ x ∷ []) (length slots + 1)) (sym same ∙ e) ∙ sym c ∙ and_is came (pid_of x == pid) t)
+    (λ (differ : pid_of x ≢ pid).
+    let t : (pid_of x == pid) ≡ false = false_from_ne_true (pid_of x == pid) (λ t. differ ((Decides-eqb (pid_of x) pid).0 t)) in
+    no_growth pid slots x (unread pid slots x h (other_off pid x differ)) ∙ and_not came (pid_of x == pid) t)
+    (cases_eq (pid_of x) pid)
+  where
+    and_is : (a b : Bool) → b ≡ true → a ≡ (a && b)
+    and_is true b t = sym t
+    and_is false b t = refl
+
+    and_not : (a b : Bool) → b ≡ false → false ≡ (a && b)
+    and_not true b t = sym t
+    and_not false b t = refl
+
+pub watch_same : (ws : List (Option PmtState)) (place : ℕ) (new : Option PmtState) (pid program : ℕ) → place < length ws → (state_of place new).newest ≡ (state_of place (get_or ws place None)).newest → pids_of_program (set ws place new) pid program ≡ pids_of_program ws pid program
+watch_same ws place new pid program small e =
+    ⊎_elim
+    (λ (same : pid ≡ place).
+    let now : get_or (set ws place new) pid None ≡ new = ap (λ (k : ℕ). get_or (set ws place new) k None) same ∙ get_or-set_same ws place new None small in
+    rw (now, same) (ap (λ (l : List PmtPids). pids_kept l program) e))
+    (λ (differ : pid ≢ place).
+    ap (λ (o : Option PmtState). pids_kept (state_of pid o).newest program) (get_or-set_other ws place pid new None differ))
+    (cases_eq pid place)
+
+-- ---- no slot yet
+
+none_at : (n pid : ℕ) → get_or (map boxed_state (replicate n None)) pid None ≡ None
+none_at zero pid = refl
+none_at (suc n) zero = refl
+none_at (suc n) (suc pid) = none_at n pid
+
+pub none_seen : (n : ℕ) → HaveSeenPmts (map boxed_state (replicate n None)) []
+none_seen n = record {
+  pids = λ pid.
+      subst (λ (o : Option PmtState). HasSeenPidPmts pid o []) (sym (none_at n pid))
+      (record { pid_is = refl; seen = record { sections = record { assembler = refl }; newest = no_newest } });
+}

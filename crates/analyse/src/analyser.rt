@@ -1,0 +1,136 @@
+//! The analyser of a stream.
+
+ghost use Rattle.std.specs.Prelude.{◌≡◌, ◌∷◌, ◌++◌, [], ℕ, List, length, OnOk};
+ghost use Rattle.analyse.specs.Faults.{faults_at};
+ghost use Rattle.analyse.specs.Analysed.{IsWatching};
+
+use crate::fault::Fault;
+use crate::stream_watch::StreamWatch;
+use std::alloc::{AllocError, Global};
+use std::marker::Model;
+
+/// Sees the next slot. The first one makes the watches.
+fn see_slot(
+    alloc: Global,
+    rate: u64,
+    period: u64,
+    watch: &mut Option<StreamWatch>,
+    slot: &[u8; 188],
+    out: &mut Vec<Fault>,
+) -> Result<(), AllocError>
+    ensures seen { OnOk result ((slots : List (List ℕ)) → IsWatching rate period watch.old slots
+        → IsWatching rate period watch.new (slots ++ slot.now ∷ [])) }
+    ensures told { OnOk result ((slots : List (List ℕ)) → IsWatching rate period watch.old slots
+        → out.new.items ≡ out.old.items ++ faults_at rate period (slots ++ slot.now ∷ []) (length slots)) }
+{
+    match watch {
+        Some(watch) => watch.push(slot, out),
+        None => {
+            let mut first = StreamWatch::new(alloc, rate, period)?;
+            first.push(slot, out)?;
+            *watch = Some(first);
+            Ok(())
+        }
+    }
+}
+
+/// Tells the faults of a stream by the first priority of ETSI TR 101 290 (5.2.1), slot by slot; the exact conditions and the
+/// limits in slots are profile.
+///
+/// A slot costs constant time, save where a section ends or a gap falls due. Where a push is refused for want of memory,
+/// each later one is refused too.
+#[derive(Drop)]
+pub struct Analyser {
+    alloc: Global,
+    rate: u64,
+    period: u64,
+    watch: Option<StreamWatch>,
+    /// The faults of the slot that is being seen.
+    found: Vec<Fault>,
+    is_refused: bool,
+}
+
+impl Model for Analyser {
+    ghost use Rattle.analyse.specs.Analysed.{AnalyserState};
+
+    ghost Value = { AnalyserState };
+
+    ghost view = { λ a. record {
+      rate = a.rate;
+      period = a.period;
+      watch = a.watch;
+      is_refused = a.is_refused;
+    } };
+}
+
+impl Analyser {
+    ghost use Rattle.std.specs.Prelude.{◌≡◌, ◌∷◌, ◌++◌, [], ℕ, List, length, true, IsErr, OnOk, OnErr};
+    ghost use Rattle.analyse.specs.Faults.{faults, faults_at};
+    ghost use Rattle.analyse.specs.Analysed.{HasSeen};
+    ghost use Rattle.analyse.specs.declared.fault.Fault.{Fault};
+
+    /// An analyser of a stream of `rate` bits a second. The PIDs to which a PMT refers have to come within `period` slots
+    /// each. It takes no memory before the first slot.
+    pub fn new(alloc: Global, rate: u64, period: u64) -> Analyser
+        ensures rate { result.rate ≡ rate }
+        ensures period { result.period ≡ period }
+        ensures seen { HasSeen result [] }
+    {
+        Analyser {
+            alloc,
+            rate,
+            period,
+            watch: None,
+            found: Vec::new(alloc),
+            is_refused: false,
+        }
+    }
+
+    /// Sees the next slot, and tells its faults behind those of `out`: in the order of the standard's list, and for one kind
+    /// by PID.
+    ///
+    /// An `Err` is want of memory, or a stream of 2^64 - 1 slots; it adds nothing, and each later push answers it too.
+    pub fn push(&mut self, slot: &[u8; 188], out: &mut Vec<Fault>) -> Result<(), AllocError>
+        ensures rate { self.new.rate ≡ self.old.rate }
+        ensures period { self.new.period ≡ self.old.period }
+        ensures seen { OnOk result ((slots : List (List ℕ)) → HasSeen self.old slots
+            → HasSeen self.new (slots ++ slot.now ∷ [])) }
+        ensures told { OnOk result ((slots : List (List ℕ)) → HasSeen self.old slots → out.new.items
+            ≡ out.old.items ++ faults_at self.old.rate self.old.period (slots ++ slot.now ∷ []) (length slots)) }
+        ensures whole { OnOk result ((slots : List (List ℕ)) (before : List Fault) → HasSeen self.old slots
+            → out.old.items ≡ before ++ faults self.old.rate self.old.period slots
+            → out.new.items ≡ before ++ faults self.old.rate self.old.period (slots ++ slot.now ∷ [])) }
+        ensures err { OnErr result (out.new.items ≡ out.old.items) }
+        ensures refused { OnErr result (self.new.is_refused ≡ true) }
+        ensures stays { self.old.is_refused ≡ true → IsErr result }
+    {
+        if self.is_refused {
+            return Err(AllocError);
+        }
+        let result = self.push_slot(slot, out);
+        self.is_refused = result.is_err();
+        result
+    }
+
+    /// The same, where no push was refused.
+    fn push_slot(&mut self, slot: &[u8; 188], out: &mut Vec<Fault>) -> Result<(), AllocError>
+        ensures rate { self.new.rate ≡ self.old.rate }
+        ensures period { self.new.period ≡ self.old.period }
+        ensures seen { OnOk result ((slots : List (List ℕ)) → HasSeen self.old slots
+            → HasSeen self.new (slots ++ slot.now ∷ [])) }
+        ensures told { OnOk result ((slots : List (List ℕ)) → HasSeen self.old slots → out.new.items
+            ≡ out.old.items ++ faults_at self.old.rate self.old.period (slots ++ slot.now ∷ []) (length slots)) }
+        ensures err { OnErr result (out.new.items ≡ out.old.items) }
+    {
+        self.found.clear();
+        see_slot(
+            self.alloc,
+            self.rate,
+            self.period,
+            &mut self.watch,
+            slot,
+            &mut self.found,
+        )?;
+        out.extend_from_slice(&self.found)
+    }
+}
