@@ -8,7 +8,7 @@ use acquire::Found;
 use request::{InputParts, Parts, PlanFault, Request, ServiceParts, StreamParts};
 use std::alloc::Global;
 use std::test::Fail;
-use tables::{Pmt, Sdt};
+use tables::{DescriptorLoop, Header, Pmt, Sdt, SdtRow};
 use tspkt::Packet;
 
 /// A section with these eight bytes of header and this body: section_length and CRC_32 are put in.
@@ -170,6 +170,46 @@ fn gap_at(alloc: Global, rate: i64, period: i64) -> Result<Option<u64>, Fail> {
             .ok()
             .map(|plan| plan.gap()),
     )
+}
+
+/// The SDT of program 1, with 1,007 bytes of descriptors in its row.
+fn large_sdt(alloc: Global) -> Result<Sdt, Fail> {
+    let mut bytes = vec![in alloc; 0x48, 3, 1, 0, 0]?;
+    bytes.resize(1007, 0)?;
+    let Ok(descriptors) = DescriptorLoop::from_bytes(bytes) else {
+        return Err(Fail::from("no descriptors"));
+    };
+    let row = SdtRow {
+        service_id: 1,
+        eit_schedule_flag: false,
+        eit_present_following_flag: false,
+        running_status: 4,
+        free_ca_mode: false,
+        descriptors,
+    };
+    let header = Header {
+        table_id_extension: 7,
+        version_number: 0,
+        current_next_indicator: true,
+        section_number: 0,
+        last_section_number: 0,
+    };
+    let rows = vec![in alloc; row]?;
+    Ok(Sdt::new(header, 1, rows))
+}
+
+/// A row that no section holds is too large; that goes before a period that is too long.
+#[test]
+fn large_row(rt: HostRuntime) -> Result<(), Fail> {
+    let alloc = rt.alloc();
+    let mut found = found(alloc, &[&ONE], &[])?;
+    if let Some(found) = found.first_mut() {
+        found.sdt = Some(vec![in alloc; large_sdt(alloc)?]?);
+    }
+    let request = request(alloc, 1_504_000, 501, &[0x0101])?;
+    let plan = Plan::build(alloc, &request, &found);
+    assert_eq!(rt; plan.err(), Some(PlanFault::TooLarge));
+    Ok(())
 }
 
 /// A round of tables fits its period, and comes at least each half second.
