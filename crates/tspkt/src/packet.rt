@@ -32,9 +32,11 @@ impl Model for Packet {
 }
 
 impl Packet {
-    ghost use Rattle.std.specs.Prelude.{◌≡◌, ◌+◌, ◌^◌, ◌<◌, ◌≤◌, length, None, Some, MatchResult};
+    ghost use Rattle.std.specs.Prelude.{◌≡◌, ◌+◌, ◌^◌, ◌<◌, ◌≤◌, ℕ, length, None, Some, MatchResult};
+    ghost use Rattle.tspkt.specs.Bits.{bit};
     ghost use Rattle.tspkt.specs.Packet.{fault_of, IsPacket, pid_of, continuity_counter_of, has_payload_of, discontinuity_indicator_of, payload_unit_start_indicator_of, transport_scrambling_control_of, pcr_of, payload_of, payload_start_of};
     ghost use Rattle.tspkt.specs.Counters.{is_copy};
+    ghost use Rattle.tspkt.specs.Counted.{with_counter, IsOutsideCounter};
 
     /// The packet in these bytes, or the first fault that they have.
     #[tactic(auto, unfolding(crate::specs::Packet::fault_of))]
@@ -151,6 +153,20 @@ impl Packet {
             && other.has_payload()
             && self.counter() == other.counter()
             && fields::equal_but_pcr(&self.bytes, &other.bytes)
+    }
+
+    /// The packet with another continuity counter, 0 to 15. No other bit changes.
+    pub fn with_counter(&self, counter: u8) -> Packet
+        requires { counter < 16 }
+        ensures value { result ≡ with_counter self.now counter }
+        ensures counter { continuity_counter_of result ≡ counter }
+        ensures pid { pid_of result ≡ pid_of self.now }
+        ensures payload { payload_of result ≡ payload_of self.now }
+        ensures others { (i : ℕ) → i < 1504 → IsOutsideCounter i → bit result i ≡ bit self.now i }
+    {
+        let mut bytes = self.bytes;
+        bytes[3] = bytes[3] / 16 * 16 + counter;
+        Packet { bytes }
     }
 }
 

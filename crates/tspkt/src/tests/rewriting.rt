@@ -32,3 +32,14 @@ fn times(rt: HostRuntime) {
     assert_eq!(rt; time(188 + 10, 1_504_000), 28_436);
     assert_eq!(rt; time(4 * 188 + 10, 1_504_000), 109_436);
 }
+
+#[test]
+fn another_counter(rt: HostRuntime) {
+    let taken = packet(&rt, &[0x47, 0x41, 0x00, 0xD7]);
+    for (counter, byte) in [(0, 0xD0), (15, 0xDF)] {
+        let sent = taken.with_counter(counter);
+        assert_eq!(rt; &sent.bytes()[..3], &taken.bytes()[..3]);
+        assert_eq!(rt; sent.bytes()[3], byte);
+        assert_eq!(rt; &sent.bytes()[4..], &taken.bytes()[4..]);
+    }
+}
