@@ -1,6 +1,7 @@
 -- The output's tables as sections and as packets.
 use Rattle.std.specs.Prelude.{◌≡◌, ℕ, ◌+◌, ◌*◌, List, [], ◌∷◌, ◌++◌, length, Ok}
-use Rattle.std.specs.List.{flat_map, AllZip}
+use Rattle.std.specs.List.{All, flat_map, AllZip}
+use Rattle.tspkt.specs.Packet.{IsPacket}
 use Rattle.section.specs.Crc.{crc_of}
 use Rattle.tables.specs.Pat.{PatValue, pat_of}
 use Rattle.tables.specs.Pmt.{PmtValue, pmt_of, pmt_section_length_of}
@@ -58,3 +59,6 @@ pub record IsTableSet (r : RequestValue) (chosen : List ChosenValue) (t : TableS
   pub nit : IsSectionFor IsNitSection 0x0010 (nit_section_length_of (output_nit r chosen)) (output_nit r chosen) t.nit
   pub fast_count : length (fast_packets t) ≡ fast_count r chosen
   pub slow_count : length (slow_packets t) ≡ slow_count r chosen
+  -- each of them is whole and has no fault
+  pub fast_whole : All IsPacket (fast_packets t)
+  pub slow_whole : All IsPacket (slow_packets t)

@@ -25,6 +25,8 @@ impl Model for OutputSection {
 
 impl OutputSection {
     ghost use Rattle.std.specs.Prelude.{◌≡◌, ◌<◌, ◌≤◌, ◌^◌, ◌++◌, length, IfOk};
+    ghost use Rattle.std.specs.List.{All};
+    ghost use Rattle.tspkt.specs.Packet.{IsPacket};
     ghost use Rattle.output_tables.specs.OnPid.{packets_on_pid};
 
     /// The section of these bytes on this PID.
@@ -50,7 +52,8 @@ impl OutputSection {
 
     /// Puts its packets behind others. It fails only for want of memory.
     pub fn push_packets(&self, alloc: Global, packets: &mut Vec<Packet>) -> Result<(), AllocError>
-        ensures { IfOk result (λ _. packets.new.items ≡ packets.old.items ++ packets_on_pid self.now) }
+        ensures value { IfOk result (λ _. packets.new.items ≡ packets.old.items ++ packets_on_pid self.now) }
+        ensures whole { IfOk result (λ _. All IsPacket (packets_on_pid self.now)) }
     {
         let own = table_packets(alloc, self.pid, &self.bytes)?;
         packets.extend_from_slice(&own)?;

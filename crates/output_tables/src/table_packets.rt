@@ -1,6 +1,8 @@
 //! The packets of a table's section.
 
 ghost use Rattle.std.specs.Prelude.{◌≡◌, ◌<◌, ◌≤◌, ◌^◌, length, IfOk};
+ghost use Rattle.std.specs.List.{All};
+ghost use Rattle.tspkt.specs.Packet.{IsPacket};
 ghost use Rattle.output_tables.specs.Output.{table_packets};
 
 use section::packets_of;
@@ -18,14 +20,18 @@ pub fn table_packets(alloc: Global, pid: u16, section: &[u8]) -> Result<Vec<Pack
     requires some { 0 < length section.now }
     requires whole { length section.now ≤ 1024 }
     requires pid { pid < 2 ^ 13 }
-    ensures { IfOk result (λ v. v.items ≡ table_packets pid section.now) }
+    ensures value { IfOk result (λ v. v.items ≡ table_packets pid section.now) }
+    ensures whole { IfOk result (λ v. All IsPacket v.items) }
 {
     let counted = packets_of(alloc, section, pid, 0)?;
     let mut packets = Vec::with_capacity(alloc, counted.len())?;
     for packet in &counted {
         let mut bytes = *packet.bytes();
         bytes[COUNTER_PLACE] = PLAIN_WITH_COUNTER_0;
-        packets.push_reserved(Packet::read(&bytes).unwrap());
+        let uncounted = Packet::read(&bytes).unwrap();
+        // What all packets keep is known with it.
+        let _ = uncounted.bytes();
+        packets.push_reserved(uncounted);
     }
     Ok(packets)
 }

@@ -1,7 +1,8 @@
 //! The output's tables.
 
 ghost use Rattle.std.specs.Prelude.{◌≡◌, [], ◌∷◌, ◌++◌, IfOk};
-ghost use Rattle.std.specs.List.{flat_map};
+ghost use Rattle.std.specs.List.{All, flat_map};
+ghost use Rattle.tspkt.specs.Packet.{IsPacket};
 ghost use Rattle.output_tables.specs.OnPid.{packets_on_pid};
 
 use crate::output_section::OutputSection;
@@ -145,8 +146,9 @@ fn push_all(
     sections: &[OutputSection],
     packets: &mut Vec<Packet>,
 ) -> Result<(), AllocError>
-    ensures { IfOk result (λ _.
+    ensures value { IfOk result (λ _.
         packets.new.items ≡ packets.old.items ++ flat_map packets_on_pid sections.now) }
+    ensures whole { IfOk result (λ _. All IsPacket (flat_map packets_on_pid sections.now)) }
 {
     for section in sections {
         section.push_packets(alloc, packets)?;
@@ -160,7 +162,8 @@ fn packets_behind(
     first: &OutputSection,
     others: &[OutputSection],
 ) -> Result<Vec<Packet>, AllocError>
-    ensures { IfOk result (λ v. v.items ≡ flat_map packets_on_pid (first.now ∷ others.now)) }
+    ensures value { IfOk result (λ v. v.items ≡ flat_map packets_on_pid (first.now ∷ others.now)) }
+    ensures whole { IfOk result (λ v. All IsPacket v.items) }
 {
     let mut packets = Vec::new(alloc);
     first.push_packets(alloc, &mut packets)?;
@@ -174,7 +177,8 @@ fn packets_before(
     others: &[OutputSection],
     last: &OutputSection,
 ) -> Result<Vec<Packet>, AllocError>
-    ensures { IfOk result (λ v. v.items ≡ flat_map packets_on_pid (others.now ++ last.now ∷ [])) }
+    ensures value { IfOk result (λ v. v.items ≡ flat_map packets_on_pid (others.now ++ last.now ∷ [])) }
+    ensures whole { IfOk result (λ v. All IsPacket v.items) }
 {
     let mut packets = Vec::new(alloc);
     push_all(alloc, others, &mut packets)?;
