@@ -1,5 +1,7 @@
--- The numbers and names of the faults in ETSI TR 101 290, 5.2.1.
-use Rattle.std.specs.Prelude.{ℕ, List, codes}
+-- The numbers and names of the faults in ETSI TR 101 290, 5.2.1, and how a fault is printed.
+use Rattle.std.specs.Prelude.{ℕ, ◌-◌, ◌^◌, List, [], ◌++◌, Option, Some, None, true, false, codes}
+use Rattle.std.specs.Fmt.{decimal, digits, padded_integral, format_spec}
+use Rattle.analyse.specs.declared.fault.Fault.{Fault}
 use Rattle.analyse.specs.declared.fault_kind.FaultKind.{FaultKind}
 use Rattle.analyse.specs.declared.fault_kind.FaultKind.TheVariants.{TsSyncLoss, SyncByteError, PatError2, ContinuityCountError, PmtError2, PidError}
 
@@ -18,3 +20,12 @@ name_of PatError2 = codes "PAT_error_2"
 name_of ContinuityCountError = codes "Continuity_count_error"
 name_of PmtError2 = codes "PMT_error_2"
 name_of PidError = codes "PID_error"
+
+-- four hexadecimal digits in upper case (profile)
+abbrev pub pid_text : Option ℕ → List ℕ
+pid_text None = codes "-"
+pid_text (Some pid) = codes "0x" ++ padded_integral (format_spec 32 0 4 4 (2 ^ 64 - 1)) false [] (digits 16 true pid)
+
+-- as `slot 501 1.5.a 0x0100` (profile)
+abbrev pub fault_text : Fault → List ℕ
+fault_text f = codes "slot " ++ decimal f.slot ++ codes " " ++ number_of f.kind ++ codes " " ++ pid_text f.pid

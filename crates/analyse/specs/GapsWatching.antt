@@ -63,6 +63,15 @@ pub record ChangesTo (w : GapsState) (set : List Bool) (watched mark : ℕ → �
   pub now : (pid : ℕ) → pid < 8192 → watched pid count ≡ slice_index_or set pid false
   pub marks : (pid : ℕ) → pid < 8192 → mark pid count ≡ has_mark w set packet pid
 
+-- at number `count` the PIDs are watched that pass the test, by a set that has them
+pub record HasChanged (w new : GapsState) (test : ℕ → Bool) (count : ℕ) (packet : Option (List ℕ)) : Type 0 where
+  pub set : List Bool
+  pub has : (pid : ℕ) → pid < 8192 → slice_index_or set pid false ≡ test pid
+  pub seen : (watched mark : ℕ → ℕ → Bool) → HaveSeenNumbers w watched mark count → ChangesTo w set watched mark count packet
+      → HaveSeenNumbers new watched mark (count + 1)
+  pub watched : (pid : ℕ) → pid < 8192 → is_watched new pid ≡ slice_index_or set pid false
+  pub limit : new.limit ≡ w.limit
+
 -- one PID is as it is to be, and the others as they were
 pub record IsChangedAt (w new : GapsState) (count pid : ℕ) (now marked : Bool) : Type 0 where
   pub limit : new.limit ≡ w.limit

@@ -9,6 +9,24 @@ use crate::stream_watch::StreamWatch;
 use std::alloc::{AllocError, Global};
 use std::marker::Model;
 
+/// Makes the watches, which see the first slot. They are large, and made here so that no other call keeps room for them.
+fn see_first(
+    alloc: Global,
+    rate: u64,
+    period: u64,
+    watch: &mut Option<StreamWatch>,
+    slot: &[u8; 188],
+    out: &mut Vec<Fault>,
+) -> Result<(), AllocError>
+    ensures seen { OnOk result (IsWatching rate period watch.new (slot.now ∷ [])) }
+    ensures told { OnOk result (out.new.items ≡ out.old.items ++ faults_at rate period (slot.now ∷ []) 0) }
+{
+    let mut first = StreamWatch::new(alloc, rate, period)?;
+    first.push(slot, out)?;
+    *watch = Some(first);
+    Ok(())
+}
+
 /// Sees the next slot. The first one makes the watches.
 fn see_slot(
     alloc: Global,
@@ -25,12 +43,7 @@ fn see_slot(
 {
     match watch {
         Some(watch) => watch.push(slot, out),
-        None => {
-            let mut first = StreamWatch::new(alloc, rate, period)?;
-            first.push(slot, out)?;
-            *watch = Some(first);
-            Ok(())
-        }
+        None => see_first(alloc, rate, period, watch, slot, out),
     }
 }
 

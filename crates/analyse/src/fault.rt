@@ -15,6 +15,11 @@ pub struct Fault {
 
 /// Prints as `slot 501 1.5.a 0x0100`, with `-` where there is no PID.
 impl fmt::Display for Fault {
+    ghost use Rattle.std.specs.Prelude.{Some};
+    ghost use Rattle.analyse.specs.FaultNames.{fault_text};
+
+    ghost output = { λ fault. Some (fault_text fault) };
+
     fn fmt<W: fmt::Write>(&self, f: &mut fmt::Formatter<W>) -> fmt::Result {
         let slot = self.slot;
         let kind = self.kind;

@@ -1,4 +1,9 @@
 //! Faults of a stream, by the first priority of ETSI TR 101 290.
+//!
+//! `Analyser` takes a stream slot by slot and tells each slot's faults. It stands on watches, of which each keeps what the
+//! next slot's faults need: `SyncWatch` of the sync bytes, `CounterWatches` of the counters of all PIDs, `PatWatch` of PID
+//! 0x0000 and the programs of the PAT in force, `PmtWatches` of the PMTs of all PIDs, and two `GapWatches` of the PIDs that
+//! carry a PMT and of those to which a PMT refers.
 #![tactic(auto)]
 
 mod analyser;

@@ -4,7 +4,7 @@ ghost use Rattle.std.specs.Prelude.{◌≡◌, ◌∷◌, ◌++◌, [], ◌+◌,
 ghost use Rattle.analyse.specs.SlotReading.{IsReadAs};
 ghost use Rattle.analyse.specs.Faults.{grew_at, pmt_count};
 ghost use Rattle.tspkt.specs.Packet.{pid_of};
-ghost use Rattle.analyse.specs.PmtWatching.{HasSeenPidPmts, state_of, boxed_state};
+ghost use Rattle.analyse.specs.PmtWatching.{HasSeenPidPmts, new_pmt_watch, state_of, boxed_state};
 
 use crate::pmt_watch::PmtWatch;
 use crate::table_seen::TableSeen;
@@ -15,6 +15,14 @@ use tspkt::Packet;
 
 /// PIDs are below this.
 const PID_COUNT: usize = 8192;
+
+/// A watch of this PID that has seen no packet. It is large, and made here so that no other call keeps room for it. An
+/// `Err` is want of memory.
+fn boxed_watch(alloc: Global, pid: u16) -> Result<Box<PmtWatch>, AllocError>
+    ensures { IfOk result (λ w. w.value ≡ new_pmt_watch pid) }
+{
+    Ok(Box::new(alloc, PmtWatch::new(alloc, pid))?)
+}
 
 /// Sees the next packet of a PID. The first one makes the PID's watch.
 fn see_packet(
@@ -36,9 +44,9 @@ fn see_packet(
     match watch {
         Some(watch) => watch.push(packet, told),
         None => {
-            let mut first = PmtWatch::new(alloc, packet.pid());
+            let mut first = boxed_watch(alloc, packet.pid())?;
             let seen = first.push(packet, told)?;
-            *watch = Some(Box::new(alloc, first)?);
+            *watch = Some(first);
             Ok(seen)
         }
     }

@@ -2,8 +2,9 @@
 
 ghost use Rattle.std.specs.Prelude.{◌≡◌, ◌<◌, ◌&&◌, ℕ, option_map};
 ghost use Rattle.std.specs.Option.{ForSome};
-ghost use Rattle.analyse.specs.GapsWatching.{is_of_packet};
+ghost use Rattle.analyse.specs.GapsWatching.{is_of_packet, HasChanged};
 ghost use Rattle.analyse.specs.TablesWatching.{scrambled_pid, watched_only};
+ghost use Rattle.analyse.specs.WatchedPids.{is_pmt_pid_of, is_referred_of};
 
 use crate::fault::Fault;
 use crate::fault_kind::FaultKind;
@@ -44,6 +45,27 @@ fn packet_if(is_mark: bool, packet: Option<&Packet>) -> Option<&Packet>
         ≡ (is_mark && is_of_packet (option_map (λ p. p.now) packet.entry) pid) }
 {
     if is_mark { packet } else { None }
+}
+
+/// Sees a number of slots at which the PIDs of the PMTs are watched that these rows name. The set of them is large, and
+/// made here so that no other call keeps room for it.
+fn change_pmts(gaps: &mut GapWatches, next: u64, rows: &[PatRow], pmt: Option<&Packet>)
+    ensures { HasChanged gaps.old gaps.new (is_pmt_pid_of rows.now) next (option_map (λ p. p.now) pmt.entry) }
+{
+    gaps.change(next, &pmt_pids(rows), pmt);
+}
+
+/// The same of the PIDs to which the PMTs of these rows refer.
+fn change_pids(
+    gaps: &mut GapWatches,
+    next: u64,
+    rows: &[PatRow],
+    pmts: &PmtWatches,
+    packet: Option<&Packet>,
+)
+    ensures { HasChanged gaps.old gaps.new (is_referred_of pmts.now rows.now) next (option_map (λ p. p.now) packet.entry) }
+{
+    gaps.change(next, &referred_pids(rows, pmts), packet);
 }
 
 /// Watches the PIDs that carry a PMT (ETSI TR 101 290, 5.2.1: PMT_error_2), and those to which a PMT refers as elementary
@@ -125,9 +147,8 @@ impl TableWatches {
         let seen = self.pmts.push(packet)?;
         let pmt = packet_if(seen.came, packet);
         if changed || seen.changed {
-            self.pmt_gaps.change(next, &pmt_pids(rows), pmt);
-            self.pid_gaps
-                .change(next, &referred_pids(rows, &self.pmts), packet);
+            change_pmts(&mut self.pmt_gaps, next, rows, pmt);
+            change_pids(&mut self.pid_gaps, next, rows, &self.pmts, packet);
             return Ok(());
         }
         self.pmt_gaps.pass(next, pmt);

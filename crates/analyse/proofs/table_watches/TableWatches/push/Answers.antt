@@ -18,21 +18,21 @@ returns-then-changed-clause-seen c slots slot s n r rows same =
     let marked = option_map (λ p. p.now) c.packet_if-pmt.result in
     let pmts = c.in_ok-seen.ensures.seen slots slot t.pmts r in
     let grew = c.in_ok-seen.ensures.came slots slot t.pmts r in
-    let pmt_set : (pid : ℕ) → pid < 8192 → get_or c.pmt_pids.result pid false ≡ is_pmt_pid_behind more pid =
-    λ pid h. c.pmt_pids.ensures pid h ∙ ap (λ (l : List PatRow). is_pmt_pid_of l pid) rows ∙ pmt_pids_are more pid in
-    let pid_set : (pid : ℕ) → pid < 8192 → get_or c.referred_pids.result pid false ≡ is_referred_behind more pid =
-    λ pid h. c.referred_pids.ensures pid h ∙ ap (λ (l : List PatRow). is_referred_of c.push.new.self l pid) rows ∙ referred_are c.push.new.self more pid pmts in
-    tables_seen c.push.new.self c.change.new.self c.change-then-changed.new.self slots slot pmts
-    (subst (λ (k : ℕ). HaveSeenNumbers c.change.new.self (is_pmt_watched more) (is_pmt_mark more) (k + 1)) (sym n)
-    (c.change.ensures.seen (is_pmt_watched more) (is_pmt_mark more)
+    let pmt_set : (pid : ℕ) → pid < 8192 → get_or c.change_pmts.ensures.set pid false ≡ is_pmt_pid_behind more pid =
+    λ pid h. c.change_pmts.ensures.has pid h ∙ ap (λ (l : List PatRow). is_pmt_pid_of l pid) rows ∙ pmt_pids_are more pid in
+    let pid_set : (pid : ℕ) → pid < 8192 → get_or c.change_pids.ensures.set pid false ≡ is_referred_behind more pid =
+    λ pid h. c.change_pids.ensures.has pid h ∙ ap (λ (l : List PatRow). is_referred_of c.push.new.self l pid) rows ∙ referred_are c.push.new.self more pid pmts in
+    tables_seen c.push.new.self c.change_pmts.new.gaps c.change_pids.new.gaps slots slot pmts
+    (subst (λ (k : ℕ). HaveSeenNumbers c.change_pmts.new.gaps (is_pmt_watched more) (is_pmt_mark more) (k + 1)) (sym n)
+    (c.change_pmts.ensures.seen (is_pmt_watched more) (is_pmt_mark more)
     (subst (λ (k : ℕ). HaveSeenNumbers w.pmt_gaps (is_pmt_watched more) (is_pmt_mark more) k) n (pmt_numbers w slots slot t))
-    (subst (λ (k : ℕ). ChangesTo w.pmt_gaps c.pmt_pids.result (is_pmt_watched more) (is_pmt_mark more) k marked) n (pmt_changes w slots slot t packet marked c.in_ok-seen.seen.came grew c.packet_if-pmt.ensures r c.pmt_pids.result pmt_set))))
-    (subst (λ (k : ℕ). HaveSeenNumbers c.change-then-changed.new.self (is_pid_watched more) (is_pid_mark more) (k + 1)) (sym n)
-    (c.change-then-changed.ensures.seen (is_pid_watched more) (is_pid_mark more)
+    (subst (λ (k : ℕ). ChangesTo w.pmt_gaps c.change_pmts.ensures.set (is_pmt_watched more) (is_pmt_mark more) k marked) n (pmt_changes w slots slot t packet marked c.in_ok-seen.seen.came grew c.packet_if-pmt.ensures r c.change_pmts.ensures.set pmt_set))))
+    (subst (λ (k : ℕ). HaveSeenNumbers c.change_pids.new.gaps (is_pid_watched more) (is_pid_mark more) (k + 1)) (sym n)
+    (c.change_pids.ensures.seen (is_pid_watched more) (is_pid_mark more)
     (subst (λ (k : ℕ). HaveSeenNumbers w.pid_gaps (is_pid_watched more) (is_pid_mark more) k) n (pid_numbers w slots slot t))
-    (subst (λ (k : ℕ). ChangesTo w.pid_gaps c.referred_pids.result (is_pid_watched more) (is_pid_mark more) k packet) n (pid_changes w slots slot t packet marked c.in_ok-seen.seen.came grew c.packet_if-pmt.ensures r c.referred_pids.result pid_set))))
-    (λ pid h. c.change.ensures.watched pid h ∙ pmt_set pid h)
-    (λ pid h. c.change-then-changed.ensures.watched pid h ∙ pid_set pid h)
+    (subst (λ (k : ℕ). ChangesTo w.pid_gaps c.change_pids.ensures.set (is_pid_watched more) (is_pid_mark more) k packet) n (pid_changes w slots slot t packet marked c.in_ok-seen.seen.came grew c.packet_if-pmt.ensures r c.change_pids.ensures.set pid_set))))
+    (λ pid h. c.change_pmts.ensures.watched pid h ∙ pmt_set pid h)
+    (λ pid h. c.change_pids.ensures.watched pid h ∙ pid_set pid h)
 
 pub returns-clause-seen : goal.returns-clause-seen
 returns-clause-seen c slots slot s n r rows same =
