@@ -1,0 +1,15 @@
+pub mod WalkLaws
+pub mod CycleLaws
+pub mod TablePacketLaws
+pub mod SectionPacketLaws
+pub mod RepeatLaws
+pub mod SectionByteLaws
+pub mod PlanBasics
+pub mod PlanFacts
+pub mod SlotLaws
+pub mod AgreementLaws
+pub mod RecurrenceLaws
+pub mod TablePidLaws
+pub mod TableLevelLaws
+pub mod TableSlotLaws
+pub mod StreamBufferLaws

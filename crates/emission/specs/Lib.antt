@@ -1,0 +1,4 @@
+pub mod Emission
+pub mod Agreement
+pub mod Recurrence
+pub mod TableBuffers
