@@ -1,15 +1,18 @@
-//! Measures parts of the multiplex. `bench framing FILE` frames a file and reads its packets; `bench multiplex` takes and
-//! sends a million packets of 4 inputs and 16 streams; `bench crc` takes CRCs of sections.
+//! Measures parts of the multiplex, and the analyser. `bench framing FILE` frames a file and reads its packets; `bench
+//! analyser FILE` tells the faults of its slots; `bench multiplex` takes and sends a million packets of 4 inputs and 16
+//! streams; `bench crc` takes CRCs of sections.
 #![tactic(auto)]
 
+mod analyser;
 mod crc;
 mod framing;
 mod multiplex;
+mod workload;
 
 use anyhow::{Result, bail};
 use std::env;
 
-const USAGE: &str = "usage: bench framing FILE | bench multiplex | bench crc";
+const USAGE: &str = "usage: bench framing FILE | bench analyser FILE | bench multiplex | bench crc";
 
 fn main(rt: HostRuntime) -> Result<()> {
     let mut words = env::args(&rt)?;
@@ -20,6 +23,7 @@ fn main(rt: HostRuntime) -> Result<()> {
     };
     match (what.as_str(), words.next()) {
         ("framing", Some(file)) => framing::run(&rt, file.as_str()),
+        ("analyser", Some(file)) => analyser::run(&rt, file.as_str()),
         ("multiplex", None) => multiplex::run(&rt),
         ("crc", None) => crc::run(&rt),
         _ => bail!("{USAGE}"),

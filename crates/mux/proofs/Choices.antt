@@ -5,9 +5,9 @@ use Rattle.std.specs.List.{slice_get}
 use Rattle.std.proofs.lemmas.Bool.{cases_order}
 use Rattle.std.proofs.lemmas.Option.{same_Some, slice_get_read, slice_get-get_or, slice_get_within}
 use Rattle.tspkt.specs.declared.stamped.Stamped.{Stamped}
-use Rattle.mux.specs.declared.stream.Stream.{Stream}
+use Rattle.request.specs.declared.stream.Stream.{Stream}
 use Rattle.mux.specs.declared.candidate.Candidate.{Candidate}
-use Rattle.mux.specs.QueueValue.{QueueValue}
+use Rattle.buffers.specs.QueueValue.{QueueValue}
 use Rattle.mux.specs.Lawful.{IsNotAfter}
 use Rattle.mux.specs.Choosing.{IsDueHead, IsFirstDueHead, Precedes, IsFirstOf}
 

@@ -6,17 +6,21 @@ use Rattle.std.proofs.lemmas.List.Sums.{sum_by-cons, count_by-le-length}
 use Rattle.std.proofs.lemmas.Bool.{cases_Bool, ne_eqb}
 use Rattle.std.proofs.lemmas.Option.{same_Some, slice_get_within}
 use Rattle.tspkt.specs.declared.stamped.Stamped.{Stamped}
-use Rattle.mux.specs.declared.stream.Stream.{Stream}
+use Rattle.request.specs.declared.stream.Stream.{Stream}
+use Rattle.rounds.specs.declared.table_place.TablePlace.{TablePlace}
 use Rattle.mux.specs.declared.content.Content.{Content}
-use Rattle.mux.specs.declared.content.Content.TheVariants.{Null, Elementary}
+use Rattle.mux.specs.declared.content.Content.TheVariants.{Null, Elementary, Table}
 use Rattle.mux.specs.declared.event.Event.{Event}
 use Rattle.mux.specs.declared.event.Event.TheVariants.{Took, Full, Close, Slot}
-use Rattle.mux.specs.QueueValue.{QueueValue}
-use Rattle.mux.specs.PlanValue.{PlanValue, IsPlan}
+use Rattle.buffers.specs.QueueValue.{QueueValue}
+use Rattle.plan.specs.Build.{PlanValue}
+use Rattle.mux.specs.Plans.{IsMultiplexPlan}
 use Rattle.mux.specs.History.{taken, queue, slots}
-use Rattle.mux.specs.Totals.{contents, is_table, is_elementary, is_null, is_of_input, queued}
-use Rattle.mux.specs.Keeping.{queue_of}
+use Rattle.mux.specs.declared.counts.Counts.{Counts}
+use Rattle.mux.specs.Totals.{contents, is_table, is_elementary, is_null, is_of_input, queued, IsCounts}
+use Rattle.mux.specs.Keeping.{queue_of, counts_of}
 use Rattle.mux.specs.Lawful.{IsLawful}
+use Rattle.mux.proofs.Contents.{stream_choice}
 use Rattle.mux.proofs.Plans.{IsAt, has_of}
 use Rattle.mux.proofs.Refusals.{IsTakenFor, taken_for_of, goes_both}
 use Rattle.mux.proofs.Queues as queues
@@ -45,19 +49,41 @@ pub count_unsent : (i : ℕ) (st : Stream) (cs : List Content) → i ≢ st.inpu
 count_unsent i st cs ne =
     count-cons (is_of_input i) (Elementary st) cs ∙ ap (λ b. cond b 1 0 + count_by (is_of_input i) cs) (ne_eqb st.input i (λ e. ne (sym e))) ∙ omega arith
 
-pub count_elementary : (st : Stream) (cs : List Content) → count_by is_elementary (Elementary st ∷ cs) ≡ count_by is_elementary cs + 1
-count_elementary st cs = count-cons is_elementary (Elementary st) cs ∙ omega arith
+counted_as : (c : Content) (h : List Event) (tables elementary null : ℕ) → tables ≡ count_by is_table (c ∷ contents h) → elementary ≡ count_by is_elementary (c ∷ contents h) → null ≡ count_by is_null (c ∷ contents h)
+    → record { tables = tables; elementary = elementary; null = null } ≡ counts_of (Slot c ∷ h)
+counted_as c h tables elementary null t e n = cc
+
+-- one more slot of a kind
+pub counts_elementary : (st : Stream) (h : List Event) → record (counts_of h) { elementary = (counts_of h).elementary + 1 } ≡ counts_of (Slot (Elementary st) ∷ h)
+counts_elementary st h = counted_as (Elementary st) h _ _ _ (omega (arith, count-cons is_table (Elementary st) (contents h))) (omega (arith, count-cons is_elementary (Elementary st) (contents h))) (omega (arith, count-cons is_null (Elementary st) (contents h)))
+
+pub counts_table : (place : TablePlace) (h : List Event) → record (counts_of h) { tables = (counts_of h).tables + 1 } ≡ counts_of (Slot (Table place) ∷ h)
+counts_table place h = counted_as (Table place) h _ _ _ (omega (arith, count-cons is_table (Table place) (contents h))) (omega (arith, count-cons is_elementary (Table place) (contents h))) (omega (arith, count-cons is_null (Table place) (contents h)))
+
+pub counts_null : (h : List Event) → record (counts_of h) { null = (counts_of h).null + 1 } ≡ counts_of (Slot Null ∷ h)
+counts_null h = counted_as Null h _ _ _ (omega (arith, count-cons is_table Null (contents h))) (omega (arith, count-cons is_elementary Null (contents h))) (omega (arith, count-cons is_null Null (contents h)))
+
+one_kind : (c : Content) → cond (is_table c) 1 0 + cond (is_elementary c) 1 0 + cond (is_null c) 1 0 ≡ 1
+one_kind Null = refl
+one_kind (Table place) = refl
+one_kind (Elementary st) = refl
 
 -- each slot is of one kind
-pub tables_zero : (cs : List Content) → count_by is_table cs ≡ 0
-tables_zero [] = refl
-tables_zero (Null ∷ cs) = omega (arith, count-cons is_table Null cs, tables_zero cs)
-tables_zero (Elementary st ∷ cs) = omega (arith, count-cons is_table (Elementary st) cs, tables_zero cs)
-
-pub kinds : (cs : List Content) → count_by is_elementary cs + count_by is_null cs ≡ length cs
+kinds : (cs : List Content) → count_by is_table cs + count_by is_elementary cs + count_by is_null cs ≡ length cs
 kinds [] = refl
-kinds (Null ∷ cs) = let ih = kinds cs in omega (arith, count-cons is_elementary Null cs, count-cons is_null Null cs)
-kinds (Elementary st ∷ cs) = let ih = kinds cs in omega (arith, count-cons is_elementary (Elementary st) cs, count-cons is_null (Elementary st) cs)
+kinds (c ∷ cs) =
+    let ih = kinds cs in
+    let one : cond (is_table c) 1 0 + cond (is_elementary c) 1 0 + cond (is_null c) 1 0 ≡ 1 = one_kind c in
+    omega (arith, count-cons is_table c cs, count-cons is_elementary c cs, count-cons is_null c cs)
+
+-- what is kept says how many slots carried what
+pub are_counts : (h : List Event) (c : Counts) → c ≡ counts_of h → IsCounts h c
+are_counts h c is = record {
+  tables = ap (λ (x : Counts). x.tables) is;
+  elementary = ap (λ (x : Counts). x.elementary) is;
+  null = ap (λ (x : Counts). x.null) is;
+  whole = omega (arith, ap (λ (x : Counts). x.tables) is, ap (λ (x : Counts). x.elementary) is, ap (λ (x : Counts). x.null) is, kinds (contents h), length-contents h);
+}
 
 -- Sums over streams.
 
@@ -99,8 +125,8 @@ sum_nothing i (x ∷ xs) =
     let none : waiting i [] x ≡ 0 = elim (cases_Bool (nat_eq x.input i)) [ inl e ↦ rw e refl | inr e ↦ rw e refl ] in
     omega (arith, sum_by-cons (waiting i []) x xs, sum_nothing i xs, none)
 
-queued-waiting : (p : PlanValue) (i : ℕ) (h : List Event) → queued p i h ≡ sum_by (waiting i h) p.streams
-queued-waiting p i h = sum_filter (λ (st : Stream). length (queue st h)) (λ (st : Stream). nat_eq st.input i) p.streams
+queued-waiting : (p : PlanValue) (i : ℕ) (h : List Event) → queued p i h ≡ sum_by (waiting i h) p.request.streams
+queued-waiting p i h = sum_filter (λ (st : Stream). length (queue st h)) (λ (st : Stream). nat_eq st.input i) p.request.streams
 
 same_waiting : (i c : ℕ) (a b : List Event) (st : Stream) → queue_of c a st ≡ queue_of c b st → waiting i a st ≡ waiting i b st
 same_waiting i c a b st e = ap (λ (q : QueueValue). cond (nat_eq st.input i) (length q.items) 0) e
@@ -110,27 +136,27 @@ more_if true m n e = e
 more_if false m n e = omega arith
 
 -- one more waits of an input where a packet was taken for a stream of it
-queued_took : (p : PlanValue) (i j : ℕ) (h : List Event) (item : Stamped) (k : ℕ) (st : Stream) → IsPlan p → IsLawful p h → IsAt p k st → IsTakenFor p h j item st
+queued_took : (p : PlanValue) (i j : ℕ) (h : List Event) (item : Stamped) (k : ℕ) (st : Stream) → IsMultiplexPlan p → IsLawful p h → IsAt p k st → IsTakenFor p h j item st
     → queued p i (Took j item ∷ h) ≡ queued p i h + cond (nat_eq st.input i) 1 0
 queued_took p i j h item k st plan law at taker =
     let grown : length (queue st (Took j item ∷ h)) ≡ length (queue st h) + 1 =
     ap (λ (q : QueueValue). length q.items) (queues.queued p h j item st plan law taker) ∙ length-append (queue st h) (item ∷ []) in
     queued-waiting p i (Took j item ∷ h)
-    ∙ sum_more (waiting i h) (waiting i (Took j item ∷ h)) (cond (nat_eq st.input i) 1 0) p.streams k st at (more_if (nat_eq st.input i) _ _ grown)
-    (λ m x ne there. sym (same_waiting i p.queue_capacity h (Took j item ∷ h) x (queues.unqueued p h j item st k plan at taker m x ne there)))
+    ∙ sum_more (waiting i h) (waiting i (Took j item ∷ h)) (cond (nat_eq st.input i) 1 0) p.request.streams k st at (more_if (nat_eq st.input i) _ _ grown)
+    (λ m x ne there. sym (same_waiting i p.request.queue h (Took j item ∷ h) x (queues.unqueued p h j item st k plan at taker m x ne there)))
     ∙ ap (λ n. n + cond (nat_eq st.input i) 1 0) (sym (queued-waiting p i h))
 
 -- one less where a packet of a stream of it was sent
-queued_sent : (p : PlanValue) (i : ℕ) (h : List Event) (item : Stamped) (k : ℕ) (st : Stream) → IsPlan p → IsAt p k st → slice_get (queue st h) 0 ≡ Some item
+queued_sent : (p : PlanValue) (i : ℕ) (h : List Event) (item : Stamped) (k : ℕ) (st : Stream) → IsMultiplexPlan p → IsAt p k st → slice_get (queue st h) 0 ≡ Some item
     → queued p i h ≡ queued p i (Slot (Elementary st) ∷ h) + cond (nat_eq st.input i) 1 0
 queued_sent p i h item k st plan at head =
     let shrunk : length (queue st h) ≡ length (queue st (Slot (Elementary st) ∷ h)) + 1 =
     (let l = slice_get_within (queue st h) 0 item head in
-    let one : queue_of p.queue_capacity (Slot (Elementary st) ∷ h) st ≡ record { items = drop 1 (queue st h); capacity = p.queue_capacity } = sym (queues.sent_queue p.queue_capacity h st) in
+    let one : queue_of p.request.queue (Slot (Elementary st) ∷ h) st ≡ record { items = drop 1 (queue st h); capacity = p.request.queue } = sym (queues.sent_queue p.request.queue h st) in
     omega (arith, ap (λ (q : QueueValue). length q.items) one, length-drop 1 (queue st h))) in
     queued-waiting p i h
-    ∙ sum_more (waiting i (Slot (Elementary st) ∷ h)) (waiting i h) (cond (nat_eq st.input i) 1 0) p.streams k st at (more_if (nat_eq st.input i) _ _ shrunk)
-    (λ m x ne there. same_waiting i p.queue_capacity h (Slot (Elementary st) ∷ h) x (queues.unsent_queue p h st k plan at m x ne there))
+    ∙ sum_more (waiting i (Slot (Elementary st) ∷ h)) (waiting i h) (cond (nat_eq st.input i) 1 0) p.request.streams k st at (more_if (nat_eq st.input i) _ _ shrunk)
+    (λ m x ne there. same_waiting i p.request.queue h (Slot (Elementary st) ∷ h) x (queues.unsent_queue p h st k plan at m x ne there))
     ∙ ap (λ n. n + cond (nat_eq st.input i) 1 0) (sym (queued-waiting p i (Slot (Elementary st) ∷ h)))
 
 taken_more : (i j : ℕ) (item : Stamped) (h : List Event) → length (taken i (Took j item ∷ h)) ≡ length (taken i h) + cond (nat_eq j i) 1 0
@@ -141,8 +167,8 @@ taken_more i j item h =
     ]
 
 -- what was taken of an input was sent or waits
-pub taken_is_sent_and_queued : (p : PlanValue) (i : ℕ) (h : List Event) → IsPlan p → IsLawful p h → length (taken i h) ≡ count_by (is_of_input i) (contents h) + queued p i h
-taken_is_sent_and_queued p i [] plan law = omega (arith, queued-waiting p i [], sum_nothing i p.streams)
+pub taken_is_sent_and_queued : (p : PlanValue) (i : ℕ) (h : List Event) → IsMultiplexPlan p → IsLawful p h → length (taken i h) ≡ count_by (is_of_input i) (contents h) + queued p i h
+taken_is_sent_and_queued p i [] plan law = omega (arith, queued-waiting p i [], sum_nothing i p.request.streams)
 taken_is_sent_and_queued p i (Took j item ∷ h) plan law =
     let ih = taken_is_sent_and_queued p i h plan law.0 in
     let to = taken_for_of p h j item law.1 in
@@ -152,8 +178,9 @@ taken_is_sent_and_queued p i (Took j item ∷ h) plan law =
 taken_is_sent_and_queued p i (Full j st ∷ h) plan law = taken_is_sent_and_queued p i h plan law.0
 taken_is_sent_and_queued p i (Close j ∷ h) plan law = taken_is_sent_and_queued p i h plan law.0
 taken_is_sent_and_queued p i (Slot Null ∷ h) plan law = taken_is_sent_and_queued p i h plan law.0
+taken_is_sent_and_queued p i (Slot (Table place) ∷ h) plan law = taken_is_sent_and_queued p i h plan law.0
 taken_is_sent_and_queued p i (Slot (Elementary st) ∷ h) plan law =
     let ih = taken_is_sent_and_queued p i h plan law.0 in
-    let chosen = law.1.content in
+    let chosen = stream_choice p h st law.1.content in
     let has = has_of p st chosen.1.stream in
     omega (arith, count-cons (is_of_input i) (Elementary st) (contents h), queued_sent p i h chosen.0 has.0 st plan has.1 chosen.1.head)

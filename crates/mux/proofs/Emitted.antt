@@ -2,7 +2,7 @@
 use Rattle.std.proofs.Common.{◌+◌, ◌≡◌, List, [], ◌∷◌, length, refl, ap, ◌∙◌, length-append}
 use Rattle.mux.specs.declared.event.Event.{Event}
 use Rattle.mux.specs.declared.event.Event.TheVariants.{Took, Full, Close, Slot}
-use Rattle.mux.specs.PlanValue.{PlanValue}
+use Rattle.plan.specs.Build.{PlanValue}
 use Rattle.mux.specs.History.{slots, emitted, packet_behind}
 
 -- one packet a slot

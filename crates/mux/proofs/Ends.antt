@@ -8,14 +8,16 @@ use Rattle.std.proofs.lemmas.Bool.{cases_Bool, or_cases, eqb-true, ltb-true}
 use Rattle.std.proofs.Math.Nat.{div-mul-le_self, lt-div-mul-add, mul-le-mul_right}
 use Rattle.std.proofs.lemmas.Bool.{cases_lt}
 use Rattle.tspkt.specs.declared.stamped.Stamped.{Stamped}
-use Rattle.mux.specs.declared.stream.Stream.{Stream}
-use Rattle.mux.specs.declared.content.Content.TheVariants.{Null, Elementary}
+use Rattle.request.specs.declared.stream.Stream.{Stream}
+use Rattle.mux.specs.declared.content.Content.TheVariants.{Null, Elementary, Table}
 use Rattle.mux.specs.declared.event.Event.{Event}
 use Rattle.mux.specs.declared.event.Event.TheVariants.{Took, Full, Close, Slot}
-use Rattle.mux.specs.PlanValue.{PlanValue, IsPlan}
+use Rattle.plan.specs.Build.{PlanValue}
+use Rattle.mux.specs.Plans.{IsMultiplexPlan}
 use Rattle.mux.specs.History.{is_mapped_to, taken, taken_for, sent, queue, slots, slot_time, last_stamp, is_closed, full_noted}
 use Rattle.mux.specs.Lawful.{IsLawful, IsDone, is_ready}
 use Rattle.mux.specs.Faithful.{PacketLists, IsFaithful, OutputIsUnique}
+use Rattle.mux.proofs.Contents.{stream_choice}
 use Rattle.mux.proofs.Plans.{IsAt, Has, has_of, contains_of, same_stream, stream_in}
 use Rattle.mux.proofs.Refusals.{taken_for_of, goes_both}
 use Rattle.mux.proofs.Queues.{sent_within}
@@ -50,8 +52,8 @@ Due-last t (suc n) [] x h l = h.0
 Due-last t (suc n) (y ∷ xs) x h l = Due-last t n xs x h.1 (omega arith)
 
 -- slots go out in order
-rate_above_0 : (p : PlanValue) → IsPlan p → 0 < p.rate
-rate_above_0 p plan = let low = plan.rate.0 in omega arith
+rate_above_0 : (p : PlanValue) → IsMultiplexPlan p → 0 < p.request.rate
+rate_above_0 p plan = let low = plan.request.rate.0 in omega arith
 
 quotients : (a b c : ℕ) → 0 < c → a ≤ b → a / c ≤ b / c
 quotients a b c pos le =
@@ -64,11 +66,11 @@ quotients a b c pos le =
       | inr l ↦ l
     ]
 
-in_order : (p : PlanValue) (m : ℕ) → 0 < p.rate → slot_time p m ≤ slot_time p (m + 1)
-in_order p m pos = quotients ((188 * m + 10) * 216000000) ((188 * (m + 1) + 10) * 216000000) p.rate pos (omega arith)
+in_order : (p : PlanValue) (m : ℕ) → 0 < p.request.rate → slot_time p m ≤ slot_time p (m + 1)
+in_order p m pos = quotients ((188 * m + 10) * 216000000) ((188 * (m + 1) + 10) * 216000000) p.request.rate pos (omega arith)
 
 -- what was sent of a stream was due
-sent_due : (p : PlanValue) (k : ℕ) (st : Stream) (h : List Event) → IsPlan p → IsLawful p h → IsAt p k st → Due (slot_time p (slots h)) (sent st h) (taken_for st h)
+sent_due : (p : PlanValue) (k : ℕ) (st : Stream) (h : List Event) → IsMultiplexPlan p → IsLawful p h → IsAt p k st → Due (slot_time p (slots h)) (sent st h) (taken_for st h)
 sent_due p k st [] plan law at = tt
 sent_due p k st (Took j item ∷ h) plan law at =
     let ih = sent_due p k st h plan law.0 at in
@@ -79,10 +81,11 @@ sent_due p k st (Took j item ∷ h) plan law at =
 sent_due p k st (Full j su ∷ h) plan law at = sent_due p k st h plan law.0 at
 sent_due p k st (Close j ∷ h) plan law at = sent_due p k st h plan law.0 at
 sent_due p k st (Slot Null ∷ h) plan law at = Due-later (slot_time p (slots h)) (slot_time p (slots h + 1)) (sent st h) (taken_for st h) (in_order p (slots h) (rate_above_0 p plan)) (sent_due p k st h plan law.0 at)
+sent_due p k st (Slot (Table place) ∷ h) plan law at = Due-later (slot_time p (slots h)) (slot_time p (slots h + 1)) (sent st h) (taken_for st h) (in_order p (slots h) (rate_above_0 p plan)) (sent_due p k st h plan law.0 at)
 sent_due p k st (Slot (Elementary su) ∷ h) plan law at =
     let t = slot_time p (slots h) in
     let ih = sent_due p k st h plan law.0 at in
-    let chosen = law.1.content in
+    let chosen = stream_choice p h su law.1.content in
     let has = has_of p su chosen.1.stream in
     let later = in_order p (slots h) (rate_above_0 p plan) in
     elim (cases_Bool (nat_eq su.output_pid st.output_pid)) [
@@ -133,7 +136,7 @@ none_left [] e = refl
 none_left (x ∷ xs) e = absurd (omega arith)
 
 -- where a is done, and b has sent the same, no queue of b has anything left
-all_sent : (p : PlanValue) (lists : PacketLists) (a b : List Event) → IsPlan p → IsLawful p a → IsFaithful lists a → IsDone p a → IsLawful p b → IsFaithful lists b → Agree p a b
+all_sent : (p : PlanValue) (lists : PacketLists) (a b : List Event) → IsMultiplexPlan p → IsLawful p a → IsFaithful lists a → IsDone p a → IsLawful p b → IsFaithful lists b → Agree p a b
     → (st : Stream) → Has p st → length (taken_for st b) ≤ sent st b
 all_sent p lists a b plan la fa done lb fb same st has =
     let i = st.input in
@@ -147,8 +150,8 @@ all_sent p lists a b plan la fa done lb fb same st has =
     omega (arith, length-append (filter g (taken i b)) (filter g front.0), length-drop (sent st a) (taken_for st a))
 
 -- then b is done too, if its inputs are ready
-done_too : (p : PlanValue) (lists : PacketLists) (a b : List Event) → IsPlan p → IsLawful p a → IsFaithful lists a → IsDone p a → IsLawful p b → IsFaithful lists b → Agree p a b
-    → ((i : ℕ) → i < length p.inputs → IsTrue (is_ready p i b)) → IsDone p b
+done_too : (p : PlanValue) (lists : PacketLists) (a b : List Event) → IsMultiplexPlan p → IsLawful p a → IsFaithful lists a → IsDone p a → IsLawful p b → IsFaithful lists b → Agree p a b
+    → ((i : ℕ) → i < length p.request.inputs → IsTrue (is_ready p i b)) → IsDone p b
 done_too p lists a b plan la fa done lb fb same ready = record {
   closed = λ i l.
       elim (or_cases (is_closed i b || ltb (slot_time p (slots b)) (last_stamp i b)) (full_noted i b) (ready i l)) [
@@ -178,14 +181,14 @@ done_too p lists a b plan la fa done lb fb same ready = record {
             (let n = noted p lists i b plan lb fb note in
             let left = all_sent p lists a b plan la fa done lb fb same n.st n.has in
             let full = n.full in
-            let some = plan.queue_capacity.0 in
+            let some = plan.request.queue.0 in
             absurd (omega (arith, length-drop (sent n.st b) (taken_for n.st b))))
       ];
   empty = λ st in_plan. none_left (queue st b) (let l = all_sent p lists a b plan la fa done lb fb same st (has_of p st in_plan) in omega (arith, length-drop (sent st b) (taken_for st b)));
 }
 
 -- so b has no more slots
-no_more : (p : PlanValue) (lists : PacketLists) (a b : List Event) → IsPlan p → IsLawful p a → IsFaithful lists a → IsDone p a → IsLawful p b → IsFaithful lists b → slots b ≤ slots a
+no_more : (p : PlanValue) (lists : PacketLists) (a b : List Event) → IsMultiplexPlan p → IsLawful p a → IsFaithful lists a → IsDone p a → IsLawful p b → IsFaithful lists b → slots b ≤ slots a
 no_more p lists a [] plan la fa done lb fb = omega arith
 no_more p lists a (Took j item ∷ b) plan la fa done lb fb = no_more p lists a b plan la fa done lb.0 fb.0
 no_more p lists a (Full j st ∷ b) plan la fa done lb fb = no_more p lists a b plan la fa done lb.0 fb.0

@@ -1,24 +1,34 @@
 -- What holds of the packets that went out, from lawfulness.
-use Rattle.std.proofs.Common.{ℕ, zero, suc, ◌+◌, ◌-◌, ◌<◌, ◌≡◌, Bool, true, false, cond, nat_eq, List, [], ◌∷◌, ◌++◌, length, map, drop, take, Option, Some, None, refl, ap, ◌∙◌, sym, subst, arith, inl, inr, All}
+use Rattle.std.proofs.Common.{ℕ, zero, suc, ◌+◌, ◌-◌, ◌<◌, ◌≡◌, Bool, true, false, cond, nat_eq, List, [], ◌∷◌, ◌++◌, length, map, drop, take, get_or, Option, Some, None, refl, ap, ◌∙◌, sym, subst, arith, inl, inr, All, length-append}
 use Rattle.std.specs.List.{slice_get}
-use Rattle.std.proofs.lemmas.List.{take-append-le, append-nil}
+use Rattle.std.proofs.lemmas.List.{take-append-le, take_at, append-nil}
 use Rattle.std.proofs.lemmas.List.Elements.{All-nil, All-push, All-drop, filter-append}
-use Rattle.std.proofs.lemmas.Option.{same_Some}
-use Rattle.std.proofs.lemmas.Bool.{cases_Bool, ne_eqb, eqb-true}
+use Rattle.std.proofs.lemmas.Option.{same_Some, slice_get_within, get_or_from_slice_get}
+use Rattle.std.proofs.lemmas.Bool.{cases_Bool, cases_lt, ne_eqb, eqb-true}
 use Rattle.tspkt.specs.Packet.{pid_of, null_packet, IsPacket}
 use Rattle.tspkt.specs.Counters.{lawful_of, lawful_behind, follows_of}
 use Rattle.tspkt.specs.Rewritten.{rewritten}
 use Rattle.tspkt.specs.declared.stamped.Stamped.{Stamped}
 use Rattle.tspkt.proofs.RewrittenLaws.{is_packet-rewritten, pid_of-rewritten, is_packet-null_packet, pid_of-null_packet}
 use Rattle.tspkt.proofs.CounterLaws.{IsRewritten, AreRewritten, lawful_of-rewritten}
-use Rattle.mux.specs.declared.stream.Stream.{Stream}
-use Rattle.mux.specs.declared.content.Content.TheVariants.{Null, Elementary}
+use Rattle.request.specs.declared.stream.Stream.{Stream}
+use Rattle.mux.specs.declared.content.Content.TheVariants.{Null, Elementary, Table}
 use Rattle.mux.specs.declared.event.Event.{Event}
 use Rattle.mux.specs.declared.event.Event.TheVariants.{Took, Full, Close, Slot}
-use Rattle.mux.specs.PlanValue.{PlanValue, IsPlan}
-use Rattle.mux.specs.History.{is_mapped_to, taken_for, sent, queue, slot_time, emitted, packet_behind, sent_packet}
-use Rattle.mux.specs.Lawful.{IsLawful}
-use Rattle.mux.specs.Output.{IsOutput, IsNullOrMapped, of_pid}
+use Rattle.plan.specs.Build.{PlanValue}
+use Rattle.mux.specs.Plans.{IsMultiplexPlan}
+use Rattle.mux.specs.History.{is_mapped_to, taken_for, sent, queue, slots, slot_time, emitted, packet_behind, sent_packet}
+use Rattle.mux.specs.Lawful.{IsLawful, IsContent}
+use Rattle.mux.proofs.Emitted.{length-emitted}
+use Rattle.emission.specs.Emission.{of_pid, IsEmission, MayGoOut, IsPacketOf}
+use Rattle.emission.proofs.PlanFacts.{plan_facts}
+use Rattle.emission.proofs.TablePidLaws.{on_no_stream}
+use Rattle.rounds.specs.Rounds.{table_at}
+use Rattle.rounds.specs.declared.table_place.TablePlace.{TablePlace}
+use Rattle.rounds.proofs.RecurringLaws.{are_places}
+use Rattle.mux.specs.Output.{IsOutput}
+use Rattle.mux.specs.declared.content.Content.{Content}
+use Rattle.mux.proofs.Contents.{stream_choice, stream_untabled, null_untabled, table_due}
 use Rattle.mux.proofs.Plans.{IsAt, Has, has_of, all_at, stream_in, same_stream}
 use Rattle.mux.proofs.Refusals.{goes_both}
 use Rattle.mux.proofs.Queues.{sent_within}
@@ -45,7 +55,7 @@ head_is_item : (p : PlanValue) (st : Stream) (h : List Event) (item : Stamped) �
 head_is_item p st h item law head = all_at (IsItemOf st) (queue st h) 0 item (All-drop (IsItemOf st) (sent st h) (taken_for st h) (items_taken p st h law)) head
 
 -- the output PID of a stream of a plan is below 8191
-out_below : (p : PlanValue) (k : ℕ) (st : Stream) → IsPlan p → IsAt p k st → st.output_pid < 8191
+out_below : (p : PlanValue) (k : ℕ) (st : Stream) → IsMultiplexPlan p → IsAt p k st → st.output_pid < 8191
 out_below p k st plan at = let high = (stream_in p k st plan at).output_pid.1 in omega arith
 
 -- the packet of a slot with a stream's head
@@ -58,7 +68,7 @@ record IsMovedTo (st : Stream) (q : List ℕ) : Type 0 where
   packet : IsPacket q
   pid : pid_of q ≡ st.output_pid
 
-moved_to : (p : PlanValue) (h : List Event) (st : Stream) (item : Stamped) → IsPlan p → IsLawful p h → Has p st → slice_get (queue st h) 0 ≡ Some item
+moved_to : (p : PlanValue) (h : List Event) (st : Stream) (item : Stamped) → IsMultiplexPlan p → IsLawful p h → Has p st → slice_get (queue st h) 0 ≡ Some item
     → IsMovedTo st (packet_behind p h (emitted p h) (Elementary st))
 moved_to p h st item plan law has head =
     let below = out_below p has.0 st plan has.1 in
@@ -72,30 +82,56 @@ moved_to p h st item plan law has head =
     let P : List ℕ → Type 0 = IsMovedTo st in
     subst P (sym (packet_is p h st item head)) moved
 
--- each packet that went out is whole
-all_whole : (p : PlanValue) (h : List Event) → IsPlan p → IsLawful p h → All IsPacket (emitted p h)
-all_whole p [] plan law = All-nil IsPacket
-all_whole p (Took i item ∷ h) plan law = all_whole p h plan law.0
-all_whole p (Full i st ∷ h) plan law = all_whole p h plan law.0
-all_whole p (Close i ∷ h) plan law = all_whole p h plan law.0
-all_whole p (Slot Null ∷ h) plan law = All-push IsPacket (emitted p h) null_packet (all_whole p h plan law.0) is_packet-null_packet
-all_whole p (Slot (Elementary st) ∷ h) plan law =
-    let chosen = law.1.content in
-    let moved = moved_to p h st chosen.0 plan law.0 (has_of p st chosen.1.stream) chosen.1.head in
-    All-push IsPacket (emitted p h) (packet_behind p h (emitted p h) (Elementary st)) (all_whole p h plan law.0) moved.packet
-
--- and null or of a stream
-all_mapped : (p : PlanValue) (h : List Event) → IsPlan p → IsLawful p h → All (IsNullOrMapped p) (emitted p h)
-all_mapped p [] plan law = All-nil (IsNullOrMapped p)
-all_mapped p (Took i item ∷ h) plan law = all_mapped p h plan law.0
-all_mapped p (Full i st ∷ h) plan law = all_mapped p h plan law.0
-all_mapped p (Close i ∷ h) plan law = all_mapped p h plan law.0
-all_mapped p (Slot Null ∷ h) plan law = All-push (IsNullOrMapped p) (emitted p h) null_packet (all_mapped p h plan law.0) (inl refl)
-all_mapped p (Slot (Elementary st) ∷ h) plan law =
-    let chosen = law.1.content in
+-- what a slot with this content carries may go out
+may_go_out : (p : PlanValue) (h : List Event) (c : Content) → IsMultiplexPlan p → IsLawful p h → IsContent p h c → MayGoOut p (emitted p h) (packet_behind p h (emitted p h) c)
+may_go_out p h Null plan law content =
+    let P : Option TablePlace → Type 0 = λ o. IsPacketOf p (emitted p h) o null_packet in
+    subst P (sym (null_untabled p h content) ∙ ap (table_at p.rounds) (sym (length-emitted p h))) (is_packet-null_packet, inl refl)
+may_go_out p h (Table place) plan law content =
+    let P : Option TablePlace → Type 0 = λ o. IsPacketOf p (emitted p h) o (packet_behind p h (emitted p h) (Table place)) in
+    subst P (sym (table_due p h place content) ∙ ap (table_at p.rounds) (sym (length-emitted p h))) refl
+may_go_out p h (Elementary st) plan law content =
+    let chosen = stream_choice p h st content in
     let in_plan = chosen.1.stream in
-    let moved = moved_to p h st chosen.0 plan law.0 (has_of p st in_plan) chosen.1.head in
-    All-push (IsNullOrMapped p) (emitted p h) (packet_behind p h (emitted p h) (Elementary st)) (all_mapped p h plan law.0) (inr (in_plan.0, st, in_plan.1, in_plan.2, moved.pid))
+    let moved = moved_to p h st chosen.0 plan law (has_of p st in_plan) chosen.1.head in
+    let P : Option TablePlace → Type 0 = λ o. IsPacketOf p (emitted p h) o (packet_behind p h (emitted p h) (Elementary st)) in
+    subst P (sym (stream_untabled p h st content) ∙ ap (table_at p.rounds) (sym (length-emitted p h))) (moved.packet, inr (in_plan.0, st, in_plan.1, in_plan.2, moved.pid))
+
+before_end : {X : Type 0} (xs : List X) (y : X) (m : ℕ) → m < length xs → slice_get (xs ++ y ∷ []) m ≡ slice_get xs m
+before_end [] y m l = absurd (omega arith)
+before_end (x ∷ xs) y zero l = refl
+before_end (x ∷ xs) y (suc m) l = before_end xs y m (omega arith)
+
+at_end : {X : Type 0} (xs : List X) (y : X) → slice_get (xs ++ y ∷ []) (length xs) ≡ Some y
+at_end [] y = refl
+at_end (x ∷ xs) y = at_end xs y
+
+-- one more packet
+emission-push : (p : PlanValue) (out : List (List ℕ)) (q : List ℕ) → IsEmission p out → MayGoOut p out q → IsEmission p (out ++ q ∷ [])
+emission-push p out q all one m x at =
+    elim (cases_lt m (length out)) [
+      | inl l ↦
+          (let before : take m (out ++ q ∷ []) ≡ take m out = take-append-le m out (q ∷ []) (omega arith) in
+          let here : slice_get out m ≡ Some x = sym (before_end out q m l) ∙ at in
+          let P : List (List ℕ) → Type 0 = λ xs. MayGoOut p xs x in
+          subst P (sym before) (all m x here))
+      | inr l ↦
+          (let within = slice_get_within (out ++ q ∷ []) m x at in
+          let last : m ≡ length out = omega (arith, length-append out (q ∷ [])) in
+          let before : take m (out ++ q ∷ []) ≡ out = take_at out (q ∷ []) m (sym last) in
+          let P : List (List ℕ) → Type 0 = λ xs. MayGoOut p xs x in
+          let Q : List ℕ → Type 0 = MayGoOut p out in
+          let same : q ≡ x = same_Some q x (sym (at_end out q) ∙ ap (slice_get (out ++ q ∷ [])) (sym last) ∙ at) in
+          subst P (sym before) (subst Q same one))
+    ]
+
+-- each slot carries what the plan says
+emits : (p : PlanValue) (h : List Event) → IsMultiplexPlan p → IsLawful p h → IsEmission p (emitted p h)
+emits p [] plan law = λ m x at. cc
+emits p (Took i item ∷ h) plan law = emits p h plan law.0
+emits p (Full i st ∷ h) plan law = emits p h plan law.0
+emits p (Close i ∷ h) plan law = emits p h plan law.0
+emits p (Slot c ∷ h) plan law = emission-push p (emitted p h) (packet_behind p h (emitted p h) c) (emits p h plan law.0) (may_go_out p h c plan law.0 law.1.content)
 
 -- Counters.
 
@@ -125,7 +161,7 @@ packets-push [] x = refl
 packets-push (y ∷ xs) x = ap (λ ys. y.packet ∷ ys) (packets-push xs x)
 
 -- what went out on the PID of a stream are the items sent of it, moved
-sent_moved : (p : PlanValue) (h : List Event) (k : ℕ) (st : Stream) → IsPlan p → IsLawful p h → IsAt p k st
+sent_moved : (p : PlanValue) (h : List Event) (k : ℕ) (st : Stream) → IsMultiplexPlan p → IsLawful p h → IsAt p k st
     → AreRewritten st.pid st.output_pid (packets_of (take (sent st h) (taken_for st h))) (of_pid st.output_pid (emitted p h))
 sent_moved p [] k st plan law at = tt
 sent_moved p (Took i item ∷ h) k st plan law at =
@@ -145,9 +181,21 @@ sent_moved p (Slot Null ∷ h) k st plan law at =
     let out : of_pid st.output_pid (emitted p h ++ null_packet ∷ []) ≡ of_pid st.output_pid (emitted p h) =
     of_pid-push st.output_pid (emitted p h) null_packet ∙ ap (λ b. cond b (of_pid st.output_pid (emitted p h) ++ null_packet ∷ []) (of_pid st.output_pid (emitted p h))) other in
     subst P (sym out) ih
+sent_moved p (Slot (Table place) ∷ h) k st plan law at =
+    let ih = sent_moved p h k st plan law.0 at in
+    let q = packet_behind p h (emitted p h) (Table place) in
+    let l = slice_get_within p.request.streams k st at in
+    let is : get_or p.request.streams k st ≡ st = get_or_from_slice_get p.request.streams k st st at in
+    let fits = are_places p.rounds plan.rounds (slots h) place (table_due p h place law.1.content) in
+    let apart : pid_of q ≡ st.output_pid → ⊥ = λ e. on_no_stream p (emitted p h) place k st (plan_facts p plan.request plan.tables) fits l (e ∙ sym (ap (λ (x : Stream). x.output_pid) is)) in
+    let other : nat_eq (pid_of q) st.output_pid ≡ false = ne_eqb (pid_of q) st.output_pid apart in
+    let P : List (List ℕ) → Type 0 = AreRewritten st.pid st.output_pid (packets_of (take (sent st h) (taken_for st h))) in
+    let out : of_pid st.output_pid (emitted p h ++ q ∷ []) ≡ of_pid st.output_pid (emitted p h) =
+    of_pid-push st.output_pid (emitted p h) q ∙ ap (λ b. cond b (of_pid st.output_pid (emitted p h) ++ q ∷ []) (of_pid st.output_pid (emitted p h))) other in
+    subst P (sym out) ih
 sent_moved p (Slot (Elementary su) ∷ h) k st plan law at =
     let ih = sent_moved p h k st plan law.0 at in
-    let chosen = law.1.content in
+    let chosen = stream_choice p h su law.1.content in
     let item = chosen.0 in
     let has = has_of p su chosen.1.stream in
     let q = packet_behind p h (emitted p h) (Elementary su) in
@@ -195,10 +243,10 @@ packets-take zero (x ∷ xs) = refl
 packets-take (suc n) [] = refl
 packets-take (suc n) (x ∷ xs) = ap (λ ys. x.packet ∷ ys) (packets-take n xs)
 
-pub output_of : (p : PlanValue) (h : List Event) → IsPlan p → IsLawful p h → IsOutput p h
-output_of p h plan law = record {
-  packets = all_whole p h plan law;
-  pids = all_mapped p h plan law;
+pub output_of : (p : PlanValue) (h : List Event) → IsMultiplexPlan p → IsLawful p h → All IsPacket (emitted p h) → IsOutput p h
+output_of p h plan law whole = record {
+  packets = whole;
+  emission = emits p h plan law;
   stream_counters = λ st in_plan.
       let has = has_of p st in_plan in
       let below = out_below p has.0 st plan has.1 in

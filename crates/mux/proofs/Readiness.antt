@@ -8,27 +8,29 @@ use Rattle.std.specs.Option.{option_map}
 use Rattle.tspkt.specs.declared.stamped.Stamped.{Stamped}
 use Rattle.mux.specs.declared.event.Event.{Event}
 use Rattle.mux.specs.declared.content.Content.TheVariants.{Null, Elementary}
-use Rattle.mux.specs.declared.stream.Stream.{Stream}
+use Rattle.request.specs.declared.stream.Stream.{Stream}
 use Rattle.mux.specs.declared.candidate.Candidate.{Candidate}
 use Rattle.mux.specs.declared.input_state.InputState.{InputState}
-use Rattle.mux.specs.QueueValue.{QueueValue}
+use Rattle.buffers.specs.QueueValue.{QueueValue}
 use Rattle.mux.specs.History.{Run, slots, slot_time}
 use Rattle.mux.specs.Lawful.{AllReady, is_ready, IsDone, IsEligible, IsContent}
 use Rattle.mux.specs.Keeping.{AgreesWith, state_of, queue_of, ready_at}
 use Rattle.mux.specs.Choosing.{IsDueHead, IsFirstDueHead}
+use Rattle.rounds.specs.Rounds.{table_at}
+use Rattle.mux.proofs.Contents.{untabled}
 use Rattle.mux.proofs.Plans.{IsAt, has_of, contains_of}
 use Rattle.mux.proofs.Steps.{length_states, length_queues}
 
 -- the state that is kept of an input, at any default
-state_get : {r : Run} {h : List Event} {states : List InputState} {queues : List QueueValue} → AgreesWith r h states queues → (i : ℕ) (d : InputState) → i < length r.plan.inputs → get_or states i d ≡ state_of h i
-state_get {r} {h} k i d l = ap (λ ys. get_or ys i d) k.states_are ∙ get_or-map-range_with_len (state_of h) 0 (length r.plan.inputs) i i d l (omega arith)
+state_get : {r : Run} {h : List Event} {states : List InputState} {queues : List QueueValue} → AgreesWith r h states queues → (i : ℕ) (d : InputState) → i < length r.plan.request.inputs → get_or states i d ≡ state_of h i
+state_get {r} {h} k i d l = ap (λ ys. get_or ys i d) k.states_are ∙ get_or-map-range_with_len (state_of h) 0 (length r.plan.request.inputs) i i d l (omega arith)
 
 -- the queue that is kept at a place
-queue_get : {r : Run} {h : List Event} {states : List InputState} {queues : List QueueValue} → AgreesWith r h states queues → (k : ℕ) (st : Stream) → IsAt r.plan k st → slice_get queues k ≡ Some (queue_of r.plan.queue_capacity h st)
-queue_get {r} {h} kept k st at = ap (λ ys. slice_get ys k) kept.queues_are ∙ slice_get-map (queue_of r.plan.queue_capacity h) r.plan.streams k ∙ ap (option_map (queue_of r.plan.queue_capacity h)) at
+queue_get : {r : Run} {h : List Event} {states : List InputState} {queues : List QueueValue} → AgreesWith r h states queues → (k : ℕ) (st : Stream) → IsAt r.plan k st → slice_get queues k ≡ Some (queue_of r.plan.request.queue h st)
+queue_get {r} {h} kept k st at = ap (λ ys. slice_get ys k) kept.queues_are ∙ slice_get-map (queue_of r.plan.request.queue h) r.plan.request.streams k ∙ ap (option_map (queue_of r.plan.request.queue h)) at
 
 -- whether an input is ready, by what is kept of it
-ready_is : {r : Run} {h : List Event} {states : List InputState} {queues : List QueueValue} → AgreesWith r h states queues → (now i : ℕ) (d : InputState) → now ≡ slot_time r.plan (slots h) → i < length r.plan.inputs
+ready_is : {r : Run} {h : List Event} {states : List InputState} {queues : List QueueValue} → AgreesWith r h states queues → (now i : ℕ) (d : InputState) → now ≡ slot_time r.plan (slots h) → i < length r.plan.request.inputs
     → ready_at now (get_or states i d) ≡ is_ready r.plan i h
 ready_is {r} {h} k now i d t l = ap (ready_at now) (state_get k i d l) ∙ ap (λ m. ready_at m (state_of h i)) t
 
@@ -38,7 +40,7 @@ all_ready {r} {h} k now t all i l = sym (ready_is k now i (state_of h i) t l) �
 
 pub not_ready : {r : Run} {h : List Event} {states : List InputState} {queues : List QueueValue} → AgreesWith r h states queues → (now i : ℕ) → now ≡ slot_time r.plan (slots h)
     → i < length states → ((d : InputState) → ready_at now (get_or states i d) ≡ false) → ((j : ℕ) (d : InputState) → j < i → IsTrue (ready_at now (get_or states j d)))
-    → (i < length r.plan.inputs) × (is_ready r.plan i h ≡ false) × ((j : ℕ) → j < i → IsTrue (is_ready r.plan j h))
+    → (i < length r.plan.request.inputs) × (is_ready r.plan i h ≡ false) × ((j : ℕ) → j < i → IsTrue (is_ready r.plan j h))
 not_ready {r} {h} k now i t l isnt below =
     let e = length_states k in (
       omega arith,
@@ -54,7 +56,7 @@ done_from {r} {h} {states} {queues} k closed empty = record {
       let has = has_of r.plan st in_plan in
       let at = queue_get k has.0 st has.1 in
       let l = slice_get_within _ has.0 _ at in
-      sym (ap (λ (q : QueueValue). q.items) (get_or_from_slice_get queues has.0 (queue_of r.plan.queue_capacity h st) (queue_of r.plan.queue_capacity h st) at)) ∙ empty has.0 (queue_of r.plan.queue_capacity h st) l;
+      sym (ap (λ (q : QueueValue). q.items) (get_or_from_slice_get queues has.0 (queue_of r.plan.request.queue h st) (queue_of r.plan.request.queue h st) at)) ∙ empty has.0 (queue_of r.plan.request.queue h st) l;
 }
 
 pub closed_from : {r : Run} {h : List Event} {states : List InputState} {queues : List QueueValue} → AgreesWith r h states queues → IsDone r.plan h → All (λ (x : InputState). IsTrue x.closed) states
@@ -63,28 +65,28 @@ closed_from {r} {h} k done i d l = let e = length_states k in ap (λ (x : InputS
 pub empty_from : {r : Run} {h : List Event} {states : List InputState} {queues : List QueueValue} → AgreesWith r h states queues → IsDone r.plan h → All (λ (q : QueueValue). q.items ≡ []) queues
 empty_from {r} {h} {states} {queues} k done i d l =
     let e = length_queues k in
-    let nobody : Stream = record { input = 0; pid = 0; output_pid = 0 } in
-    let st = get_or r.plan.streams i nobody in
-    let at : IsAt r.plan i st = slice_get-get_or r.plan.streams i nobody (omega arith) in
-    ap (λ (q : QueueValue). q.items) (get_or_from_slice_get queues i (queue_of r.plan.queue_capacity h st) d (queue_get k i st at)) ∙ done.empty st (contains_of r.plan i st at)
+    let nobody : Stream = record { input = 0; pid = 0; output_pid = 0; leak = 0 } in
+    let st = get_or r.plan.request.streams i nobody in
+    let at : IsAt r.plan i st = slice_get-get_or r.plan.request.streams i nobody (omega arith) in
+    ap (λ (q : QueueValue). q.items) (get_or_from_slice_get queues i (queue_of r.plan.request.queue h st) d (queue_get k i st at)) ∙ done.empty st (contains_of r.plan i st at)
 
 -- an eligible head is due at its place, and the other way round
 due_from : {r : Run} {h : List Event} {states : List InputState} {queues : List QueueValue} → AgreesWith r h states queues → (now : ℕ) → now ≡ slot_time r.plan (slots h) → (st : Stream) (item : Stamped)
-    → (e : IsEligible r.plan h st item) → IsDueHead r.plan.streams queues now (has_of r.plan st e.stream).0 st item
+    → (e : IsEligible r.plan h st item) → IsDueHead r.plan.request.streams queues now (has_of r.plan st e.stream).0 st item
 due_from {r} {h} k now t st item e =
     let has = has_of r.plan st e.stream in
     record {
       stream = has.1;
-      queue = queue_of r.plan.queue_capacity h st;
+      queue = queue_of r.plan.request.queue h st;
       here = queue_get k has.0 st has.1;
       head = e.head;
       due = let l = e.due in omega arith;
     }
 
 due_to : {r : Run} {h : List Event} {states : List InputState} {queues : List QueueValue} → AgreesWith r h states queues → (now : ℕ) → now ≡ slot_time r.plan (slots h) → (k : ℕ) (st : Stream) (item : Stamped)
-    → IsDueHead r.plan.streams queues now k st item → IsEligible r.plan h st item
+    → IsDueHead r.plan.request.streams queues now k st item → IsEligible r.plan h st item
 due_to {r} {h} kept now t k st item due =
-    let same : due.queue ≡ queue_of r.plan.queue_capacity h st = same_Some _ _ (sym due.here ∙ queue_get kept k st due.stream) in
+    let same : due.queue ≡ queue_of r.plan.request.queue h st = same_Some _ _ (sym due.here ∙ queue_get kept k st due.stream) in
     record {
       stream = contains_of r.plan k st due.stream;
       head = sym (ap (λ (q : QueueValue). slice_get q.items 0) same) ∙ due.head;
@@ -94,13 +96,13 @@ due_to {r} {h} kept now t k st item due =
 
 -- what the next slot carries
 pub none_goes : {r : Run} {h : List Event} {states : List InputState} {queues : List QueueValue} → AgreesWith r h states queues → (now : ℕ) → now ≡ slot_time r.plan (slots h)
-    → ((k : ℕ) (st : Stream) (item : Stamped) → IsDueHead r.plan.streams queues now k st item → ⊥) → IsContent r.plan h Null
-none_goes {r} k now t none = λ st item e. none (has_of r.plan st e.stream).0 st item (due_from k now t st item e)
+    → table_at r.plan.rounds (slots h) ≡ None → ((k : ℕ) (st : Stream) (item : Stamped) → IsDueHead r.plan.request.streams queues now k st item → ⊥) → IsContent r.plan h Null
+none_goes {r} {h} k now t free none = untabled r.plan h Null free (λ st item e. none (has_of r.plan st e.stream).0 st item (due_from k now t st item e))
 
 pub one_goes : {r : Run} {h : List Event} {states : List InputState} {queues : List QueueValue} → AgreesWith r h states queues → (now : ℕ) → now ≡ slot_time r.plan (slots h)
-    → (c : Candidate) → IsFirstDueHead r.plan.streams queues now c → (slice_get r.plan.streams c.place ≡ Some c.stream) × IsContent r.plan h (Elementary c.stream)
-one_goes {r} k now t c best =
-    (best.due_head.stream, (best.item, due_to k now t c.place c.stream best.item best.due_head, λ su other e. best.first (has_of r.plan su e.stream).0 su other (due_from k now t su other e)))
+    → table_at r.plan.rounds (slots h) ≡ None → (c : Candidate) → IsFirstDueHead r.plan.request.streams queues now c → (slice_get r.plan.request.streams c.place ≡ Some c.stream) × IsContent r.plan h (Elementary c.stream)
+one_goes {r} {h} k now t free c best =
+    (best.due_head.stream, untabled r.plan h (Elementary c.stream) free (best.item, due_to k now t c.place c.stream best.item best.due_head, λ su other e. best.first (has_of r.plan su e.stream).0 su other (due_from k now t su other e)))
 
 -- what follows where there is no value
 pub when_none : {X : Type 0} {P Q : Type 0} (o : Option X) → IfNone o P → (P → Q) → IfNone o Q

@@ -1,20 +1,25 @@
 -- Of two lawful histories, faithful to the same lists, one's emitted packets begin the other's.
-use Rattle.std.proofs.Common.{ℕ, suc, ◌+◌, ◌<◌, ◌≤◌, ◌≡◌, Bool, true, false, ◌&&◌, ◌||◌, cond, ltb, nat_eq, List, [], ◌∷◌, ◌++◌, length, drop, Some, refl, ap, ◌∙◌, sym, subst, arith, inl, inr, length-append, length-drop, append_assoc, eq-eqb}
+use Rattle.std.proofs.Common.{ℕ, suc, ◌+◌, ◌<◌, ◌≤◌, ◌≡◌, Bool, true, false, ◌&&◌, ◌||◌, cond, ltb, nat_eq, List, [], ◌∷◌, ◌++◌, length, drop, Option, Some, None, refl, ap, ◌∙◌, sym, subst, arith, inl, inr, length-append, length-drop, append_assoc, eq-eqb}
 use Rattle.std.specs.List.{slice_get, filter}
 use Rattle.std.proofs.lemmas.List.{append_cancel_left, append-nil}
 use Rattle.std.proofs.lemmas.List.Elements.{filter-append}
 use Rattle.std.proofs.lemmas.Bool.{cases_Bool, or_cases, eqb-true, ltb-true, ne_eqb, false≢true, and_left, cases_order}
 use Rattle.tspkt.specs.declared.stamped.Stamped.{Stamped}
 use Rattle.tspkt.specs.Packet.{pid_of}
-use Rattle.mux.specs.declared.stream.Stream.{Stream}
+use Rattle.request.specs.declared.stream.Stream.{Stream}
 use Rattle.mux.specs.declared.content.Content.{Content}
-use Rattle.mux.specs.declared.content.Content.TheVariants.{Null, Elementary}
+use Rattle.mux.specs.declared.content.Content.TheVariants.{Null, Elementary, Table}
 use Rattle.mux.specs.declared.event.Event.{Event}
 use Rattle.mux.specs.declared.event.Event.TheVariants.{Took, Full, Close, Slot}
-use Rattle.mux.specs.PlanValue.{PlanValue, IsPlan}
+use Rattle.plan.specs.Build.{PlanValue}
+use Rattle.mux.specs.Plans.{IsMultiplexPlan}
 use Rattle.mux.specs.History.{is_mapped_to, taken, taken_for, sent, queue, is_of_stream, slots, slot_time, last_stamp, is_closed, full_noted, emitted, packet_behind, sent_packet}
-use Rattle.mux.specs.Lawful.{IsLawful, IsEligible, IsChoice, AllReady, is_ready}
+use Rattle.mux.specs.Lawful.{IsLawful, IsEligible, IsChoice, IsContent, IsContentAt, AllReady, is_ready}
 use Rattle.mux.specs.Faithful.{PacketLists, IsNext, IsFaithful, IsPrefix, OutputsAgree}
+use Rattle.rounds.specs.declared.table_place.TablePlace.{TablePlace}
+use Rattle.rounds.specs.Rounds.{table_at}
+use Rattle.emission.specs.Emission.{table_packet_at, counted_behind}
+use Rattle.mux.proofs.Contents.{stream_choice}
 use Rattle.mux.proofs.Plans.{Has, has_of, same_stream, stream_in}
 use Rattle.mux.proofs.Refusals.{taken_for_of, goes_both, one_stream}
 use Rattle.mux.proofs.Queues.{queue_bound}
@@ -100,12 +105,12 @@ pub record Noted (p : PlanValue) (lists : PacketLists) (i : ℕ) (h : List Event
   pub item : Stamped
   pub next : IsNext lists i h item
   pub goes : is_mapped_to st i item ≡ true
-  pub full : length (queue st h) ≡ p.queue_capacity
+  pub full : length (queue st h) ≡ p.request.queue
 
 same_next : (lists : PacketLists) (i : ℕ) (h : List Event) (a b : Stamped) → IsNext lists i h a → IsNext lists i h b → a ≡ b
 same_next lists i h a b x y = let e : a ∷ x.0 ≡ b ∷ y.0 = append_cancel_left (taken i h) (a ∷ x.0) (b ∷ y.0) (sym x.1 ∙ y.1) in cc
 
-pub noted : (p : PlanValue) (lists : PacketLists) (i : ℕ) (h : List Event) → IsPlan p → IsLawful p h → IsFaithful lists h → full_noted i h ≡ true → Noted p lists i h
+pub noted : (p : PlanValue) (lists : PacketLists) (i : ℕ) (h : List Event) → IsMultiplexPlan p → IsLawful p h → IsFaithful lists h → full_noted i h ≡ true → Noted p lists i h
 noted p lists i [] plan law f n = absurd (false≢true n)
 noted p lists i (Took j item ∷ h) plan law f n =
     let ih = noted p lists i h plan law.0 f.0 n in
@@ -118,8 +123,8 @@ noted p lists i (Took j item ∷ h) plan law f n =
           let Q : ℕ → Type 0 = λ k. is_mapped_to to.0 k item ≡ true in
           let R : Stamped → Type 0 = λ x. is_mapped_to ih.st i x ≡ true in
           let one : ih.st ≡ to.0 = one_stream p ih.st to.0 i item plan ih.has to.1.stream (subst R it ih.goes) (subst Q same to.1.mapped) in
-          let S : Stream → Type 0 = λ x. length (queue x h) ≡ p.queue_capacity in
-          let full : length (queue to.0 h) ≡ p.queue_capacity = subst S one ih.full in
+          let S : Stream → Type 0 = λ x. length (queue x h) ≡ p.request.queue in
+          let full : length (queue to.0 h) ≡ p.request.queue = subst S one ih.full in
           absurd (to.1.not_full full))
       | inr e ↦
           (let other : is_mapped_to ih.st j item ≡ false = and_left (nat_eq j ih.st.input) (nat_eq (pid_of item.packet) ih.st.pid) (ne_eqb j ih.st.input (λ x. false≢true (sym e ∙ eq-eqb j i (x ∙ sym (goes_both ih.st i ih.item ih.goes).0)))) in
@@ -153,7 +158,7 @@ longer st a b x e more goes =
     omega (arith, ap length (taken_for_is st a), length-append (filter g (taken st.input a)) (filter g (x ∷ e)))
 
 -- where two histories have sent the same, what one has taken of a ready input beyond the other comes later
-covers : (p : PlanValue) (lists : PacketLists) (i : ℕ) (a b : List Event) (e : List Stamped) → IsPlan p → IsLawful p a → IsFaithful lists a → IsLawful p b → IsFaithful lists b
+covers : (p : PlanValue) (lists : PacketLists) (i : ℕ) (a b : List Event) (e : List Stamped) → IsMultiplexPlan p → IsLawful p a → IsFaithful lists a → IsLawful p b → IsFaithful lists b
     → ((st : Stream) → sent st a ≡ sent st b) → is_ready p i a ≡ true → taken i b ≡ taken i a ++ e → AllLater (slot_time p (slots a)) e
 covers p lists i a b [] plan law_a faith_a law_b faith_b sent_same ready more = tt
 covers p lists i a b (x ∷ e) plan law_a faith_a law_b faith_b sent_same ready more =
@@ -185,12 +190,12 @@ covers p lists i a b (x ∷ e) plan law_a faith_a law_b faith_b sent_same ready 
           let full = n.full in
           let drops = length-drop (sent n.st a) (taken_for n.st a) in
           let s = sent_same n.st in
-          let some = plan.queue_capacity.0 in
+          let some = plan.request.queue.0 in
           absurd (omega arith))
     ]
 
 -- a head that is eligible in one is eligible in the other
-eligible : (p : PlanValue) (lists : PacketLists) (a b : List Event) (st : Stream) (item : Stamped) → IsPlan p → IsLawful p a → IsFaithful lists a → IsLawful p b → IsFaithful lists b
+eligible : (p : PlanValue) (lists : PacketLists) (a b : List Event) (st : Stream) (item : Stamped) → IsMultiplexPlan p → IsLawful p a → IsFaithful lists a → IsLawful p b → IsFaithful lists b
     → ((su : Stream) → sent su a ≡ sent su b) → slots a ≡ slots b → AllReady p b → IsEligible p a st item → IsEligible p b st item
 eligible p lists a b st item plan law_a faith_a law_b faith_b sent_same same ready el =
     let i = st.input in
@@ -218,9 +223,12 @@ eligible p lists a b st item plan law_a faith_a law_b faith_b sent_same same rea
     }
 
 -- the choice of one is the choice of the other
-same_choice : (p : PlanValue) (lists : PacketLists) (a b : List Event) (c d : Content) → IsPlan p → IsLawful p a → IsFaithful lists a → IsLawful p b → IsFaithful lists b
+same_choice : (p : PlanValue) (lists : PacketLists) (a b : List Event) (c d : Content) → IsMultiplexPlan p → IsLawful p a → IsFaithful lists a → IsLawful p b → IsFaithful lists b
     → ((su : Stream) → sent su a ≡ sent su b) → slots a ≡ slots b → AllReady p a → AllReady p b → IsChoice p a c → IsChoice p b d → c ≡ d
+same_choice p lists a b (Table place) d plan la fa lb fb s n ra rb x y = absurd x
 same_choice p lists a b Null Null plan la fa lb fb s n ra rb x y = refl
+same_choice p lists a b Null (Table place) plan la fa lb fb s n ra rb x y = absurd y
+same_choice p lists a b (Elementary st) (Table place) plan la fa lb fb s n ra rb x y = absurd y
 same_choice p lists a b Null (Elementary su) plan la fa lb fb s n ra rb x y =
     absurd (x su y.0 (eligible p lists b a su y.0 plan lb fb la fa (λ z. sym (s z)) (sym n) ra y.1))
 same_choice p lists a b (Elementary st) Null plan la fa lb fb s n ra rb x y =
@@ -236,12 +244,26 @@ same_choice p lists a b (Elementary st) (Elementary su) plan la fa lb fb s n ra 
     let its = has_of p su y.1.stream in
     ap Elementary (same_stream p mine.0 its.0 st su plan mine.1 its.1 out)
 
+-- and so is the content of the slot
+same_content_at : (p : PlanValue) (lists : PacketLists) (a b : List Event) (o : Option TablePlace) (c d : Content) → IsMultiplexPlan p → IsLawful p a → IsFaithful lists a → IsLawful p b → IsFaithful lists b
+    → ((su : Stream) → sent su a ≡ sent su b) → slots a ≡ slots b → AllReady p a → AllReady p b → IsContentAt p a o c → IsContentAt p b o d → c ≡ d
+same_content_at p lists a b (Some place) c d plan la fa lb fb s n ra rb x y = x ∙ sym y
+same_content_at p lists a b None c d plan la fa lb fb s n ra rb x y = same_choice p lists a b c d plan la fa lb fb s n ra rb x y
+
+same_content : (p : PlanValue) (lists : PacketLists) (a b : List Event) (c d : Content) → IsMultiplexPlan p → IsLawful p a → IsFaithful lists a → IsLawful p b → IsFaithful lists b
+    → ((su : Stream) → sent su a ≡ sent su b) → slots a ≡ slots b → AllReady p a → AllReady p b → IsContent p a c → IsContent p b d → c ≡ d
+same_content p lists a b c d plan la fa lb fb s n ra rb x y =
+    let P : ℕ → Type 0 = λ m. IsContentAt p b (table_at p.rounds m) d in
+    same_content_at p lists a b (table_at p.rounds (slots a)) c d plan la fa lb fb s n ra rb x (subst P (sym n) y)
+
 -- and so is its packet
-same_packet : (p : PlanValue) (lists : PacketLists) (a b : List Event) (c : Content) → IsPlan p → IsLawful p a → IsFaithful lists a → IsLawful p b → IsFaithful lists b
-    → ((su : Stream) → sent su a ≡ sent su b) → slots a ≡ slots b → emitted p a ≡ emitted p b → AllReady p b → IsChoice p a c
+same_packet : (p : PlanValue) (lists : PacketLists) (a b : List Event) (c : Content) → IsMultiplexPlan p → IsLawful p a → IsFaithful lists a → IsLawful p b → IsFaithful lists b
+    → ((su : Stream) → sent su a ≡ sent su b) → slots a ≡ slots b → emitted p a ≡ emitted p b → AllReady p b → IsContent p a c
     → packet_behind p a (emitted p a) c ≡ packet_behind p b (emitted p b) c
-same_packet p lists a b Null plan la fa lb fb s n out rb x = refl
-same_packet p lists a b (Elementary st) plan la fa lb fb s n out rb x =
+same_packet p lists a b Null plan la fa lb fb s n out rb c = refl
+same_packet p lists a b (Table place) plan la fa lb fb s n out rb c = ap (λ (ps : List (List ℕ)). counted_behind ps (table_packet_at p.tables place)) out
+same_packet p lists a b (Elementary st) plan la fa lb fb s n out rb c =
+    let x = stream_choice p a st c in
     let e = eligible p lists a b st x.0 plan la fa lb fb s n rb x.1 in
     ap (λ (ps : List (List ℕ)). sent_packet p (length ps) st (slice_get (queue st a) 0)) out ∙ ap (sent_packet p (length (emitted p b)) st) (x.1.head ∙ sym e.head)
 
@@ -250,7 +272,7 @@ pub record Agree (p : PlanValue) (a b : List Event) : Type 0 where
   pub packets : emitted p a ≡ emitted p b
   pub sent_same : (st : Stream) → sent st a ≡ sent st b
 
-pub agree : (p : PlanValue) (lists : PacketLists) (a b : List Event) → IsPlan p → IsLawful p a → IsFaithful lists a → IsLawful p b → IsFaithful lists b → slots a ≡ slots b → Agree p a b
+pub agree : (p : PlanValue) (lists : PacketLists) (a b : List Event) → IsMultiplexPlan p → IsLawful p a → IsFaithful lists a → IsLawful p b → IsFaithful lists b → slots a ≡ slots b → Agree p a b
 agree p lists [] [] plan la fa lb fb n = record { packets = refl; sent_same = λ st. refl }
 agree p lists [] (Took j item ∷ b) plan la fa lb fb n = let ih = agree p lists [] b plan la fa lb.0 fb.0 n in record { packets = ih.packets; sent_same = ih.sent_same }
 agree p lists [] (Full j st ∷ b) plan la fa lb fb n = let ih = agree p lists [] b plan la fa lb.0 fb.0 n in record { packets = ih.packets; sent_same = ih.sent_same }
@@ -266,7 +288,7 @@ agree p lists (Slot c ∷ a) (Close j ∷ b) plan la fa lb fb n = let ih = agree
 agree p lists (Slot c ∷ a) (Slot d ∷ b) plan la fa lb fb n =
     let m : slots a ≡ slots b = omega arith in
     let ih = agree p lists a b plan la.0 fa lb.0 fb m in
-    let content : c ≡ d = same_choice p lists a b c d plan la.0 fa lb.0 fb ih.sent_same m la.1.ready lb.1.ready la.1.content lb.1.content in
+    let content : c ≡ d = same_content p lists a b c d plan la.0 fa lb.0 fb ih.sent_same m la.1.ready lb.1.ready la.1.content lb.1.content in
     let packet : packet_behind p a (emitted p a) c ≡ packet_behind p b (emitted p b) d =
     same_packet p lists a b c plan la.0 fa lb.0 fb ih.sent_same m ih.packets lb.1.ready la.1.content ∙ ap (packet_behind p b (emitted p b)) content in
     record {
@@ -275,7 +297,7 @@ agree p lists (Slot c ∷ a) (Slot d ∷ b) plan la fa lb fb n =
     }
 
 -- the shorter begins the longer
-begins : (p : PlanValue) (lists : PacketLists) (a b : List Event) → IsPlan p → IsLawful p a → IsFaithful lists a → IsLawful p b → IsFaithful lists b → slots a ≤ slots b → IsPrefix (emitted p a) (emitted p b)
+begins : (p : PlanValue) (lists : PacketLists) (a b : List Event) → IsMultiplexPlan p → IsLawful p a → IsFaithful lists a → IsLawful p b → IsFaithful lists b → slots a ≤ slots b → IsPrefix (emitted p a) (emitted p b)
 begins p lists a [] plan la fa lb fb l = ([], sym (agree p lists a [] plan la fa lb fb (omega arith)).packets ∙ sym (append-nil (emitted p a)))
 begins p lists a (Took j item ∷ b) plan la fa lb fb l = begins p lists a b plan la fa lb.0 fb.0 l
 begins p lists a (Full j st ∷ b) plan la fa lb fb l = begins p lists a b plan la fa lb.0 fb.0 l

@@ -9,44 +9,46 @@ use Rattle.std.proofs.lemmas.List.{length-map, get_or-map}
 use Rattle.std.proofs.lemmas.Option.{slice_get_within, get_or_from_slice_get}
 use Rattle.tspkt.specs.Rewritten.{rewritten}
 use Rattle.tspkt.specs.declared.stamped.Stamped.{Stamped}
-use Rattle.mux.specs.declared.stream.Stream.{Stream}
+use Rattle.request.specs.declared.stream.Stream.{Stream}
 use Rattle.mux.specs.declared.content.Content.{Content}
-use Rattle.mux.specs.declared.content.Content.TheVariants.{Null, Elementary}
+use Rattle.mux.specs.declared.content.Content.TheVariants.{Null, Elementary, Table}
 use Rattle.mux.specs.declared.event.Event.{Event}
 use Rattle.mux.specs.declared.event.Event.TheVariants.{Took, Full, Close, Slot}
 use Rattle.mux.specs.declared.input_state.InputState.{InputState}
-use Rattle.mux.specs.QueueValue.{QueueValue}
+use Rattle.buffers.specs.QueueValue.{QueueValue}
+use Rattle.rounds.specs.Turn.{TurnValue}
+use Rattle.rounds.specs.declared.table_place.TablePlace.{TablePlace}
 use Rattle.mux.specs.SlotClock.{ClockValue, clock_at, advanced}
 use Rattle.mux.specs.History.{Run, taken, slots, slot_time, last_stamp, is_closed, full_noted, emitted, packet_behind, sent_packet}
-use Rattle.mux.specs.Totals.{contents, is_elementary}
+use Rattle.mux.specs.declared.counts.Counts.{Counts}
+use Rattle.mux.specs.Totals.{contents, is_table, is_elementary, is_null}
 use Rattle.mux.specs.Lawful.{MayTake, MayNoteFull, MaySend}
-use Rattle.mux.specs.Keeping.{AgreesWith, IsKept, state_of, queue_of, without_full}
+use Rattle.mux.specs.Keeping.{AgreesWith, IsKept, state_of, queue_of, counts_of, turn_at, without_full}
 use Rattle.mux.proofs.Lists.{set_map, set_map_at}
 use Rattle.mux.proofs.Plans.{IsAt}
 use Rattle.mux.proofs.Refusals.{IsTakenFor}
 use Rattle.mux.proofs.Queues.{queued, unqueued, sent_queue, unsent_queue}
-use Rattle.mux.proofs.Counting.{count_sent, count_unsent, count_elementary}
+use Rattle.mux.proofs.Counting.{count_sent, count_unsent, counts_elementary, counts_table, counts_null}
 use Rattle.mux.proofs.Emitted.{length-emitted}
-use Rattle.mux.proofs.Outputs.{output_of}
 
 -- the number of states
-pub length_states : {r : Run} {h : List Event} {states : List InputState} {queues : List QueueValue} → AgreesWith r h states queues → length states ≡ length r.plan.inputs
-length_states {r} {h} k = ap length k.states_are ∙ length-map (range_with_len 0 (length r.plan.inputs)) (state_of h) ∙ length-range_with_len 0 (length r.plan.inputs)
+pub length_states : {r : Run} {h : List Event} {states : List InputState} {queues : List QueueValue} → AgreesWith r h states queues → length states ≡ length r.plan.request.inputs
+length_states {r} {h} k = ap length k.states_are ∙ length-map (range_with_len 0 (length r.plan.request.inputs)) (state_of h) ∙ length-range_with_len 0 (length r.plan.request.inputs)
 
 -- the state that is kept of an input
 pub state_at : {r : Run} {h : List Event} {states : List InputState} {queues : List QueueValue} → AgreesWith r h states queues → (i : ℕ) (x : InputState)
-    → i < length r.plan.inputs → x ≡ get_or states i x → x ≡ state_of h i
-state_at {r} {h} k i x l at = at ∙ ap (λ ys. get_or ys i x) k.states_are ∙ get_or-map-range_with_len (state_of h) 0 (length r.plan.inputs) i i x l (omega arith)
+    → i < length r.plan.request.inputs → x ≡ get_or states i x → x ≡ state_of h i
+state_at {r} {h} k i x l at = at ∙ ap (λ ys. get_or ys i x) k.states_are ∙ get_or-map-range_with_len (state_of h) 0 (length r.plan.request.inputs) i i x l (omega arith)
 
 -- the queue that is kept of a stream
 pub queue_at : {r : Run} {h : List Event} {states : List InputState} {queues : List QueueValue} → AgreesWith r h states queues → (k : ℕ) (st : Stream) (x : QueueValue)
-    → IsAt r.plan k st → x ≡ get_or queues k x → x ≡ queue_of r.plan.queue_capacity h st
+    → IsAt r.plan k st → x ≡ get_or queues k x → x ≡ queue_of r.plan.request.queue h st
 queue_at {r} {h} kept k st x at is =
-    let within = slice_get_within r.plan.streams k st at in
-    is ∙ ap (λ ys. get_or ys k x) kept.queues_are ∙ get_or-map (queue_of r.plan.queue_capacity h) r.plan.streams k st x within ∙ ap (queue_of r.plan.queue_capacity h) (get_or_from_slice_get r.plan.streams k st st at)
+    let within = slice_get_within r.plan.request.streams k st at in
+    is ∙ ap (λ ys. get_or ys k x) kept.queues_are ∙ get_or-map (queue_of r.plan.request.queue h) r.plan.request.streams k st x within ∙ ap (queue_of r.plan.request.queue h) (get_or_from_slice_get r.plan.request.streams k st st at)
 
-pub length_queues : {r : Run} {h : List Event} {states : List InputState} {queues : List QueueValue} → AgreesWith r h states queues → length queues ≡ length r.plan.streams
-length_queues {r} {h} k = ap length k.queues_are ∙ length-map r.plan.streams (queue_of r.plan.queue_capacity h)
+pub length_queues : {r : Run} {h : List Event} {states : List InputState} {queues : List QueueValue} → AgreesWith r h states queues → length queues ≡ length r.plan.request.streams
+length_queues {r} {h} k = ap length k.queues_are ∙ length-map r.plan.request.streams (queue_of r.plan.request.queue h)
 
 -- a change of one input's state
 set_state : (before after : ℕ → InputState) (n i : ℕ) → i < n → ((j : ℕ) → j ≢ i → before j ≡ after j)
@@ -56,17 +58,20 @@ set_state before after n i l others =
     ap (λ k. set (map before (range_with_len 0 n)) i (after k)) (sym (at i l))
     ∙ set_map before after (range_with_len 0 n) i 0 (omega (arith, length-range_with_len 0 n)) (λ j m ne. others _ (λ same. ne (sym (at j (omega (arith, length-range_with_len 0 n))) ∙ same)))
 
+same_counts : (h after : List Event) → contents after ≡ contents h → counts_of after ≡ counts_of h
+same_counts h after c = ap (λ (cs : List Content). let x : Counts = record { tables = count_by is_table cs; elementary = count_by is_elementary cs; null = count_by is_null cs } in x) c
+
 -- nothing went out with the event
-same_output : {r : Run} {h : List Event} {states : List InputState} {queues : List QueueValue} {clock : ClockValue} {packets : List (List ℕ)} {elementary : ℕ}
-    → IsKept r h states queues clock packets elementary → (after : List Event) (now_states : List InputState) (now_queues : List QueueValue)
+same_output : {r : Run} {h : List Event} {states : List InputState} {queues : List QueueValue} {clock : ClockValue} {turn : TurnValue} {packets : List (List ℕ)} {counts : Counts}
+    → IsKept r h states queues clock turn packets counts → (after : List Event) (now_states : List InputState) (now_queues : List QueueValue)
     → emitted r.plan after ≡ emitted r.plan h → contents after ≡ contents h → slots after ≡ slots h → AgreesWith r after now_states now_queues
-    → IsKept r after now_states now_queues clock packets elementary
+    → IsKept r after now_states now_queues clock turn packets counts
 same_output {r} {h} k after now_states now_queues e c m a = record {
   agrees = a;
-  output = output_of r.plan after a.plan a.lawful;
   packets_are = k.packets_are ∙ sym e;
-  elementary_is = k.elementary_is ∙ ap (count_by is_elementary) (sym c);
-  clock_is = k.clock_is ∙ ap (clock_at r.plan.rate) (sym m);
+  counts_are = k.counts_are ∙ sym (same_counts h after c);
+  clock_is = k.clock_is ∙ ap (clock_at r.plan.request.rate) (sym m);
+  turn_is = k.turn_is ∙ ap (turn_at r.plan) (sym m);
 }
 
 closes_others : (h : List Event) (i j : ℕ) → j ≢ i → state_of h j ≡ state_of (Close i ∷ h) j
@@ -76,14 +81,14 @@ closes_one : (h : List Event) (i : ℕ) (x : InputState) → x ≡ state_of h i 
 closes_one h i x is = ap (λ (y : InputState). record y { closed = true }) is ∙ ap (λ b. let x : InputState = record (state_of h i) { closed = b || is_closed i h } in x) (sym (eq-eqb i i refl))
 
 -- an input is closed
-pub closing : {r : Run} {h : List Event} {states : List InputState} {queues : List QueueValue} {clock : ClockValue} {packets : List (List ℕ)} {elementary : ℕ}
-    → IsKept r h states queues clock packets elementary → (after : List Event) (i : ℕ) (x : InputState)
-    → after ≡ Close i ∷ h → i < length r.plan.inputs → x ≡ get_or states i x → x.closed ≡ false
-    → IsKept r after (set states i (record x { closed = true })) queues clock packets elementary
-closing {r} {h} {states} {queues} {clock} {packets} {elementary} kept after i x e l at open_ =
+pub closing : {r : Run} {h : List Event} {states : List InputState} {queues : List QueueValue} {clock : ClockValue} {turn : TurnValue} {packets : List (List ℕ)} {counts : Counts}
+    → IsKept r h states queues clock turn packets counts → (after : List Event) (i : ℕ) (x : InputState)
+    → after ≡ Close i ∷ h → i < length r.plan.request.inputs → x ≡ get_or states i x → x.closed ≡ false
+    → IsKept r after (set states i (record x { closed = true })) queues clock turn packets counts
+closing {r} {h} {states} {queues} {clock} {turn} {packets} {counts} kept after i x e l at open_ =
     let k = kept.agrees in
     let is : x ≡ state_of h i = state_at k i x l at in
-    let inputs = length r.plan.inputs in
+    let inputs = length r.plan.request.inputs in
     let done : AgreesWith r (Close i ∷ h) (set states i (record x { closed = true })) queues = record {
       plan = k.plan;
       limit = k.limit;
@@ -92,7 +97,7 @@ closing {r} {h} {states} {queues} {clock} {packets} {elementary} kept after i x 
       states_are = ap (λ ys. set ys i (record x { closed = true })) k.states_are ∙ ap (set (map (state_of h) (range_with_len 0 inputs)) i) (closes_one h i x is) ∙ set_state (state_of h) (state_of (Close i ∷ h)) inputs i l (closes_others h i);
       queues_are = k.queues_are;
     } in
-    let P : List Event → Type 0 = λ es. IsKept r es (set states i (record x { closed = true })) queues clock packets elementary in
+    let P : List Event → Type 0 = λ es. IsKept r es (set states i (record x { closed = true })) queues clock turn packets counts in
     subst P (sym e) (same_output kept (Close i ∷ h) (set states i (record x { closed = true })) queues refl refl refl done)
 
 notes_others : (h : List Event) (st : Stream) (i j : ℕ) → j ≢ i → state_of h j ≡ state_of (Full i st ∷ h) j
@@ -102,14 +107,14 @@ notes_one : (h : List Event) (st : Stream) (i : ℕ) (x : InputState) → x ≡ 
 notes_one h st i x is = ap (λ (y : InputState). record y { full_noted = true }) is ∙ ap (λ b. let x : InputState = record (state_of h i) { full_noted = b || full_noted i h } in x) (sym (eq-eqb i i refl))
 
 -- a full queue is noted
-pub noting : {r : Run} {h : List Event} {states : List InputState} {queues : List QueueValue} {clock : ClockValue} {packets : List (List ℕ)} {elementary : ℕ}
-    → IsKept r h states queues clock packets elementary → (after : List Event) (i : ℕ) (st : Stream) (x : InputState)
-    → after ≡ Full i st ∷ h → i < length r.plan.inputs → x ≡ get_or states i x → MayNoteFull r.plan h i st
-    → IsKept r after (set states i (record x { full_noted = true })) queues clock packets elementary
-noting {r} {h} {states} {queues} {clock} {packets} {elementary} kept after i st x e l at may =
+pub noting : {r : Run} {h : List Event} {states : List InputState} {queues : List QueueValue} {clock : ClockValue} {turn : TurnValue} {packets : List (List ℕ)} {counts : Counts}
+    → IsKept r h states queues clock turn packets counts → (after : List Event) (i : ℕ) (st : Stream) (x : InputState)
+    → after ≡ Full i st ∷ h → i < length r.plan.request.inputs → x ≡ get_or states i x → MayNoteFull r.plan h i st
+    → IsKept r after (set states i (record x { full_noted = true })) queues clock turn packets counts
+noting {r} {h} {states} {queues} {clock} {turn} {packets} {counts} kept after i st x e l at may =
     let k = kept.agrees in
     let is : x ≡ state_of h i = state_at k i x l at in
-    let inputs = length r.plan.inputs in
+    let inputs = length r.plan.request.inputs in
     let done : AgreesWith r (Full i st ∷ h) (set states i (record x { full_noted = true })) queues = record {
       plan = k.plan;
       limit = k.limit;
@@ -118,7 +123,7 @@ noting {r} {h} {states} {queues} {clock} {packets} {elementary} kept after i st 
       states_are = ap (λ ys. set ys i (record x { full_noted = true })) k.states_are ∙ ap (set (map (state_of h) (range_with_len 0 inputs)) i) (notes_one h st i x is) ∙ set_state (state_of h) (state_of (Full i st ∷ h)) inputs i l (notes_others h st i);
       queues_are = k.queues_are;
     } in
-    let P : List Event → Type 0 = λ es. IsKept r es (set states i (record x { full_noted = true })) queues clock packets elementary in
+    let P : List Event → Type 0 = λ es. IsKept r es (set states i (record x { full_noted = true })) queues clock turn packets counts in
     subst P (sym e) (same_output kept (Full i st ∷ h) (set states i (record x { full_noted = true })) queues refl refl refl done)
 
 -- the state of an input with one more packet taken
@@ -137,16 +142,16 @@ takes_one h item i x is =
     ∙ ap (λ b. let x : InputState = record (state_of h i) { last_stamp = cond b item.stamp (last_stamp i h); taken = length (cond b (taken i h ++ item ∷ []) (taken i h)) } in x) (sym (eq-eqb i i refl))
 
 -- a packet is taken for a stream
-pub taking : {r : Run} {h : List Event} {states : List InputState} {queues : List QueueValue} {clock : ClockValue} {packets : List (List ℕ)} {elementary : ℕ}
-    → IsKept r h states queues clock packets elementary → (after : List Event) (i : ℕ) (item : Stamped) (k : ℕ) (st : Stream) (x : InputState) (q w : QueueValue)
+pub taking : {r : Run} {h : List Event} {states : List InputState} {queues : List QueueValue} {clock : ClockValue} {turn : TurnValue} {packets : List (List ℕ)} {counts : Counts}
+    → IsKept r h states queues clock turn packets counts → (after : List Event) (i : ℕ) (item : Stamped) (k : ℕ) (st : Stream) (x : InputState) (q w : QueueValue)
     → after ≡ Took i item ∷ h → x ≡ get_or states i x → IsAt r.plan k st → q ≡ get_or queues k q → w ≡ record { items = q.items ++ item ∷ []; capacity = q.capacity }
     → MayTake r.plan h i item → IsTakenFor r.plan h i item st
-    → IsKept r after (set states i (with_taken x item)) (set queues k w) clock packets elementary
-taking {r} {h} {states} {queues} {clock} {packets} {elementary} whole after i item k st x q w e x_at at q_at w_is may taker =
+    → IsKept r after (set states i (with_taken x item)) (set queues k w) clock turn packets counts
+taking {r} {h} {states} {queues} {clock} {turn} {packets} {counts} whole after i item k st x q w e x_at at q_at w_is may taker =
     let kept = whole.agrees in
     let l = may.input in
-    let inputs = length r.plan.inputs in
-    let capacity = r.plan.queue_capacity in
+    let inputs = length r.plan.request.inputs in
+    let capacity = r.plan.request.queue in
     let is : x ≡ state_of h i = state_at kept i x l x_at in
     let q_is : q ≡ queue_of capacity h st = queue_at kept k st q at q_at in
     let w' : w ≡ queue_of capacity (Took i item ∷ h) st = w_is ∙ ap (λ (y : QueueValue). let z : QueueValue = record { items = y.items ++ item ∷ []; capacity = y.capacity } in z) q_is ∙ sym (queued r.plan h i item st kept.plan kept.lawful taker) in
@@ -156,21 +161,26 @@ taking {r} {h} {states} {queues} {clock} {packets} {elementary} whole after i it
       lawful = (kept.lawful, may);
       within = kept.within;
       states_are = ap (λ ys. set ys i (with_taken x item)) kept.states_are ∙ ap (set (map (state_of h) (range_with_len 0 inputs)) i) (takes_one h item i x is) ∙ set_state (state_of h) (state_of (Took i item ∷ h)) inputs i l (takes_others h item i);
-      queues_are = ap (λ ys. set ys k w) kept.queues_are ∙ ap (set (map (queue_of capacity h) r.plan.streams) k) w' ∙ set_map_at (queue_of capacity h) (queue_of capacity (Took i item ∷ h)) r.plan.streams k st at (unqueued r.plan h i item st k kept.plan at taker);
+      queues_are = ap (λ ys. set ys k w) kept.queues_are ∙ ap (set (map (queue_of capacity h) r.plan.request.streams) k) w' ∙ set_map_at (queue_of capacity h) (queue_of capacity (Took i item ∷ h)) r.plan.request.streams k st at (unqueued r.plan h i item st k kept.plan at taker);
     } in
-    let P : List Event → Type 0 = λ es. IsKept r es (set states i (with_taken x item)) (set queues k w) clock packets elementary in
+    let P : List Event → Type 0 = λ es. IsKept r es (set states i (with_taken x item)) (set queues k w) clock turn packets counts in
     subst P (sym e) (same_output whole (Took i item ∷ h) (set states i (with_taken x item)) (set queues k w) refl refl refl done)
 
 -- Slots.
 
+-- the turn one slot on
+abbrev pub turned : TurnValue → TurnValue
+turned t = record { rounds = t.rounds; slot = t.slot + 1 }
+
 -- a slot, whatever it carries
-sending : {r : Run} {h : List Event} {states : List InputState} {queues : List QueueValue} {clock : ClockValue} {packets : List (List ℕ)} {elementary : ℕ}
-    → IsKept r h states queues clock packets elementary → (c : Content) (after : List Event) (now_states : List InputState) (now_queues : List QueueValue) (now_clock : ClockValue) (now_packets : List (List ℕ)) (now_elementary : ℕ)
-    → after ≡ Slot c ∷ h → now_states ≡ map (state_of (Slot c ∷ h)) (range_with_len 0 (length r.plan.inputs)) → now_queues ≡ map (queue_of r.plan.queue_capacity (Slot c ∷ h)) r.plan.streams → now_clock ≡ advanced clock
-    → now_packets ≡ packets ++ packet_behind r.plan h (emitted r.plan h) c ∷ [] → now_elementary ≡ count_by is_elementary (c ∷ contents h)
+sending : {r : Run} {h : List Event} {states : List InputState} {queues : List QueueValue} {clock : ClockValue} {turn : TurnValue} {packets : List (List ℕ)} {counts : Counts}
+    → IsKept r h states queues clock turn packets counts → (c : Content) (after : List Event) (now_states : List InputState) (now_queues : List QueueValue)
+    (now_clock : ClockValue) (now_turn : TurnValue) (now_packets : List (List ℕ)) (now_counts : Counts)
+    → after ≡ Slot c ∷ h → now_states ≡ map (state_of (Slot c ∷ h)) (range_with_len 0 (length r.plan.request.inputs)) → now_queues ≡ map (queue_of r.plan.request.queue (Slot c ∷ h)) r.plan.request.streams → now_clock ≡ advanced clock → now_turn ≡ turned turn
+    → now_packets ≡ packets ++ packet_behind r.plan h (emitted r.plan h) c ∷ [] → now_counts ≡ counts_of (Slot c ∷ h)
     → slots h < r.limit → MaySend r.plan h c
-    → IsKept r after now_states now_queues now_clock now_packets now_elementary
-sending {r} {h} {states} {queues} {clock} {packets} kept c after now_states now_queues now_clock now_packets now_elementary e s q t ps m within may =
+    → IsKept r after now_states now_queues now_clock now_turn now_packets now_counts
+sending {r} {h} {states} {queues} {clock} {turn} {packets} kept c after now_states now_queues now_clock now_turn now_packets now_counts e s q t u ps m within may =
     let k = kept.agrees in
     let done : AgreesWith r (Slot c ∷ h) now_states now_queues = record {
       plan = k.plan;
@@ -180,24 +190,44 @@ sending {r} {h} {states} {queues} {clock} {packets} kept c after now_states now_
       states_are = s;
       queues_are = q;
     } in
-    let all : IsKept r (Slot c ∷ h) now_states now_queues now_clock now_packets now_elementary = record {
+    let all : IsKept r (Slot c ∷ h) now_states now_queues now_clock now_turn now_packets now_counts = record {
       agrees = done;
-      output = output_of r.plan (Slot c ∷ h) k.plan (k.lawful, may);
       packets_are = ps ∙ ap (λ xs. xs ++ packet_behind r.plan h (emitted r.plan h) c ∷ []) kept.packets_are;
-      elementary_is = m;
+      counts_are = m;
       clock_is = t ∙ ap advanced kept.clock_is;
+      turn_is = u ∙ ap turned kept.turn_is;
     } in
-    let P : List Event → Type 0 = λ es. IsKept r es now_states now_queues now_clock now_packets now_elementary in
+    let P : List Event → Type 0 = λ es. IsKept r es now_states now_queues now_clock now_turn now_packets now_counts in
     subst P (sym e) all
 
-pub sending_null : {r : Run} {h : List Event} {states : List InputState} {queues : List QueueValue} {clock : ClockValue} {packets : List (List ℕ)} {elementary : ℕ}
-    → IsKept r h states queues clock packets elementary → (after : List Event) (now_states : List InputState) (now_clock : ClockValue) (now_packets : List (List ℕ))
-    → after ≡ Slot Null ∷ h → now_states ≡ map without_full states → now_clock ≡ advanced clock → now_packets ≡ packets ++ packet_behind r.plan h (emitted r.plan h) Null ∷ []
-    → slots h < r.limit → MaySend r.plan h Null → IsKept r after now_states queues now_clock now_packets elementary
-sending_null {r} {h} {states} {queues} {clock} {packets} {elementary} kept after now_states now_clock now_packets e s t ps within may =
+-- a slot that carries nothing of an input
+sending_other : {r : Run} {h : List Event} {states : List InputState} {queues : List QueueValue} {clock : ClockValue} {turn : TurnValue} {packets : List (List ℕ)} {counts : Counts}
+    → IsKept r h states queues clock turn packets counts → (c : Content) (after : List Event) (now_states : List InputState) (now_clock : ClockValue) (now_turn : TurnValue) (now_packets : List (List ℕ)) (now_counts : Counts)
+    → after ≡ Slot c ∷ h → now_states ≡ map without_full states → now_clock ≡ advanced clock → now_turn ≡ turned turn → now_packets ≡ packets ++ packet_behind r.plan h (emitted r.plan h) c ∷ [] → now_counts ≡ counts_of (Slot c ∷ h)
+    → map without_full (map (state_of h) (range_with_len 0 (length r.plan.request.inputs))) ≡ map (state_of (Slot c ∷ h)) (range_with_len 0 (length r.plan.request.inputs))
+    → map (queue_of r.plan.request.queue h) r.plan.request.streams ≡ map (queue_of r.plan.request.queue (Slot c ∷ h)) r.plan.request.streams
+    → slots h < r.limit → MaySend r.plan h c → IsKept r after now_states queues now_clock now_turn now_packets now_counts
+sending_other {r} {h} {states} {queues} kept c after now_states now_clock now_turn now_packets now_counts e s t u ps m states_same queues_same within may =
     let k = kept.agrees in
-    sending kept Null after now_states queues now_clock now_packets elementary e (s ∙ ap (map without_full) k.states_are ∙ map-map without_full (state_of h) (range_with_len 0 (length r.plan.inputs)))
-    k.queues_are t ps kept.elementary_is within may
+    sending kept c after now_states queues now_clock now_turn now_packets now_counts e (s ∙ ap (map without_full) k.states_are ∙ states_same) (k.queues_are ∙ queues_same) t u ps m within may
+
+pub sending_null : {r : Run} {h : List Event} {states : List InputState} {queues : List QueueValue} {clock : ClockValue} {turn : TurnValue} {packets : List (List ℕ)} {counts : Counts}
+    → IsKept r h states queues clock turn packets counts → (after : List Event) (now_states : List InputState) (now_clock : ClockValue) (now_turn : TurnValue) (now_packets : List (List ℕ))
+    → after ≡ Slot Null ∷ h → now_states ≡ map without_full states → now_clock ≡ advanced clock → now_turn ≡ turned turn → now_packets ≡ packets ++ packet_behind r.plan h (emitted r.plan h) Null ∷ []
+    → slots h < r.limit → MaySend r.plan h Null → IsKept r after now_states queues now_clock now_turn now_packets (record counts { null = counts.null + 1 })
+sending_null {r} {h} {states} {queues} {clock} {turn} {packets} {counts} kept after now_states now_clock now_turn now_packets e s t u ps within may =
+    sending_other kept Null after now_states now_clock now_turn now_packets (record counts { null = counts.null + 1 }) e s t u ps
+    (ap (λ (x : Counts). let y : Counts = record x { null = x.null + 1 } in y) kept.counts_are ∙ counts_null h)
+    (map-map without_full (state_of h) (range_with_len 0 (length r.plan.request.inputs))) refl within may
+
+pub sending_table : {r : Run} {h : List Event} {states : List InputState} {queues : List QueueValue} {clock : ClockValue} {turn : TurnValue} {packets : List (List ℕ)} {counts : Counts}
+    → IsKept r h states queues clock turn packets counts → (place : TablePlace) (after : List Event) (now_states : List InputState) (now_clock : ClockValue) (now_turn : TurnValue) (now_packets : List (List ℕ))
+    → after ≡ Slot (Table place) ∷ h → now_states ≡ map without_full states → now_clock ≡ advanced clock → now_turn ≡ turned turn → now_packets ≡ packets ++ packet_behind r.plan h (emitted r.plan h) (Table place) ∷ []
+    → slots h < r.limit → MaySend r.plan h (Table place) → IsKept r after now_states queues now_clock now_turn now_packets (record counts { tables = counts.tables + 1 })
+sending_table {r} {h} {states} {queues} {clock} {turn} {packets} {counts} kept place after now_states now_clock now_turn now_packets e s t u ps within may =
+    sending_other kept (Table place) after now_states now_clock now_turn now_packets (record counts { tables = counts.tables + 1 }) e s t u ps
+    (ap (λ (x : Counts). let y : Counts = record x { tables = x.tables + 1 } in y) kept.counts_are ∙ counts_table place h)
+    (map-map without_full (state_of h) (range_with_len 0 (length r.plan.request.inputs))) refl within may
 
 -- the state of an input with one more packet sent
 abbrev pub with_sent : InputState → InputState
@@ -211,38 +241,38 @@ sends_one h st = ap (λ m. let x : InputState = record (state_of h st.input) { f
 
 -- the state of an input with no full queue noted
 pub cleared_at : {r : Run} {h : List Event} {states : List InputState} {queues : List QueueValue} → AgreesWith r h states queues → (cleared : List InputState) → cleared ≡ map without_full states
-    → (i : ℕ) (x : InputState) → i < length r.plan.inputs → x ≡ get_or cleared i x → x ≡ without_full (state_of h i)
+    → (i : ℕ) (x : InputState) → i < length r.plan.request.inputs → x ≡ get_or cleared i x → x ≡ without_full (state_of h i)
 cleared_at {r} {h} k cleared s i x l at =
     let before : ℕ → InputState = λ j. without_full (state_of h j) in
-    let inputs = length r.plan.inputs in
+    let inputs = length r.plan.request.inputs in
     at ∙ ap (λ ys. get_or ys i x) (s ∙ ap (map without_full) k.states_are ∙ map-map without_full (state_of h) (range_with_len 0 inputs)) ∙ get_or-map-range_with_len before 0 inputs i i x l (omega arith)
 
-pub sending_head : {r : Run} {h : List Event} {states : List InputState} {queues : List QueueValue} {clock : ClockValue} {packets : List (List ℕ)} {elementary : ℕ}
-    → IsKept r h states queues clock packets elementary → (k : ℕ) (st : Stream) (x : InputState) (q w : QueueValue) (after : List Event) (cleared : List InputState) (now_clock : ClockValue) (now_packets : List (List ℕ))
-    → after ≡ Slot (Elementary st) ∷ h → cleared ≡ map without_full states → x ≡ get_or cleared st.input x → st.input < length r.plan.inputs → IsAt r.plan k st
+pub sending_head : {r : Run} {h : List Event} {states : List InputState} {queues : List QueueValue} {clock : ClockValue} {turn : TurnValue} {packets : List (List ℕ)} {counts : Counts}
+    → IsKept r h states queues clock turn packets counts → (k : ℕ) (st : Stream) (x : InputState) (q w : QueueValue) (after : List Event) (cleared : List InputState) (now_clock : ClockValue) (now_turn : TurnValue) (now_packets : List (List ℕ))
+    → after ≡ Slot (Elementary st) ∷ h → cleared ≡ map without_full states → x ≡ get_or cleared st.input x → st.input < length r.plan.request.inputs → IsAt r.plan k st
     → q ≡ get_or queues k q → w ≡ record { items = drop 1 q.items; capacity = q.capacity }
-    → now_clock ≡ advanced clock → now_packets ≡ packets ++ packet_behind r.plan h (emitted r.plan h) (Elementary st) ∷ [] → slots h < r.limit → MaySend r.plan h (Elementary st)
-    → IsKept r after (set cleared st.input (with_sent x)) (set queues k w) now_clock now_packets (elementary + 1)
-sending_head {r} {h} {states} {queues} {clock} {packets} {elementary} whole k st x q w after cleared now_clock now_packets e s x_at l at q_at w_is t ps within may =
+    → now_clock ≡ advanced clock → now_turn ≡ turned turn → now_packets ≡ packets ++ packet_behind r.plan h (emitted r.plan h) (Elementary st) ∷ [] → slots h < r.limit → MaySend r.plan h (Elementary st)
+    → IsKept r after (set cleared st.input (with_sent x)) (set queues k w) now_clock now_turn now_packets (record counts { elementary = counts.elementary + 1 })
+sending_head {r} {h} {states} {queues} {clock} {turn} {packets} {counts} whole k st x q w after cleared now_clock now_turn now_packets e s x_at l at q_at w_is t u ps within may =
     let kept = whole.agrees in
-    let inputs = length r.plan.inputs in
-    let capacity = r.plan.queue_capacity in
+    let inputs = length r.plan.request.inputs in
+    let capacity = r.plan.request.queue in
     let before : ℕ → InputState = λ j. without_full (state_of h j) in
     let cleared_is : cleared ≡ map before (range_with_len 0 inputs) = s ∙ ap (map without_full) kept.states_are ∙ map-map without_full (state_of h) (range_with_len 0 inputs) in
     let x_is : x ≡ before st.input = cleared_at kept cleared s st.input x l x_at in
     let q_is : q ≡ queue_of capacity h st = queue_at kept k st q at q_at in
     let w' : w ≡ queue_of capacity (Slot (Elementary st) ∷ h) st = w_is ∙ ap (λ (y : QueueValue). let z : QueueValue = record { items = drop 1 y.items; capacity = y.capacity } in z) q_is ∙ sent_queue capacity h st in
-    sending whole (Elementary st) after (set cleared st.input (with_sent x)) (set queues k w) now_clock now_packets (elementary + 1) e
+    sending whole (Elementary st) after (set cleared st.input (with_sent x)) (set queues k w) now_clock now_turn now_packets (record counts { elementary = counts.elementary + 1 }) e
     (ap (λ ys. set ys st.input (with_sent x)) cleared_is ∙ ap (set (map before (range_with_len 0 inputs)) st.input) (ap with_sent x_is ∙ sends_one h st) ∙ set_state before (state_of (Slot (Elementary st) ∷ h)) inputs st.input l (sends_others h st))
-    (ap (λ ys. set ys k w) kept.queues_are ∙ ap (set (map (queue_of capacity h) r.plan.streams) k) w' ∙ set_map_at (queue_of capacity h) (queue_of capacity (Slot (Elementary st) ∷ h)) r.plan.streams k st at (unsent_queue r.plan h st k kept.plan at))
-    t ps (ap (λ m. m + 1) whole.elementary_is ∙ sym (count_elementary st (contents h))) within may
+    (ap (λ ys. set ys k w) kept.queues_are ∙ ap (set (map (queue_of capacity h) r.plan.request.streams) k) w' ∙ set_map_at (queue_of capacity h) (queue_of capacity (Slot (Elementary st) ∷ h)) r.plan.request.streams k st at (unsent_queue r.plan h st k kept.plan at))
+    t u ps (ap (λ (x : Counts). let y : Counts = record x { elementary = x.elementary + 1 } in y) whole.counts_are ∙ counts_elementary st h) within may
 
 -- the packet that carries a stream's head
 pub sent_packet_is : {r : Run} {h : List Event} {states : List InputState} {queues : List QueueValue} → AgreesWith r h states queues → (k : ℕ) (st : Stream) (q : QueueValue) (item : Stamped) (now : ℕ) → IsAt r.plan k st
     → q ≡ get_or queues k q → slice_get q.items 0 ≡ Some item → now ≡ slot_time r.plan (slots h)
     → rewritten item.packet st.output_pid (now - item.stamp) ≡ packet_behind r.plan h (emitted r.plan h) (Elementary st)
 sent_packet_is {r} {h} kept k st q item now at q_at head t =
-    let q_is : q ≡ queue_of r.plan.queue_capacity h st = queue_at kept k st q at q_at in
+    let q_is : q ≡ queue_of r.plan.request.queue h st = queue_at kept k st q at q_at in
     ap (λ m. rewritten item.packet st.output_pid (m - item.stamp)) t
     ∙ ap (λ m. rewritten item.packet st.output_pid (slot_time r.plan m - item.stamp)) (sym (length-emitted r.plan h))
     ∙ sym (ap (sent_packet r.plan (length (emitted r.plan h)) st) (sym (ap (λ (x : QueueValue). slice_get x.items 0) q_is) ∙ head))

@@ -1,7 +1,7 @@
 -- What `take` and `slot` answer, and the history that they leave (profile).
 use Rattle.std.specs.Prelude.{ℕ, List, ◌≡◌, ◌<◌, ◌≤◌, ◌⊎◌, true, false, IsTrue, if◌then◌else◌, length, Some, None, Contains}
 use Rattle.tspkt.specs.declared.stamped.Stamped.{Stamped}
-use Rattle.mux.specs.declared.stream.Stream.{Stream}
+use Rattle.request.specs.declared.stream.Stream.{Stream}
 use Rattle.mux.specs.declared.event.Event.TheVariants as events
 use Rattle.mux.specs.declared.content.Content.{Content}
 use Rattle.mux.specs.declared.slot.Slot.{Slot}
@@ -19,7 +19,7 @@ HandsBack h item back new = (back ≡ item) × (new ≡ h)
 -- The queue of the item's stream is full: that is noted, but once for an input since the last turn.
 abbrev pub NotesFull : History → ℕ → Stamped → History → Type 0
 NotesFull h i item new =
-    (st : Stream) × Contains (in_force h.run.plan h.events).streams st × (is_mapped_to st i item ≡ true)
+    (st : Stream) × Contains (in_force h.run.plan h.events).request.streams st × (is_mapped_to st i item ≡ true)
     × (new ≡ (if full_noted i h.events then h else with_event h (events.Full i st)))
 
 -- what `take` answers and leaves: the first reason against the item, or want of memory where an event is due
@@ -46,7 +46,7 @@ pub record IsRunning (h : History) : Type 0 where
 
 -- the least input that isn't ready for the next slot
 pub record IsLeastUnready (h : History) (i : ℕ) : Type 0 where
-  pub input : i < length h.run.plan.inputs
+  pub input : i < length h.run.plan.request.inputs
   pub unready : is_ready h.run.plan i h.events ≡ false
   pub least : (j : ℕ) → j < i → IsTrue (is_ready h.run.plan j h.events)
 

@@ -2,9 +2,9 @@
 use Rattle.std.specs.Prelude.{ℕ, List, ◌≡◌, ◌≤◌, ◌<◌, ◌⊎◌, Option, Some, None}
 use Rattle.std.specs.List.{slice_get}
 use Rattle.tspkt.specs.declared.stamped.Stamped.{Stamped}
-use Rattle.mux.specs.declared.stream.Stream.{Stream}
+use Rattle.request.specs.declared.stream.Stream.{Stream}
 use Rattle.mux.specs.declared.candidate.Candidate.{Candidate}
-use Rattle.mux.specs.QueueValue.{QueueValue}
+use Rattle.buffers.specs.QueueValue.{QueueValue}
 use Rattle.mux.specs.Lawful.{IsNotAfter}
 
 -- the item is the head of the queue of the stream at place k, and due

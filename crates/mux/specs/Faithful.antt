@@ -6,7 +6,8 @@ use Rattle.std.specs.List.{slice_get}
 use Rattle.tspkt.specs.declared.stamped.Stamped.{Stamped}
 use Rattle.mux.specs.declared.event.Event.{Event}
 use Rattle.mux.specs.declared.event.Event.TheVariants.{Took, Full, Close, Slot}
-use Rattle.mux.specs.PlanValue.{PlanValue, IsPlan}
+use Rattle.plan.specs.Build.{PlanValue}
+use Rattle.mux.specs.Plans.{IsMultiplexPlan}
 use Rattle.mux.specs.History.{History, Run, with_event, all_events, Open, Then, is_mapped_to, taken, emitted, slots}
 use Rattle.mux.specs.Lawful.{IsLawful, IsDone}
 
@@ -40,7 +41,7 @@ IsPrefix {X} xs ys = (rest : List X) × (ys ≡ xs ++ rest)
 -- Of two lawful histories over one plan, faithful to the same lists, one's emitted packets begin the other's.
 abbrev pub OutputsAgree : Type 0
 OutputsAgree =
-    (p : PlanValue) (lists : PacketLists) (a b : List Event) → IsPlan p → IsRunOf p lists a → IsRunOf p lists b
+    (p : PlanValue) (lists : PacketLists) (a b : List Event) → IsMultiplexPlan p → IsRunOf p lists a → IsRunOf p lists b
     → IsPrefix (emitted p a) (emitted p b) ⊎ IsPrefix (emitted p b) (emitted p a)
 
 -- It has n slots, or with fewer all is done.
@@ -50,7 +51,7 @@ IsFinished p n h = (slots h ≡ n) ⊎ ((slots h < n) × IsDone p h)
 -- And if both are finished at the same number of slots they have the same packets.
 abbrev pub OutputIsUnique : Type 0
 OutputIsUnique =
-    (p : PlanValue) (lists : PacketLists) (n : ℕ) (a b : List Event) → IsPlan p
+    (p : PlanValue) (lists : PacketLists) (n : ℕ) (a b : List Event) → IsMultiplexPlan p
     → IsRunOf p lists a → IsFinished p n a → IsRunOf p lists b → IsFinished p n b
     → emitted p a ≡ emitted p b
 

@@ -7,12 +7,13 @@ use Rattle.tspkt.specs.Packet.{pid_of, null_packet}
 use Rattle.tspkt.specs.Rewritten.{rewritten}
 use Rattle.tspkt.specs.Stamps.{time_of}
 use Rattle.tspkt.specs.declared.stamped.Stamped.{Stamped}
-use Rattle.mux.specs.declared.stream.Stream.{Stream}
+use Rattle.request.specs.declared.stream.Stream.{Stream}
+use Rattle.emission.specs.Emission.{table_packet_at, counted_behind}
 use Rattle.mux.specs.declared.content.Content.{Content}
-use Rattle.mux.specs.declared.content.Content.TheVariants.{Null, Elementary}
+use Rattle.mux.specs.declared.content.Content.TheVariants.{Null, Elementary, Table}
 use Rattle.mux.specs.declared.event.Event.{Event}
 use Rattle.mux.specs.declared.event.Event.TheVariants.{Took, Full, Close, Slot}
-use Rattle.mux.specs.PlanValue.{PlanValue}
+use Rattle.plan.specs.Build.{PlanValue}
 
 -- how a run is opened: by a plan, and for at most this many slots
 pub record Run : Type 0 where
@@ -68,6 +69,7 @@ taken_for st (Slot c ∷ before) = taken_for st before
 -- whether a slot carries a packet of the stream: streams are told apart by their output PIDs
 abbrev pub is_of_stream : Stream → Content → Bool
 is_of_stream st Null = false
+is_of_stream st (Table place) = false
 is_of_stream st (Elementary su) = su.output_pid == st.output_pid
 
 -- how many packets of a stream were sent
@@ -96,7 +98,7 @@ slots (Slot c ∷ before) = slots before + 1
 
 -- when slot m goes out: the time of its byte 10, in which a PCR's base ends, in ticks of 27 MHz
 abbrev pub slot_time : PlanValue → ℕ → ℕ
-slot_time p m = time_of (188 * m + 10) p.rate
+slot_time p m = time_of (188 * m + 10) p.request.rate
 
 -- the stamp of the item last taken of an input, or 0 before the first
 abbrev pub last_stamp : ℕ → List Event → ℕ
@@ -130,6 +132,7 @@ sent_packet p m st (Some item) = rewritten item.packet st.output_pid (slot_time 
 -- the packet of a slot with this content, behind these events and the packets that they emitted
 abbrev pub packet_behind : PlanValue → List Event → List (List ℕ) → Content → List ℕ
 packet_behind p before out Null = null_packet
+packet_behind p before out (Table place) = counted_behind out (table_packet_at p.tables place)
 packet_behind p before out (Elementary st) = sent_packet p (length out) st (slice_get (queue st before) 0)
 
 -- the packets that went out, one a slot, oldest first

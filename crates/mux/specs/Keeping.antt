@@ -3,15 +3,17 @@ use Rattle.std.specs.Prelude.{ℕ, List, ◌≡◌, ◌≤◌, ◌||◌, Bool, n
 use Rattle.std.specs.List.{range_with_len}
 use Rattle.mux.specs.declared.mux.TheConstants.{MAX_SLOTS}
 use Rattle.mux.specs.declared.event.Event.{Event}
-use Rattle.mux.specs.declared.stream.Stream.{Stream}
+use Rattle.request.specs.declared.stream.Stream.{Stream}
 use Rattle.mux.specs.declared.input_state.InputState.{InputState}
-use Rattle.mux.specs.QueueValue.{QueueValue}
+use Rattle.buffers.specs.QueueValue.{QueueValue}
+use Rattle.rounds.specs.Turn.{TurnValue}
 use Rattle.mux.specs.SlotClock.{ClockValue, clock_at}
-use Rattle.mux.specs.PlanValue.{IsPlan}
+use Rattle.plan.specs.Build.{PlanValue}
+use Rattle.mux.specs.Plans.{IsMultiplexPlan}
 use Rattle.mux.specs.History.{Run, taken, queue, slots, last_stamp, is_closed, full_noted, emitted}
-use Rattle.mux.specs.Totals.{contents, is_of_input, is_elementary}
+use Rattle.mux.specs.declared.counts.Counts.{Counts}
+use Rattle.mux.specs.Totals.{contents, is_of_input, is_elementary, is_table, is_null}
 use Rattle.mux.specs.Lawful.{IsLawful}
-use Rattle.mux.specs.Output.{IsOutput}
 
 -- what is kept of an input
 abbrev pub state_of : List Event → ℕ → InputState
@@ -34,21 +36,33 @@ queue_of capacity h st = record { items = queue st h; capacity = capacity }
 -- the history is lawful, and what is kept of inputs and streams agrees with it
 pub record AgreesWith (r : Run) (h : List Event)
     (states : List InputState) (queues : List QueueValue) : Type 0 where
-  pub plan : IsPlan r.plan
+  pub plan : IsMultiplexPlan r.plan
   pub limit : r.limit ≤ MAX_SLOTS
   pub lawful : IsLawful r.plan h
   pub within : slots h ≤ r.limit
-  pub states_are : states ≡ map (state_of h) (range_with_len 0 (length r.plan.inputs))
-  pub queues_are : queues ≡ map (queue_of r.plan.queue_capacity h) r.plan.streams
+  pub states_are : states ≡ map (state_of h) (range_with_len 0 (length r.plan.request.inputs))
+  pub queues_are : queues ≡ map (queue_of r.plan.request.queue h) r.plan.request.streams
 
--- and so do the clock, the packets that went out and the number of those of streams
+-- the turn of the tables at a slot
+abbrev pub turn_at : PlanValue → ℕ → TurnValue
+turn_at p slot = record { rounds = p.rounds; slot = slot }
+
+-- how many slots carried what
+abbrev pub counts_of : List Event → Counts
+counts_of h = record {
+  tables = count_by is_table (contents h);
+  elementary = count_by is_elementary (contents h);
+  null = count_by is_null (contents h);
+}
+
+-- and so do the clock and the tables' turn, the packets that went out, and how many were of what
 pub record IsKept (r : Run) (h : List Event) (states : List InputState) (queues : List QueueValue)
-    (clock : ClockValue) (packets : List (List ℕ)) (elementary : ℕ) : Type 0 where
+    (clock : ClockValue) (turn : TurnValue) (packets : List (List ℕ)) (counts : Counts) : Type 0 where
   pub agrees : AgreesWith r h states queues
-  pub clock_is : clock ≡ clock_at r.plan.rate (slots h)
-  pub output : IsOutput r.plan h
+  pub clock_is : clock ≡ clock_at r.plan.request.rate (slots h)
+  pub turn_is : turn ≡ turn_at r.plan (slots h)
   pub packets_are : packets ≡ emitted r.plan h
-  pub elementary_is : elementary ≡ count_by is_elementary (contents h)
+  pub counts_are : counts ≡ counts_of h
 
 -- the same state, with no full queue noted
 abbrev pub without_full : InputState → InputState

@@ -4,12 +4,14 @@ use Rattle.std.specs.Prelude.{ℕ, List, [], ◌∷◌, ◌≡◌, ◌<◌, ◌�
 use Rattle.std.specs.List.{slice_get, list_any}
 use Rattle.tspkt.specs.Packet.{IsPacket}
 use Rattle.tspkt.specs.declared.stamped.Stamped.{Stamped}
-use Rattle.mux.specs.declared.stream.Stream.{Stream}
+use Rattle.request.specs.declared.stream.Stream.{Stream}
+use Rattle.rounds.specs.Rounds.{table_at}
+use Rattle.rounds.specs.declared.table_place.TablePlace.{TablePlace}
 use Rattle.mux.specs.declared.content.Content.{Content}
-use Rattle.mux.specs.declared.content.Content.TheVariants.{Null, Elementary}
+use Rattle.mux.specs.declared.content.Content.TheVariants.{Null, Elementary, Table}
 use Rattle.mux.specs.declared.event.Event.{Event}
 use Rattle.mux.specs.declared.event.Event.TheVariants as events
-use Rattle.mux.specs.PlanValue.{PlanValue}
+use Rattle.plan.specs.Build.{PlanValue}
 use Rattle.mux.specs.History.{Run, in_force, is_mapped_to, queue, slots, slot_time, last_stamp, is_closed, full_noted}
 
 -- The next slot can't get an earlier packet of the input: it is closed, or its last stamp is past
@@ -18,20 +20,20 @@ abbrev pub is_ready : PlanValue → ℕ → List Event → Bool
 is_ready p i h = is_closed i h || nat_lt (slot_time p (slots h)) (last_stamp i h) || full_noted i h
 
 abbrev pub AllReady : PlanValue → List Event → Type 0
-AllReady p h = (i : ℕ) → i < length p.inputs → IsTrue (is_ready p i h)
+AllReady p h = (i : ℕ) → i < length p.request.inputs → IsTrue (is_ready p i h)
 
 -- all inputs are closed, and nothing waits
 pub record IsDone (p : PlanValue) (h : List Event) : Type 0 where
-  pub closed : (i : ℕ) → i < length p.inputs → IsTrue (is_closed i h)
-  pub empty : (st : Stream) → Contains p.streams st → queue st h ≡ []
+  pub closed : (i : ℕ) → i < length p.request.inputs → IsTrue (is_closed i h)
+  pub empty : (st : Stream) → Contains p.request.streams st → queue st h ≡ []
 
--- The stream's transport buffer has room for the packet of this item: a thin plan has no transport buffers.
+-- The stream's transport buffer has room for the packet of this item: transport buffers aren't followed yet.
 abbrev pub Fits : PlanValue → List Event → Stream → Stamped → Type 0
 Fits p h st item = Unit {0}
 
 -- the item is the head of its stream's queue, is due in the next slot, and fits its buffer
 pub record IsEligible (p : PlanValue) (h : List Event) (st : Stream) (item : Stamped) : Type 0 where
-  pub stream : Contains (in_force p h).streams st
+  pub stream : Contains (in_force p h).request.streams st
   pub head : slice_get (queue st h) 0 ≡ Some item
   pub due : item.stamp ≤ slot_time p (slots h)
   pub fits : Fits p h st item
@@ -41,16 +43,22 @@ abbrev pub IsNotAfter : Stream → Stamped → Stream → Stamped → Type 0
 IsNotAfter st item su other =
     (item.stamp < other.stamp) ⊎ ((item.stamp ≡ other.stamp) × (st.output_pid ≤ su.output_pid))
 
--- what the next slot carries: the eligible head that goes first, or null where there is none
+-- what a slot without a table carries: the eligible head that goes first, or null where there is none
 abbrev pub IsChoice : PlanValue → List Event → Content → Type 0
 IsChoice p h Null = (st : Stream) (item : Stamped) → IsEligible p h st item → ⊥
+IsChoice p h (Table place) = ⊥
 IsChoice p h (Elementary st) =
     (item : Stamped) × IsEligible p h st item
     × ((su : Stream) (other : Stamped) → IsEligible p h su other → IsNotAfter st item su other)
 
--- the content of the next slot: a thin plan has no table slots
+-- what a slot carries where this table packet has its turn, or none
+abbrev pub IsContentAt : PlanValue → List Event → Option TablePlace → Content → Type 0
+IsContentAt p h (Some place) c = c ≡ Table place
+IsContentAt p h None c = IsChoice p h c
+
+-- the content of the next slot: a table slot carries its table packet, and nothing else does
 abbrev pub IsContent : PlanValue → List Event → Content → Type 0
-IsContent p h c = IsChoice p h c
+IsContent p h c = IsContentAt p h (table_at p.rounds (slots h)) c
 
 -- why an item is refused
 pub data Refusal : Type 0 where
@@ -61,12 +69,12 @@ pub data Refusal : Type 0 where
 
 -- the plan maps the item to a stream
 abbrev pub is_mapped : PlanValue → ℕ → Stamped → Bool
-is_mapped p i item = list_any (λ st. is_mapped_to st i item) p.streams
+is_mapped p i item = list_any (λ st. is_mapped_to st i item) p.request.streams
 
 -- it maps it to a stream whose queue is full
 abbrev pub is_queue_full : PlanValue → List Event → ℕ → Stamped → Bool
 is_queue_full p h i item =
-    list_any (λ st. is_mapped_to st i item && (length (queue st h) == p.queue_capacity)) p.streams
+    list_any (λ st. is_mapped_to st i item && (length (queue st h) == p.request.queue)) p.request.streams
 
 -- the first reason against an item, by the history so far
 unfoldable pub refusal_of : PlanValue → List Event → ℕ → Stamped → Option Refusal
@@ -79,20 +87,20 @@ refusal_of p h i item =
 
 -- nothing is against the item, and its packet is one
 pub record MayTake (p : PlanValue) (before : List Event) (i : ℕ) (item : Stamped) : Type 0 where
-  pub input : i < length p.inputs
+  pub input : i < length p.request.inputs
   pub packet : IsPacket item.packet
   pub unrefused : refusal_of p before i item ≡ None
 
 -- the queue of a stream of the input is full, and none was noted since the last turn
 pub record MayNoteFull (p : PlanValue) (before : List Event) (i : ℕ) (st : Stream) : Type 0 where
-  pub stream : Contains (in_force p before).streams st
+  pub stream : Contains (in_force p before).request.streams st
   pub input : st.input ≡ i
   pub open_ : is_closed i before ≡ false
-  pub full : length (queue st before) ≡ (in_force p before).queue_capacity
+  pub full : length (queue st before) ≡ (in_force p before).request.queue
   pub first : full_noted i before ≡ false
 
 pub record MayClose (p : PlanValue) (before : List Event) (i : ℕ) : Type 0 where
-  pub input : i < length p.inputs
+  pub input : i < length p.request.inputs
   pub open_ : is_closed i before ≡ false
 
 pub record MaySend (p : PlanValue) (before : List Event) (c : Content) : Type 0 where

@@ -1,13 +1,12 @@
-pub mod PlanFault
-pub mod PlanValue
+pub mod Plans
 pub mod History
 pub mod Lawful
 pub mod Answers
 pub mod Totals
 pub mod Output
 pub mod Faithful
-pub mod QueueValue
 pub mod SlotClock
+pub mod PidCounters
 pub mod Stored
 pub mod Keeping
 pub mod Choosing

@@ -1,7 +1,7 @@
 -- The clock of a multiplex's slots, as contracts see it, and what it keeps so that no slot needs a division (profile).
 use Rattle.std.specs.Prelude.{ℕ, ◌≡◌, ◌+◌, ◌*◌, ◌<◌, ◌≤◌}
 use Rattle.mux.specs.declared.mux.TheConstants.{MAX_SLOTS}
-use Rattle.mux.specs.declared.plan.TheConstants.{MAX_RATE}
+use Rattle.request.specs.declared.limits.TheConstants.{MAX_RATE}
 
 -- the rate of the multiplex, and the number of the slot that the clock stands at
 pub record ClockValue : Type 0 where

@@ -1,6 +1,6 @@
 //! What may go in the next slot.
 
-use crate::stream::Stream;
+use request::Stream;
 
 /// A stream whose head is due, with its place in the plan.
 #[derive(Clone, Copy)]

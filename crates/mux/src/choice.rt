@@ -3,15 +3,15 @@
 ghost use Rattle.std.specs.Prelude.{◌≡◌, ℕ, ◌<◌, ◌≤◌, ◌↔◌, [], true, false, length, map, All, IsTrue, IfSome, IfNone, Some, slice_index_or};
 ghost use Rattle.std.specs.List.{slice_get};
 ghost use Rattle.tspkt.specs.declared.stamped.Stamped.{Stamped};
-ghost use Rattle.mux.specs.declared.stream.Stream.{Stream};
+ghost use Rattle.request.specs.declared.stream.Stream.{Stream};
 ghost use Rattle.mux.specs.declared.input_state.InputState.{InputState};
 ghost use Rattle.mux.specs.Keeping.{ready_at, without_full};
 ghost use Rattle.mux.specs.Choosing.{IsFirstOf, IsDueHead, IsFirstDueHead};
 
 use crate::candidate::Candidate;
 use crate::input_state::InputState;
-use crate::pid_queue::PidQueue;
-use crate::stream::Stream;
+use buffers::PidQueue;
+use request::Stream;
 
 /// Whether each input was closed.
 pub(crate) fn all_closed(inputs: &[InputState]) -> bool
@@ -59,7 +59,7 @@ fn due_head(queue: &PidQueue, now: u64) -> Option<u64>
     ensures none { IfNone result ((item : Stamped)
         → slice_get queue.now.items 0 ≡ Some item → item.stamp ≤ now → ⊥) }
 {
-    let stamp = queue.head_stamp()?;
+    let stamp = queue.head()?.stamp;
     if stamp <= now { Some(stamp) } else { None }
 }
 

@@ -1,6 +1,7 @@
 //! What a slot carries.
 
-use crate::stream::Stream;
+use request::Stream;
+use rounds::TablePlace;
 
 /// The content of a slot.
 #[derive(Clone, Copy)]
@@ -9,4 +10,6 @@ pub enum Content {
     Null,
     /// The head of this stream's queue.
     Elementary(Stream),
+    /// The table packet at this place of the plan's lists.
+    Table(TablePlace),
 }

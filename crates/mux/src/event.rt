@@ -1,7 +1,7 @@
 //! The entries of a history.
 
 use crate::content::Content;
-use crate::stream::Stream;
+use request::Stream;
 use tspkt::Stamped;
 
 /// An entry of the history of a multiplex: what one call did to it. (An event of a programme, as in EN 300 468, is

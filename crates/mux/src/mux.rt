@@ -1,12 +1,14 @@
 //! The multiplex.
 
-ghost use Rattle.std.specs.Prelude.{◌≡◌, ℕ, ◌+◌, ◌*◌, ◌<◌, ◌≤◌, ◌==◌, ◌↔◌, [], map, ◌∷◌, Bool, true, false, IsTrue, IfOk, OnOk, OnErr, IsOk, IfSome, IfNone, Some, length};
+ghost use Rattle.std.specs.Prelude.{◌≡◌, ℕ, ◌+◌, ◌*◌, ◌<◌, ◌≤◌, ◌==◌, ◌↔◌, [], map, ◌∷◌, Bool, true, false, IsTrue, IfOk, OnOk, OnErr, IsOk, IfSome, IfNone, Some, None, length};
 ghost use Rattle.std.specs.List.{range_with_len, slice_get};
 ghost use Rattle.tspkt.specs.Packet.{IsPacket};
-ghost use Rattle.mux.specs.declared.stream.Stream.{Stream};
+ghost use Rattle.request.specs.declared.stream.Stream.{Stream};
+ghost use Rattle.rounds.specs.Rounds.{table_at, IsPlace};
+ghost use Rattle.emission.specs.Emission.{table_packet_at, counted_behind};
 ghost use Rattle.mux.specs.declared.event.Event.{Event};
 ghost use Rattle.mux.specs.declared.content.Content.{Content};
-ghost use Rattle.mux.specs.PlanValue.{IsPlan};
+ghost use Rattle.mux.specs.Plans.{IsMultiplexPlan};
 ghost use Rattle.mux.specs.History.{opened, with_event, is_mapped_to, is_closed, queue, slots, slot_time, emitted};
 ghost use Rattle.mux.specs.Lawful.{is_mapped, MayTake, MayNoteFull, IsDone, AllReady, IsContent, MaySend};
 ghost use Rattle.mux.specs.Answers.{TakeAnswers, SlotAnswers, Sends, IsLeastUnready};
@@ -18,14 +20,16 @@ use crate::candidate::Candidate;
 use crate::choice::{all_closed, all_empty, choose, clear_full, first_unready};
 use crate::counts::Counts;
 use crate::input_state::InputState;
-use crate::pid_queue::PidQueue;
-use crate::plan::Plan;
+use crate::output::Output;
 use crate::slot::Slot;
 use crate::slot_clock::SlotClock;
 use crate::stored_event::StoredEvent;
-use crate::stream::Stream;
 use crate::taken::Taken;
 use crate::totals::Totals;
+use buffers::PidQueue;
+use plan::Plan;
+use request::Stream;
+use rounds::{TablePlace, TableTurn};
 use std::alloc::{AllocError, Global};
 use std::marker::Model;
 use tspkt::{Packet, Stamped, null, rewrite};
@@ -42,9 +46,10 @@ pub struct Mux {
     taken: Vec<Stamped>,
     inputs: Vec<InputState>,
     queues: Vec<PidQueue>,
-    emitted: Vec<Packet>,
+    output: Output,
     clock: SlotClock,
-    elementary: u64,
+    turn: TableTurn,
+    counts: Counts,
 }
 
 impl Model for Mux {
@@ -57,13 +62,13 @@ impl Model for Mux {
 
     ghost view = { λ m. record {
       run = record { plan = m.plan; limit = m.limit };
-      events = history_of m.plan.streams (reverse m.stored.items) (reverse m.taken.items);
+      events = history_of m.plan.request.streams (reverse m.stored.items) (reverse m.taken.items);
     } };
 
     ghost invariant = { λ m. IsKept
         (record { plan = m.plan; limit = m.limit })
-        (history_of m.plan.streams (reverse m.stored.items) (reverse m.taken.items))
-        m.inputs.items m.queues.items m.clock m.emitted.items m.elementary };
+        (history_of m.plan.request.streams (reverse m.stored.items) (reverse m.taken.items))
+        m.inputs.items m.queues.items m.clock m.turn m.output m.counts };
 }
 
 /// What is kept of so many inputs before the first packet.
@@ -89,6 +94,8 @@ fn new_queues(
     streams: &[Stream],
     capacity: usize,
 ) -> Result<Vec<PidQueue>, AllocError>
+    requires from { 1 ≤ capacity }
+    requires to { capacity ≤ 1024 }
     ensures { IfOk result (λ v. v.items ≡ map (queue_of capacity []) streams.now) }
 {
     let mut queues = Vec::new(alloc);
@@ -104,9 +111,12 @@ impl Mux {
         requires { slots ≤ MAX_SLOTS }
         ensures { IfOk result (λ m. m ≡ opened plan slots) }
     {
+        let _ = plan.request().rate();
+        let _ = plan.rounds().rate();
         let clock = SlotClock::new(plan.rate());
+        let turn = TableTurn::new(plan.rounds());
         let inputs = new_states(alloc, plan.inputs().len())?;
-        let queues = new_queues(alloc, plan.streams(), plan.queue_capacity())?;
+        let queues = new_queues(alloc, plan.streams(), plan.request().queue())?;
         Ok(Mux {
             plan,
             limit: slots,
@@ -114,9 +124,14 @@ impl Mux {
             taken: Vec::new(alloc),
             inputs,
             queues,
-            emitted: Vec::new(alloc),
+            output: Output::new(alloc)?,
             clock,
-            elementary: 0,
+            turn,
+            counts: Counts {
+                tables: 0,
+                elementary: 0,
+                null: 0,
+            },
         })
     }
 
@@ -125,7 +140,7 @@ impl Mux {
         ensures count { result ≡ slots self.now.events }
         ensures sound { IsSound self.now }
     {
-        self.clock.slot()
+        self.output.len() as u64
     }
 
     /// The packet of a slot that was sent.
@@ -133,12 +148,12 @@ impl Mux {
         requires { slot < slots self.now.events }
         ensures { slice_get (emitted self.now.run.plan self.now.events) slot ≡ Some result }
     {
-        self.emitted[slot as usize]
+        self.output.packet(slot)
     }
 
     /// What became of the packets of an input.
     pub fn totals(&self, input: usize) -> Totals
-        requires { input < length self.now.run.plan.inputs }
+        requires { input < length self.now.run.plan.request.inputs }
         ensures { IsTotals self.now.run.plan input self.now.events result }
     {
         let state = self.inputs[input];
@@ -153,16 +168,12 @@ impl Mux {
     pub fn counts(&self) -> Counts
         ensures { IsCounts self.now.events result }
     {
-        Counts {
-            tables: 0,
-            elementary: self.elementary,
-            null: self.clock.slot() - self.elementary,
-        }
+        self.counts
     }
 
     /// What is kept of an input.
     fn state(&self, input: usize) -> InputState
-        requires { input < length self.now.run.plan.inputs }
+        requires { input < length self.now.run.plan.request.inputs }
         ensures { result ≡ state_of self.now.events input }
     {
         self.inputs[input]
@@ -170,28 +181,31 @@ impl Mux {
 
     /// The stream that the plan maps a packet to, with its place.
     fn find(&self, input: usize, item: &Stamped) -> Option<(usize, Stream)>
-        ensures found { IfSome result (λ x. (slice_get self.now.run.plan.streams x.0 ≡ Some x.1)
+        ensures found { IfSome result (λ x. (slice_get self.now.run.plan.request.streams x.0 ≡ Some x.1)
             × (is_mapped_to x.1 input item.now ≡ true)) }
         ensures none { IfNone result (is_mapped self.now.run.plan input item.now ≡ false) }
         ensures packet { IsPacket item.now.packet }
-        ensures plan { IsPlan self.now.run.plan }
+        ensures plan { IsMultiplexPlan self.now.run.plan }
     {
         let _ = item.packet.bytes();
-        self.plan.find(input, item.packet.pid())
+        match self.plan.lookup(input, item.packet.pid()) {
+            None => None,
+            Some(found) => Some((found.number, self.plan.streams()[found.number])),
+        }
     }
 
     /// Whether the queue of a stream is full.
     fn is_full(&self, place: usize, stream: Stream) -> bool
-        requires { slice_get self.now.run.plan.streams place ≡ Some stream }
+        requires { slice_get self.now.run.plan.request.streams place ≡ Some stream }
         ensures { result
-            ≡ (length (queue stream self.now.events) == self.now.run.plan.queue_capacity) }
+            ≡ (length (queue stream self.now.events) == self.now.run.plan.request.queue) }
     {
         self.queues[place].is_full()
     }
 
     /// Notes that the queue of a stream is full.
     fn note_full(&mut self, place: usize, stream: Stream) -> Result<(), AllocError>
-        requires place { slice_get self.old.run.plan.streams place ≡ Some stream }
+        requires place { slice_get self.old.run.plan.request.streams place ≡ Some stream }
         requires may { MayNoteFull self.old.run.plan self.old.events stream.input stream }
         ensures ok { OnOk result (self.new ≡ with_event self.old (Event.Full stream.input stream)) }
         ensures err { OnErr result (self.new ≡ self.old) }
@@ -203,7 +217,7 @@ impl Mux {
 
     /// Takes a packet of a stream.
     fn add(&mut self, place: usize, stream: Stream, item: &Stamped) -> Result<(), AllocError>
-        requires place { slice_get self.old.run.plan.streams place ≡ Some stream }
+        requires place { slice_get self.old.run.plan.request.streams place ≡ Some stream }
         requires mapped { is_mapped_to stream stream.input item.now ≡ true }
         requires may { MayTake self.old.run.plan self.old.events stream.input item.now }
         ensures ok { OnOk result
@@ -216,7 +230,7 @@ impl Mux {
         let state = &mut self.inputs[stream.input];
         state.last_stamp = item.stamp;
         state.taken += 1;
-        self.queues[place].push_back(*item);
+        let _ = self.queues[place].offer(*item);
         Ok(())
     }
 
@@ -225,7 +239,7 @@ impl Mux {
     /// is the first reason against it that applies, with the packet. Where the event that is due finds no memory it is
     /// `Memory`, and nothing changed. The first `Full` of an input since the last slot adds an event.
     pub fn take(&mut self, input: usize, item: Stamped) -> Taken
-        requires { input < length self.old.run.plan.inputs }
+        requires { input < length self.old.run.plan.request.inputs }
         ensures answer { TakeAnswers self.old input item result self.new }
         ensures run { self.new.run ≡ self.old.run }
     {
@@ -256,7 +270,7 @@ impl Mux {
 
     /// Closes an input. A second close changes nothing.
     pub fn close(&mut self, input: usize) -> Result<(), AllocError>
-        requires { input < length self.old.run.plan.inputs }
+        requires { input < length self.old.run.plan.request.inputs }
         ensures first { is_closed input self.old.events ≡ false
             → OnOk result (self.new ≡ with_event self.old (Event.Close input)) }
         ensures again { is_closed input self.old.events ≡ true
@@ -303,15 +317,55 @@ impl Mux {
         first_unready(self.inputs.as_slice(), now)
     }
 
-    /// The stream that the next slot carries, or none where it carries null.
+    /// The stream that the next slot carries, which has no table, or none where it carries null.
     fn next(&self, now: u64) -> Option<Candidate>
-        requires { now ≡ slot_time self.now.run.plan (slots self.now.events) }
+        requires now { now ≡ slot_time self.now.run.plan (slots self.now.events) }
+        requires no_table { table_at self.now.run.plan.rounds (slots self.now.events) ≡ None }
         ensures none { IfNone result (IsContent self.now.run.plan self.now.events Content.Null) }
         ensures some { IfSome result (λ c.
-            (slice_get self.now.run.plan.streams c.place ≡ Some c.stream)
+            (slice_get self.now.run.plan.request.streams c.place ≡ Some c.stream)
             × IsContent self.now.run.plan self.now.events (Content.Elementary c.stream)) }
     {
         choose(self.plan.streams(), self.queues.as_slice(), now)
+    }
+
+    /// The table packet whose turn it is in the next slot, or none where that has no table.
+    fn table_due(&self) -> Option<TablePlace>
+        ensures { result ≡ table_at self.now.run.plan.rounds (slots self.now.events) }
+    {
+        self.turn.next()
+    }
+
+    /// A table packet with the counter that comes next on its PID.
+    fn table_packet(&self, place: TablePlace) -> Packet
+        requires { IsPlace self.now.run.plan.rounds place }
+        ensures { result ≡ counted_behind (emitted self.now.run.plan self.now.events)
+            (table_packet_at self.now.run.plan.tables place) }
+    {
+        let packet = match place {
+            TablePlace::Fast(k) => self.plan.fast_packets()[k],
+            TablePlace::Slow(k) => self.plan.slow_packets()[k],
+        };
+        packet.with_counter(self.output.counter(packet.pid()))
+    }
+
+    /// Sends the table packet whose turn it is.
+    fn send_table(&mut self, place: TablePlace) -> Result<Packet, AllocError>
+        requires due { table_at self.old.run.plan.rounds (slots self.old.events) ≡ Some place }
+        requires within { slots self.old.events < self.old.run.limit }
+        requires may { MaySend self.old.run.plan self.old.events (Content.Table place) }
+        ensures ok { IfOk result (Sends self.old (Content.Table place) self.new) }
+        ensures err { OnErr result (self.new ≡ self.old) }
+    {
+        self.stored.reserve(1)?;
+        let packet = self.table_packet(place);
+        self.output.push(packet)?;
+        self.stored.push_reserved(StoredEvent::table(place));
+        clear_full(&mut self.inputs);
+        self.clock.advance();
+        self.turn.advance();
+        self.counts.tables += 1;
+        Ok(packet)
     }
 
     /// Sends a null packet.
@@ -323,41 +377,44 @@ impl Mux {
     {
         self.stored.reserve(1)?;
         let packet = null();
-        self.emitted.push(packet)?;
+        self.output.push(packet)?;
         self.stored.push_reserved(StoredEvent::Null);
         clear_full(&mut self.inputs);
         self.clock.advance();
+        self.turn.advance();
+        self.counts.null += 1;
         Ok(packet)
     }
 
     /// Sends the head of a stream's queue.
     fn send_head(&mut self, place: usize, stream: Stream, now: u64) -> Result<Packet, AllocError>
         requires now { now ≡ slot_time self.old.run.plan (slots self.old.events) }
-        requires place { slice_get self.old.run.plan.streams place ≡ Some stream }
+        requires place { slice_get self.old.run.plan.request.streams place ≡ Some stream }
         requires within { slots self.old.events < self.old.run.limit }
         requires may { MaySend self.old.run.plan self.old.events (Content.Elementary stream) }
         ensures ok { IfOk result (Sends self.old (Content.Elementary stream) self.new) }
         ensures err { OnErr result (self.new ≡ self.old) }
     {
         self.stored.reserve(1)?;
-        self.emitted.reserve(1)?;
-        let item = self.queues[place].pop_front().unwrap();
+        let item = *self.queues[place].head().unwrap();
         let packet = rewrite(&item.packet, stream.output_pid, now - item.stamp);
-        self.emitted.push_reserved(packet);
+        self.output.push(packet)?;
+        let _ = self.queues[place].take();
         self.stored
             .push_reserved(StoredEvent::Elementary(place as u8));
         clear_full(&mut self.inputs);
         self.inputs[stream.input].sent += 1;
         self.clock.advance();
-        self.elementary += 1;
+        self.turn.advance();
+        self.counts.elementary += 1;
         Ok(packet)
     }
 
     /// Sends the next slot, where the run isn't done, has slots left, and each input is ready; in this order.
     ///
     /// An input is ready where it is closed, or its packet last taken comes after the slot, or a full queue of it was
-    /// noted since the last slot. The slot carries the packet that is due and has the least time, of equal times that
-    /// with the least output PID, or a null packet where none is due.
+    /// noted since the last slot. A table slot carries its table packet. Each other slot carries the packet that is due and
+    /// has the least time, of equal times that with the least output PID, or a null packet where none is due.
     pub fn slot(&mut self) -> Slot
         ensures answer { SlotAnswers self.old result self.new }
         ensures run { self.new.run ≡ self.old.run }
@@ -372,9 +429,12 @@ impl Mux {
         if let Some(input) = self.unready(now) {
             return Slot::NotReady(input);
         }
-        let sent = match self.next(now) {
-            None => self.send_null(),
-            Some(best) => self.send_head(best.place, best.stream, now),
+        let sent = match self.table_due() {
+            Some(place) => self.send_table(place),
+            None => match self.next(now) {
+                None => self.send_null(),
+                Some(best) => self.send_head(best.place, best.stream, now),
+            },
         };
         match sent {
             Ok(packet) => Slot::Sent(packet),

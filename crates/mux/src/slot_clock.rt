@@ -5,7 +5,7 @@ ghost use Rattle.tspkt.specs.Stamps.{time_of};
 ghost use Rattle.mux.specs.SlotClock.{clock_at, advanced};
 
 use crate::mux::MAX_SLOTS;
-use crate::plan::MAX_RATE;
+use request::MAX_RATE;
 use std::marker::Model;
 
 /// The time of a slot, and the step to the next: whole ticks of 27 MHz, and what is left over by rounding down, in

@@ -2,13 +2,16 @@
 
 ghost use Rattle.std.specs.Prelude.{◌<◌, length};
 
+use crate::example;
 use anyhow::{Result, bail};
-use mux::{Input, MAX_SLOTS, Mux, Plan, Slot, Stream, Taken};
+use mux::{MAX_SLOTS, Mux, Slot, Taken};
 use std::alloc::{AllocError, Global};
 use tspkt::{Item, Packet, Stamped, frame, time};
 
-/// The rate of the input and of the multiplex, in bits a second: a packet each 27,000 ticks of 27 MHz.
+/// The rate of the input, in bits a second.
 const RATE: u64 = 1_504_000;
+/// How many slots are sent.
+const SLOTS: usize = 2;
 
 /// Five packets of PID 0x0101 with counters from 0, each of 184 bytes 0xAA.
 fn five_packets(alloc: Global) -> Result<Vec<u8>, AllocError> {
@@ -22,7 +25,7 @@ fn five_packets(alloc: Global) -> Result<Vec<u8>, AllocError> {
 
 /// Takes the packets of an input, each stamped with the time of its byte 10.
 fn take_all(alloc: Global, mux: &mut Mux, input: usize, bytes: Vec<u8>) -> Result<()>
-    requires { input < length mux.old.run.plan.inputs }
+    requires { input < length mux.old.run.plan.request.inputs }
 {
     let pieces = vec![in alloc; bytes]?;
     for item in &frame(alloc, &pieces)? {
@@ -40,22 +43,17 @@ fn take_all(alloc: Global, mux: &mut Mux, input: usize, bytes: Vec<u8>) -> Resul
     Ok(())
 }
 
-/// The packet of the first slot.
-pub fn first_slot(alloc: Global) -> Result<Packet> {
-    let input = Input {
-        rate: RATE,
-        offset: 0,
-    };
-    let stream = Stream {
-        input: 0,
-        pid: 0x0101,
-        output_pid: 0x0200,
-    };
-    let plan = Plan::thin(alloc, RATE, &[input], &[stream], 64)?;
-    let mut mux = Mux::open(alloc, plan, MAX_SLOTS)?;
+/// The packets of the first slots.
+pub fn first_slots(alloc: Global) -> Result<Vec<Packet>> {
+    let plan = example::plan(alloc, example::PLAN, &example::tables(alloc)?)?;
+    let mut mux = example::open(alloc, plan, 1, MAX_SLOTS)?;
     take_all(alloc, &mut mux, 0, five_packets(alloc)?)?;
-    match mux.slot() {
-        Slot::Sent(packet) => Ok(packet),
-        _ => bail!("no slot was sent"),
+    let mut packets = Vec::new(alloc);
+    for _ in 0..SLOTS {
+        let Slot::Sent(packet) = mux.slot() else {
+            bail!("no slot was sent");
+        };
+        packets.push(packet)?;
     }
+    Ok(packets)
 }

@@ -3,54 +3,49 @@ use Rattle.std.specs.List.{slice_get}
 use Rattle.std.proofs.lemmas.Option.{slice_get_within}
 use Rattle.tspkt.specs.declared.stamped.Stamped.{Stamped}
 use Rattle.mux.specs.declared.input_state.InputState.{InputState}
-use Rattle.mux.specs.QueueValue.{QueueValue}
+use Rattle.buffers.specs.QueueValue.{QueueValue}
 use Rattle.mux.specs.History.{History}
 use Rattle.mux.specs.Lawful.{MayTake}
 use Rattle.mux.proofs.Refusals.{taken_at}
 use Rattle.mux.proofs.Queues.{has_room}
 use Rattle.mux.proofs.Stored.{with_took, taken_within}
 use Rattle.mux.proofs.Steps.{length_states, length_queues, state_at, queue_at, taking}
+use Rattle.mux.proofs.Lists.{on_ok}
 use Rattle.mux.proofs.mux.Mux.add.Goals as goal
 
 pub index_mut-state-requires : goal.index_mut-state-requires
 index_mut-state-requires c =
     let n = length_states c.self.invariant.agrees in
-    let v = ap (λ (h : History). length h.run.plan.inputs) c.self.view_is in
+    let v = ap (λ (h : History). length h.run.plan.request.inputs) c.self.view_is in
     let l = c.requires.may.input in
     omega (arith, c.self.inside.inputs.ok.0)
 
 pub overflow_add-state : goal.overflow_add-state
 overflow_add-state c =
-    let v = ap (λ (h : History). length h.run.plan.inputs) c.self.view_is in
+    let v = ap (λ (h : History). length h.run.plan.request.inputs) c.self.view_is in
     let l = c.requires.may.input in
     let is = state_at c.self.invariant.agrees c.args.stream.input c.index_mut-state.result.now (omega arith) c.index_mut-state.ensures.value in
     let m = ap (λ (x : InputState). x.taken) is in
-    omega (arith, taken_within c.self.inside.plan.streams c.self.inside.stored.items c.self.inside.taken.items c.args.stream.input, c.self.inside.taken.ok.0)
+    omega (arith, taken_within c.self.inside.plan.request.streams c.self.inside.stored.items c.self.inside.taken.items c.args.stream.input, c.self.inside.taken.ok.0)
 
 pub index_mut-requires : goal.index_mut-requires
 index_mut-requires c =
     let n = length_queues c.self.invariant.agrees in
-    let at : slice_get c.self.inside.plan.streams c.args.place ≡ Some c.args.stream = ap (λ (h : History). slice_get h.run.plan.streams c.args.place) c.self.view_is ∙ c.requires.place in
-    let l = slice_get_within c.self.inside.plan.streams c.args.place c.args.stream at in
+    let at : slice_get c.self.inside.plan.request.streams c.args.place ≡ Some c.args.stream = ap (λ (h : History). slice_get h.run.plan.request.streams c.args.place) c.self.view_is ∙ c.requires.place in
+    let l = slice_get_within c.self.inside.plan.request.streams c.args.place c.args.stream at in
     omega (arith, c.self.inside.queues.ok.0)
-
-pub push_back-requires : goal.push_back-requires
-push_back-requires c =
-    let at : slice_get c.self.inside.plan.streams c.args.place ≡ Some c.args.stream = ap (λ (h : History). slice_get h.run.plan.streams c.args.place) c.self.view_is ∙ c.requires.place in
-    let P : QueueValue → Type 0 = λ x. length x.items < x.capacity in
-    let R : History → Type 0 = λ h. MayTake h.run.plan h.events c.args.stream.input c.args.item.now in
-    let k = c.self.invariant.agrees in
-    let q = queue_at k c.args.place c.args.stream c.index_mut.result.now at c.index_mut.ensures.value in
-    let taker = taken_at c.self.inside.plan _ c.args.stream.input c.args.item.now c.args.place c.args.stream (subst R (sym c.self.view_is) c.requires.may) at c.requires.mapped in
-    subst P (sym q) (has_room c.self.inside.plan _ c.args.stream.input c.args.item.now c.args.stream k.plan k.lawful taker)
 
 pub invariant_of-self-2 : goal.invariant_of-self-2
 invariant_of-self-2 c =
-    let at : slice_get c.self.inside.plan.streams c.args.place ≡ Some c.args.stream = ap (λ (h : History). slice_get h.run.plan.streams c.args.place) c.self.view_is ∙ c.requires.place in
+    let at : slice_get c.self.inside.plan.request.streams c.args.place ≡ Some c.args.stream = ap (λ (h : History). slice_get h.run.plan.request.streams c.args.place) c.self.view_is ∙ c.requires.place in
     let R : History → Type 0 = λ h. MayTake h.run.plan h.events c.args.stream.input c.args.item.now in
     let may = subst R (sym c.self.view_is) c.requires.may in
     let taker = taken_at c.self.inside.plan _ c.args.stream.input c.args.item.now c.args.place c.args.stream may at c.requires.mapped in
-    let e = with_took c.self.inside.plan.streams c.self.inside.stored.items _ c.self.inside.taken.items _ c.args.stream.input c.args.item.now c.in_ok-push.ensures.items
+    let e = with_took c.self.inside.plan.request.streams c.self.inside.stored.items _ c.self.inside.taken.items _ c.args.stream.input c.args.item.now c.in_ok-push.ensures.items
     (c.push_reserved.ensures.items ∙ ap (λ (xs : List Stamped). xs ++ c.args.item.now ∷ []) c.in_ok-reserve.ensures.items) in
-    taking c.self.invariant _ c.args.stream.input c.args.item.now c.args.place c.args.stream c.index_mut-state.result.now c.index_mut.result.now c.push_back.new.self e
-    c.index_mut-state.ensures.value at c.index_mut.ensures.value c.push_back.ensures may taker
+    let P : QueueValue → Type 0 = λ x. length x.items < x.capacity in
+    let k = c.self.invariant.agrees in
+    let q = queue_at k c.args.place c.args.stream c.index_mut.result.now at c.index_mut.ensures.value in
+    let room = subst P (sym q) (has_room c.self.inside.plan _ c.args.stream.input c.args.item.now c.args.stream k.plan k.lawful taker) in
+    taking c.self.invariant _ c.args.stream.input c.args.item.now c.args.place c.args.stream c.index_mut-state.result.now c.index_mut.result.now c.offer.new.self e
+    c.index_mut-state.ensures.value at c.index_mut.ensures.value (on_ok c.offer.result c.offer.ensures.ok (c.offer.ensures.accepted.1 room)) may taker

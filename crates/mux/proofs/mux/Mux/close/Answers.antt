@@ -9,41 +9,41 @@ use Rattle.mux.proofs.mux.Mux.close.Goals as goal
 pub index-requires : goal.index-requires
 index-requires c =
     let n = length_states c.self.invariant.agrees in
-    let v = ap (λ (h : History). length h.run.plan.inputs) c.self.view_is in
+    let v = ap (λ (h : History). length h.run.plan.request.inputs) c.self.view_is in
     omega (arith, c.self.inside.inputs.ok.0)
 
 pub index_mut-requires : goal.index_mut-requires
 index_mut-requires c =
     let n = length_states c.self.invariant.agrees in
-    let v = ap (λ (h : History). length h.run.plan.inputs) c.self.view_is in
+    let v = ap (λ (h : History). length h.run.plan.request.inputs) c.self.view_is in
     omega (arith, c.self.inside.inputs.ok.0)
 
 pub invariant_of-self-then-not-index : goal.invariant_of-self-then-not-index
 invariant_of-self-then-not-index c =
-    let v = ap (λ (h : History). length h.run.plan.inputs) c.self.view_is in
-    let l : c.args.input < length c.self.inside.plan.inputs = omega arith in
+    let v = ap (λ (h : History). length h.run.plan.request.inputs) c.self.view_is in
+    let l : c.args.input < length c.self.inside.plan.request.inputs = omega arith in
     let k = c.self.invariant.agrees in
     let same = state_at k c.args.input c.index_mut.result.now l c.index_mut.ensures.value ∙ sym (state_at k c.args.input c.index.result.now l c.index.ensures) in
-    closing c.self.invariant _ c.args.input c.index_mut.result.now (with_close c.self.inside.plan.streams _ _ _ c.args.input c.in_ok-push.ensures.items) l c.index_mut.ensures.value
+    closing c.self.invariant _ c.args.input c.index_mut.result.now (with_close c.self.inside.plan.request.streams _ _ _ c.args.input c.in_ok-push.ensures.items) l c.index_mut.ensures.value
     (ap (λ (x : InputState). x.closed) same ∙ c.if-not-index.true)
 
 pub returns-in_ok-push-clause-again : goal.returns-in_ok-push-clause-again
 returns-in_ok-push-clause-again c closed =
-    let v = ap (λ (h : History). length h.run.plan.inputs) c.self.view_is in
+    let v = ap (λ (h : History). length h.run.plan.request.inputs) c.self.view_is in
     let w = ap (λ (h : History). is_closed c.args.input h.events) c.self.view_is in
     let is = state_at c.self.invariant.agrees c.args.input c.index.result.now (omega arith) c.index.ensures in
     absurd (false≢true (sym c.if-not-index.true ∙ ap (λ (x : InputState). x.closed) is ∙ w ∙ closed))
 
 pub returns-in_err-push-clause-again : goal.returns-in_err-push-clause-again
 returns-in_err-push-clause-again c closed =
-    let v = ap (λ (h : History). length h.run.plan.inputs) c.self.view_is in
+    let v = ap (λ (h : History). length h.run.plan.request.inputs) c.self.view_is in
     let w = ap (λ (h : History). is_closed c.args.input h.events) c.self.view_is in
     let is = state_at c.self.invariant.agrees c.args.input c.index.result.now (omega arith) c.index.ensures in
     absurd (false≢true (sym c.if-not-index.true ∙ ap (λ (x : InputState). x.closed) is ∙ w ∙ closed))
 
 pub returns-else-not-index-clause-first : goal.returns-else-not-index-clause-first
 returns-else-not-index-clause-first c open_ =
-    let v = ap (λ (h : History). length h.run.plan.inputs) c.self.view_is in
+    let v = ap (λ (h : History). length h.run.plan.request.inputs) c.self.view_is in
     let w = ap (λ (h : History). is_closed c.args.input h.events) c.self.view_is in
     let is = state_at c.self.invariant.agrees c.args.input c.index.result.now (omega arith) c.index.ensures in
     absurd (false≢true (sym open_ ∙ sym w ∙ sym (ap (λ (x : InputState). x.closed) is) ∙ c.if-not-index.false))

@@ -2,7 +2,7 @@ use Rattle.std.proofs.Common.{◌≡◌, sym, ◌∙◌, subst, List, [], All}
 use Rattle.std.specs.Prelude.{IsTrue}
 use Rattle.std.proofs.lemmas.Bool.{false≢true}
 use Rattle.mux.specs.declared.input_state.InputState.{InputState}
-use Rattle.mux.specs.QueueValue.{QueueValue}
+use Rattle.buffers.specs.QueueValue.{QueueValue}
 use Rattle.mux.specs.History.{History}
 use Rattle.mux.specs.Lawful.{IsDone}
 use Rattle.mux.proofs.Readiness.{done_from, closed_from, empty_from}

@@ -12,13 +12,13 @@ use Rattle.mux.proofs.mux.Mux.note_full.Goals as goal
 pub index_mut-requires : goal.index_mut-requires
 index_mut-requires c =
     let n = length_states c.self.invariant.agrees in
-    let at : slice_get c.self.inside.plan.streams c.args.place ≡ Some c.args.stream = ap (λ (h : History). slice_get h.run.plan.streams c.args.place) c.self.view_is ∙ c.requires.place in
+    let at : slice_get c.self.inside.plan.request.streams c.args.place ≡ Some c.args.stream = ap (λ (h : History). slice_get h.run.plan.request.streams c.args.place) c.self.view_is ∙ c.requires.place in
     let l = (stream_in c.self.inside.plan c.args.place c.args.stream c.self.invariant.agrees.plan at).input in
     omega (arith, c.self.inside.inputs.ok.0)
 
 pub invariant_of-self-2 : goal.invariant_of-self-2
 invariant_of-self-2 c =
-    let at : slice_get c.self.inside.plan.streams c.args.place ≡ Some c.args.stream = ap (λ (h : History). slice_get h.run.plan.streams c.args.place) c.self.view_is ∙ c.requires.place in
+    let at : slice_get c.self.inside.plan.request.streams c.args.place ≡ Some c.args.stream = ap (λ (h : History). slice_get h.run.plan.request.streams c.args.place) c.self.view_is ∙ c.requires.place in
     let l = (stream_in c.self.inside.plan c.args.place c.args.stream c.self.invariant.agrees.plan at).input in
     let P : History → Type 0 = λ h. MayNoteFull h.run.plan h.events c.args.stream.input c.args.stream in
     noting c.self.invariant _ c.args.stream.input c.args.stream c.index_mut.result.now
@@ -27,7 +27,7 @@ invariant_of-self-2 c =
 
 pub returns-clause-ok : goal.returns-clause-ok
 returns-clause-ok c =
-    let at : slice_get c.self.inside.plan.streams c.args.place ≡ Some c.args.stream = ap (λ (h : History). slice_get h.run.plan.streams c.args.place) c.self.view_is ∙ c.requires.place in
+    let at : slice_get c.self.inside.plan.request.streams c.args.place ≡ Some c.args.stream = ap (λ (h : History). slice_get h.run.plan.request.streams c.args.place) c.self.view_is ∙ c.requires.place in
     let opened : List Event → History = λ es. record { run = record { plan = c.self.inside.plan; limit = c.self.inside.limit }; events = es } in
     ap opened (with_full c.self.inside.plan _ _ _ c.args.place c.args.stream at c.in_ok-push.ensures.items)
     ∙ ap (λ (h : History). with_event h (Full c.args.stream.input c.args.stream)) c.self.view_is

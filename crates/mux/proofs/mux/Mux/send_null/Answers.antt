@@ -1,18 +1,31 @@
-use Rattle.std.proofs.Common.{sym, ap, ◌∙◌, subst, ◌++◌, ◌∷◌, [], List, ◌<◌}
+use Rattle.std.proofs.Common.{sym, ap, ◌∙◌, subst, ◌++◌, ◌∷◌, [], List, ◌<◌, arith, reverse}
 use Rattle.mux.specs.declared.content.Content.TheVariants.{Null}
 use Rattle.mux.specs.declared.stored_event.StoredEvent.{StoredEvent}
 use Rattle.mux.specs.declared.stored_event.StoredEvent.TheVariants as stored
 use Rattle.mux.specs.History.{History, slots}
+use Rattle.mux.specs.Stored.{history_of}
+use Rattle.mux.specs.declared.counts.Counts.{Counts}
+use Rattle.mux.specs.Totals.{is_null}
+use Rattle.mux.proofs.Counting.{count_within}
 use Rattle.mux.specs.Lawful.{MaySend}
 use Rattle.mux.proofs.Stored.{with_null}
 use Rattle.mux.proofs.Steps.{sending_null}
 use Rattle.mux.proofs.mux.Mux.send_null.Goals as goal
 
+pub overflow_add-self : goal.overflow_add-self
+overflow_add-self c =
+    let k = c.self.invariant.agrees in
+    let h = history_of c.self.inside.plan.request.streams (reverse c.self.inside.stored.items) (reverse c.self.inside.taken.items) in
+    let n = ap (λ (x : Counts). x.null) c.self.invariant.counts_are in
+    let within = k.within in
+    let limit = k.limit in
+    omega (arith, count_within is_null h)
+
 pub invariant_of-self-2 : goal.invariant_of-self-2
 invariant_of-self-2 c =
     let R : History → Type 0 = λ h. MaySend h.run.plan h.events Null in
     let S : History → Type 0 = λ h. slots h.events < h.run.limit in
-    let e = with_null c.self.inside.plan.streams c.self.inside.stored.items _ _ (c.push_reserved.ensures.items ∙ ap (λ (es : List StoredEvent). es ++ stored.Null ∷ []) c.in_ok-reserve.ensures.items) in
-    sending_null c.self.invariant _ _ _ _ e c.clear_full.ensures c.advance.ensures
-    (c.in_ok-push.ensures.items ∙ ap (λ p. c.self.inside.emitted.items ++ p ∷ []) c.null-packet.ensures)
+    let e = with_null c.self.inside.plan.request.streams c.self.inside.stored.items _ _ (c.push_reserved.ensures.items ∙ ap (λ (es : List StoredEvent). es ++ stored.Null ∷ []) c.in_ok-reserve.ensures.items) in
+    sending_null c.self.invariant _ _ _ _ _ e c.clear_full.ensures c.advance.ensures c.advance-2.ensures
+    (c.in_ok-push.ensures.ok ∙ ap (λ p. c.self.inside.output ++ p ∷ []) c.null-packet.ensures)
     (subst S (sym c.self.view_is) c.requires.within) (subst R (sym c.self.view_is) c.requires.may)
