@@ -158,12 +158,12 @@ basics_of p chosen ok is =
       sdt_pids = zip_left IsSdtFor (λ s. s.pid ≡ 0x0011) (λ v. Unit {0}) p.tables.sdt (output_sdt r chosen) (λ s v f q. f.on_pid) t.sdt (all_of (output_sdt r chosen));
       nit_pid = t.nit.on_pid;
       sdt_some = let n = zip_length IsSdtFor p.tables.sdt (output_sdt r chosen) t.sdt in let some = some_sections r chosen (omega arith) in omega arith;
-      pat = record { on_pid = omega (arith, t.pat.on_pid); some = omega (arith, t.pat.whole); whole = pat_length _ _ t.pat.says };
+      pat = record { on_pid = omega (arith, t.pat.on_pid); some = omega (arith, t.pat.whole); whole = pat_length _ _ t.pat.says.value };
       pmts = zip_left (IsPmtFor r) IsFitSection (λ (c : ChosenValue). IsService (length r.inputs) (length r.streams) c.service) p.tables.pmts chosen
-          (λ s c f q. record { on_pid = omega (arith, f.on_pid, q.pmt); some = omega (arith, f.whole); whole = pmt_length _ _ f.says }) t.pmts (are_services r chosen ok is.services);
+          (λ s c f q. record { on_pid = omega (arith, f.on_pid, q.pmt); some = omega (arith, f.whole); whole = pmt_length _ _ f.says.value }) t.pmts (are_services r chosen ok is.services);
       sdt = zip_left IsSdtFor IsFitSection (λ v. Unit {0}) p.tables.sdt (output_sdt r chosen)
-          (λ s v f q. record { on_pid = omega (arith, f.on_pid); some = omega (arith, f.whole); whole = sdt_length _ _ f.says }) t.sdt (all_of (output_sdt r chosen));
-      nit = record { on_pid = omega (arith, t.nit.on_pid); some = omega (arith, t.nit.whole); whole = nit_length _ _ t.nit.says };
+          (λ s v f q. record { on_pid = omega (arith, f.on_pid); some = omega (arith, f.whole); whole = sdt_length _ _ f.says.value }) t.sdt (all_of (output_sdt r chosen));
+      nit = record { on_pid = omega (arith, t.nit.on_pid); some = omega (arith, t.nit.whole); whole = nit_length _ _ t.nit.says.value };
       fast_bytes = λ i d l. (t.fast_whole i d l).bytes;
       slow_bytes = λ i d l. (t.slow_whole i d l).bytes;
     }

@@ -3,10 +3,10 @@ use Rattle.std.specs.Prelude.{◌≡◌, ℕ, ◌+◌, ◌*◌, List, [], ◌∷
 use Rattle.std.specs.List.{All, flat_map, AllZip}
 use Rattle.tspkt.specs.Packet.{IsPacket}
 use Rattle.section.specs.Crc.{crc_of}
-use Rattle.tables.specs.Pat.{PatValue, pat_of}
-use Rattle.tables.specs.Pmt.{PmtValue, pmt_of, pmt_section_length_of}
-use Rattle.tables.specs.Sdt.{SdtValue, sdt_of, sdt_section_length_of}
-use Rattle.tables.specs.Nit.{NitValue, nit_of, nit_section_length_of}
+use Rattle.tables.specs.Pat.{PatValue, pat_of, HasReservedPatBits}
+use Rattle.tables.specs.Pmt.{PmtValue, pmt_of, pmt_section_length_of, HasReservedPmtBits}
+use Rattle.tables.specs.Sdt.{SdtValue, sdt_of, sdt_section_length_of, HasReservedSdtBits}
+use Rattle.tables.specs.Nit.{NitValue, nit_of, nit_section_length_of, HasReservedNitBits}
 use Rattle.request.specs.Request.{RequestValue}
 use Rattle.selection.specs.Chosen.{ChosenValue}
 use Rattle.output_tables.specs.Output.{output_pat, output_pmt, output_sdt, output_nit, fast_count, slow_count}
@@ -26,19 +26,24 @@ fast_packets t = flat_map packets_on_pid (t.pat ∷ t.pmts)
 abbrev pub slow_packets : TableSetValue → List (List ℕ)
 slow_packets t = flat_map packets_on_pid (t.sdt ++ t.nit ∷ [])
 
-abbrev pub IsPatSection : List ℕ → PatValue → Type 0
-IsPatSection bytes v = pat_of bytes ≡ Ok v
+-- a section that a table's read makes the value of, and that has its reserved bits as they are written
+pub record IsPatSection (bytes : List ℕ) (v : PatValue) : Type 0 where
+  pub value : pat_of bytes ≡ Ok v
+  pub reserved : HasReservedPatBits (length v.rows) bytes
 
-abbrev pub IsPmtSection : List ℕ → PmtValue → Type 0
-IsPmtSection bytes v = pmt_of bytes ≡ Ok v
+pub record IsPmtSection (bytes : List ℕ) (v : PmtValue) : Type 0 where
+  pub value : pmt_of bytes ≡ Ok v
+  pub reserved : HasReservedPmtBits bytes
 
-abbrev pub IsSdtSection : List ℕ → SdtValue → Type 0
-IsSdtSection bytes v = sdt_of bytes ≡ Ok v
+pub record IsSdtSection (bytes : List ℕ) (v : SdtValue) : Type 0 where
+  pub value : sdt_of bytes ≡ Ok v
+  pub reserved : HasReservedSdtBits bytes
 
-abbrev pub IsNitSection : List ℕ → NitValue → Type 0
-IsNitSection bytes v = nit_of bytes ≡ Ok v
+pub record IsNitSection (bytes : List ℕ) (v : NitValue) : Type 0 where
+  pub value : nit_of bytes ≡ Ok v
+  pub reserved : HasReservedNitBits bytes
 
--- a section on this PID and of this section_length, which a table's read makes the value of, and its register is 0
+-- a section on this PID and of this section_length, which says the value, and its register is 0
 pub record IsSectionFor {V : Type 0} (Says : List ℕ → V → Type 0) (pid section_length : ℕ) (v : V) (s : SectionOnPid) : Type 0 where
   pub on_pid : s.pid ≡ pid
   pub says : Says s.bytes v

@@ -1,4 +1,5 @@
 pub mod PlanFault
+pub mod Limits
 pub mod Parts
 pub mod Text
 pub mod TextView

@@ -3,7 +3,7 @@
 use Rattle.std.specs.Prelude.{ℕ, ℤ, pos, negsuc, nat_le, nat_lt, Bool, false, ◌&&◌, List, length}
 use Rattle.std.specs.List.{list_all}
 use Rattle.tables.specs.Descriptors.{are_whole}
-use Rattle.request.specs.declared.limits.TheConstants.{MIN_RATE, MAX_RATE, MIN_LEAK, MAX_LEAK, MAX_OFFSET, MAX_SLOTS, MAX_VERSION, MAX_ITEMS, MAX_ID, FIRST_PID, LAST_PID, MAX_INPUTS, MAX_SERVICES, MAX_NAME, FIRST_LETTER, LAST_LETTER, MAX_DESCRIPTORS}
+use Rattle.request.specs.Limits.{MIN_RATE, MAX_RATE, MIN_LEAK, MAX_LEAK, MAX_OFFSET, MAX_SLOTS, MAX_VERSION, MAX_ITEMS, MAX_ID, FIRST_PID, LAST_PID, MAX_INPUTS, MAX_SERVICES, MAX_NAME, FIRST_LETTER, LAST_LETTER, MAX_DESCRIPTORS}
 use Rattle.request.specs.declared.stream_parts.StreamParts.{StreamParts}
 use Rattle.request.specs.Parts.{InputPartsValue, ServicePartsValue, PartsValue}
 

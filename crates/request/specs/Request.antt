@@ -4,7 +4,7 @@ use Rattle.std.specs.Prelude.{◌≡◌, ◌≢◌, ◌≤◌, ◌<◌, ℕ, ℤ
 use Rattle.std.specs.Ordering.{int_eq}
 use Rattle.std.specs.List.{list_any, filter, flat_map, position_or_len}
 use Rattle.tables.specs.Descriptors.{are_whole}
-use Rattle.request.specs.declared.limits.TheConstants.{MIN_RATE, MAX_RATE, MIN_LEAK, MAX_LEAK, MAX_OFFSET, MAX_SLOTS, MAX_VERSION, MAX_ITEMS, MAX_ID, FIRST_PID, LAST_PID, MAX_INPUTS, MAX_SERVICES, MAX_STREAMS, MAX_NAME, FIRST_LETTER, LAST_LETTER, MAX_DESCRIPTORS}
+use Rattle.request.specs.Limits.{MIN_RATE, MAX_RATE, MIN_LEAK, MAX_LEAK, MAX_OFFSET, MAX_SLOTS, MAX_VERSION, MAX_ITEMS, MAX_ID, FIRST_PID, LAST_PID, MAX_INPUTS, MAX_SERVICES, MAX_STREAMS, MAX_NAME, FIRST_LETTER, LAST_LETTER, MAX_DESCRIPTORS}
 use Rattle.request.specs.declared.plan_fault.PlanFault.{PlanFault}
 use Rattle.request.specs.declared.plan_fault.PlanFault.TheVariants.{OutOfRange, ServiceTaken, PidTaken}
 use Rattle.request.specs.declared.stream_parts.StreamParts.{StreamParts}
