@@ -1,6 +1,9 @@
-//! Takes and sends packets of 4 inputs and 16 streams, as many as a run may have slots.
+//! Takes and sends packets of 4 inputs, as many as a run may have slots.
 
-use crate::workload::{INPUT_RATE, INPUTS, STREAMS_AN_INPUT, pids, plan};
+ghost use Rattle.std.specs.Prelude.{◌≤◌};
+ghost use Rattle.bench.specs.declared.workload.TheConstants.{MAX_STREAMS_AN_INPUT};
+
+use crate::workload::{INPUT_RATE, INPUTS, pids, plan};
 use anyhow::Result;
 use mux::{MAX_SLOTS, Mux, Slot, Taken};
 use std::alloc::Global;
@@ -11,11 +14,14 @@ use tspkt::{Packet, Stamped, time};
 /// The last place of an input that is stamped, in bytes.
 const LAST_PLACE: u64 = 3_000_000_000;
 
-/// Prints how many slots were sent, how many of them with a packet of a stream or of a table, and the time a slot.
-pub fn run<R: Clock + Print + AllocGlobal>(rt: &R) -> Result<()> {
+/// Prints how many slots were sent, how many of them with a packet of a stream or of a table, and the time a slot, where each
+/// input has so many streams.
+pub fn run<R: Clock + Print + AllocGlobal>(rt: &R, streams_an_input: u8) -> Result<()>
+    requires { streams_an_input ≤ MAX_STREAMS_AN_INPUT }
+{
     let alloc = rt.alloc();
-    let mut mux = Mux::open(alloc, plan(alloc)?, MAX_SLOTS)?;
-    let packets = packets(alloc)?;
+    let mut mux = Mux::open(alloc, plan(alloc, streams_an_input)?, MAX_SLOTS)?;
+    let packets = packets(alloc, streams_an_input)?;
     let start = Instant::now(rt)?;
     drive(&mut mux, &packets);
     let nanoseconds = start.elapsed(rt)?.as_nanos();
@@ -30,9 +36,9 @@ pub fn run<R: Clock + Print + AllocGlobal>(rt: &R) -> Result<()> {
 }
 
 /// A packet of each stream of an input.
-fn packets(alloc: Global) -> Result<Vec<Packet>> {
+fn packets(alloc: Global, streams: u8) -> Result<Vec<Packet>> {
     let mut packets = Vec::new(alloc);
-    for stream in 0..STREAMS_AN_INPUT as u16 {
+    for stream in 0..streams {
         let (pid, _) = pids(0, stream);
         let mut bytes = [0xAA; 188];
         bytes[0] = 0x47;
@@ -44,16 +50,16 @@ fn packets(alloc: Global) -> Result<Vec<Packet>> {
     Ok(packets)
 }
 
-/// Sends slots, and gives an input that isn't ready its next packet.
+/// Sends slots, and gives an input that isn't ready its next packet; its streams take turns.
 fn drive(mux: &mut Mux, packets: &[Packet]) {
+    let streams = packets.len().max(1) as u64;
     let mut next = [0u64; INPUTS];
     for _ in 0..u64::MAX {
         match mux.slot() {
             Slot::Sent(_) => {}
             Slot::NotReady(input) if input < INPUTS && next[input] < LAST_PLACE => {
                 let place = next[input];
-                let Some(packet) = packets.get((place / 188 % STREAMS_AN_INPUT as u64) as usize)
-                else {
+                let Some(packet) = packets.get((place / 188 % streams) as usize) else {
                     break;
                 };
                 let stamped = Stamped {

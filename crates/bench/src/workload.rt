@@ -1,4 +1,6 @@
-//! What the measured multiplex is made by: 4 inputs, each with a service of 4 streams.
+//! What the measured multiplex is made by: 4 inputs, each with a service of so many streams.
+
+ghost use Rattle.std.specs.Prelude.{◌≤◌};
 
 use acquire::Found;
 use anyhow::Result;
@@ -10,7 +12,9 @@ use tables::{Pmt, Sdt};
 
 pub const INPUTS: usize = 4;
 
-pub const STREAMS_AN_INPUT: usize = 4;
+/// A plan has at most 64 streams.
+pub const MAX_STREAMS_AN_INPUT: u8 = 16;
+
 /// In bits a second. Of each 500 slots of the multiplex 6 have tables, and the inputs together leave few of the others.
 pub const INPUT_RATE: u64 = 9_380_000;
 
@@ -27,20 +31,15 @@ network_name = \"N\"
 transport_descriptors = \"\"
 ";
 
-/// The sections of each input's tables, without their CRC_32: a PMT of program 1 with the streams, and an SDT.
-const PMT: [u8; 32] = [
-    0x02, 0xB0, 0x21, 0, 1, 0xC1, 0, 0, 0xE1, 0x00, 0xF0, 0x00, 0x02, 0xE1, 0x00, 0xF0, 0x00, 0x02,
-    0xE1, 0x01, 0xF0, 0x00, 0x02, 0xE1, 0x02, 0xF0, 0x00, 0x02, 0xE1, 0x03, 0xF0, 0x00,
-];
-
+/// The SDT of each input, without its CRC_32.
 const SDT: [u8; 21] = [
     0x42, 0xF0, 0x16, 0, 1, 0xC1, 0, 0, 0, 1, 0xFF, 0, 1, 0xFC, 0x80, 5, 0x48, 3, 0x01, 0, 0,
 ];
 
 /// The PID of a stream of an input, and in the multiplex.
-pub fn pids(input: u16, stream: u16) -> (u16, u16) {
-    let pid = 0x0100 + stream % 0x100;
-    (pid, 0x0200 + input % 0x10 * 0x100 + stream % 0x100)
+pub fn pids(input: u8, stream: u8) -> (u16, u16) {
+    let pid = 0x0100 + u16::from(stream);
+    (pid, pid + 0x0100 + u16::from(input % 0x10) * 0x100)
 }
 
 /// An input in the text of the plan.
@@ -49,28 +48,28 @@ fn input_text(alloc: Global) -> Result<String, AllocError> {
 }
 
 /// The service of an input in that text, without its streams.
-fn service_text(alloc: Global, input: u16) -> Result<String, AllocError> {
-    let input = input % 0x10;
-    let (service, pmt) = (1 + input, 0x0100 + input);
+fn service_text(alloc: Global, input: u8) -> Result<String, AllocError> {
+    let number = u16::from(input);
+    let (service, pmt) = (1 + number, 0x0100 + number);
     format!(in alloc;
         "[[service]]\ninput = {input}\nprogram = 1\nservice = {service}\npmt = {pmt}\n"
     )
 }
 
 /// A stream of an input in that text.
-fn stream_text(alloc: Global, input: u16, stream: u16) -> Result<String, AllocError> {
+fn stream_text(alloc: Global, input: u8, stream: u8) -> Result<String, AllocError> {
     let (pid, out) = pids(input, stream);
     format!(in alloc; "[[service.stream]]\npid = {pid}\nout = {out}\nleak = 20000000\n")
 }
 
-fn request(alloc: Global) -> Result<Request> {
+fn request(alloc: Global, streams_an_input: u8) -> Result<Request> {
     let mut text = String::from_str(alloc, SETTINGS)?;
     for _ in 0..INPUTS {
         text.push_str(&input_text(alloc)?)?;
     }
-    for input in 0..INPUTS as u16 {
+    for input in 0..INPUTS as u8 {
         text.push_str(&service_text(alloc, input)?)?;
-        for stream in 0..STREAMS_AN_INPUT as u16 {
+        for stream in 0..streams_an_input {
             text.push_str(&stream_text(alloc, input, stream)?)?;
         }
     }
@@ -84,9 +83,23 @@ fn whole(alloc: Global, bytes: &[u8]) -> Result<Vec<u8>, AllocError> {
     Ok(section)
 }
 
+/// The PMT of program 1 with so many streams, of which the first has the PCR, without its CRC_32.
+fn pmt(alloc: Global, streams: u8) -> Result<Vec<u8>, AllocError>
+    requires { streams ≤ MAX_STREAMS_AN_INPUT }
+{
+    let mut section = vec![in alloc; 0x02, 0xB0, 13 + 5 * streams]?;
+    section.extend_from_slice(&[0, 1, 0xC1, 0, 0, 0xE1, 0x00, 0xF0, 0x00])?;
+    for stream in 0..streams {
+        section.extend_from_slice(&[0x02, 0xE1, stream, 0xF0, 0x00])?;
+    }
+    Ok(section)
+}
+
 /// What is found in an input.
-fn found(alloc: Global) -> Result<Found> {
-    let pmt = Pmt::read(alloc, &whole(alloc, &PMT)?)?;
+fn found(alloc: Global, streams: u8) -> Result<Found>
+    requires { streams ≤ MAX_STREAMS_AN_INPUT }
+{
+    let pmt = Pmt::read(alloc, &whole(alloc, &pmt(alloc, streams)?)?)?;
     let sdt = Sdt::read(alloc, &whole(alloc, &SDT)?)?;
     Ok(Found {
         pmts: vec![in alloc; Some(pmt)]?,
@@ -95,10 +108,12 @@ fn found(alloc: Global) -> Result<Found> {
 }
 
 /// The plan of the multiplex.
-pub fn plan(alloc: Global) -> Result<Plan> {
+pub fn plan(alloc: Global, streams_an_input: u8) -> Result<Plan>
+    requires { streams_an_input ≤ MAX_STREAMS_AN_INPUT }
+{
     let mut all = Vec::new(alloc);
     for _ in 0..INPUTS {
-        all.push(found(alloc)?)?;
+        all.push(found(alloc, streams_an_input)?)?;
     }
-    Ok(Plan::build(alloc, &request(alloc)?, &all)?)
+    Ok(Plan::build(alloc, &request(alloc, streams_an_input)?, &all)?)
 }

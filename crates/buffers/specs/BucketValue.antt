@@ -42,3 +42,7 @@ after_packet b = record b { level = level_after_packet b }
 -- after a slot of other packets
 abbrev pub after_others : BucketValue → BucketValue
 after_others b = record b { level = b.level - 188 * b.leak }
+
+-- after so many slots of other packets
+abbrev pub after_slots : BucketValue → ℕ → BucketValue
+after_slots b slots = record b { level = b.level - 188 * b.leak * slots }

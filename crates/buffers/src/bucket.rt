@@ -6,7 +6,7 @@
 
 ghost use Rattle.std.specs.Prelude.{◌≡◌, ◌↔◌, ◌*◌, ◌≤◌, ◌++◌, ℕ, List, [], true, false, IsTrue};
 ghost use Rattle.buffers.specs.Level.{packet_bytes};
-ghost use Rattle.buffers.specs.BucketValue.{IsFilledBy, NewestFit, AllFit, level_after_packet, HasRoom, after_packet, after_others};
+ghost use Rattle.buffers.specs.BucketValue.{IsFilledBy, NewestFit, AllFit, level_after_packet, HasRoom, after_packet, after_others, after_slots};
 
 use std::marker::Model;
 
@@ -74,6 +74,19 @@ impl Bucket {
     {
         // The last byte decides: no byte before it takes the level above that, above where it stood, or above one byte.
         self.level_after_packet() <= TRANSPORT_BUFFER_BYTES * self.multiplex_rate
+    }
+
+    /// The buffer so many slots later, of which none carries a packet of the set.
+    pub fn after(&self, slots: u64) -> Bucket
+        ensures { result ≡ after_slots self.now slots }
+    {
+        // No level is above the greatest u64, so a leak that is taken down to that still empties the buffer.
+        let leaked = (188 * self.leak).saturating_mul(slots);
+        Bucket {
+            leak: self.leak,
+            multiplex_rate: self.multiplex_rate,
+            level: self.level.saturating_sub(leaked),
+        }
     }
 
     /// One slot that carries a packet of the set, which fits.

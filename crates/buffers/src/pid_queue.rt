@@ -1,6 +1,7 @@
 //! The packets of a PID that wait.
 
-ghost use Rattle.std.specs.Prelude.{◌≡◌, ◌<◌, ◌≤◌, ◌↔◌, [], false, length, slice_get, option_copied, IsTrue, IsOk, IfOk, OnOk, IfErr};
+ghost use Rattle.std.specs.Prelude.{◌≡◌, ◌<◌, ◌≤◌, ◌↔◌, [], false, length, slice_get, option_copied, IsTrue, IsOk, IfOk, OnOk, IfErr, IfSome, IfNone, Some};
+ghost use Rattle.tspkt.specs.declared.stamped.Stamped.{Stamped};
 ghost use Rattle.buffers.specs.QueueValue.{QueueValue, with_last, without_first};
 
 use circular_buffer::HeapCircularBuffer;
@@ -8,21 +9,25 @@ use std::alloc::{AllocError, Global};
 use std::marker::Model;
 use tspkt::Stamped;
 
-/// A queue that holds at most so many packets. Its room is made with it.
+/// A queue that holds at most so many packets. Its room is made with it. The time of its head lies beside the packets, so
+/// that whether the head is due is known without them.
 #[derive(Drop)]
 pub struct PidQueue {
     waiting: HeapCircularBuffer<Stamped>,
+    /// The time of the head, in ticks of 27 MHz; `u64::MAX` where nothing waits.
+    next: u64,
 }
 
 impl Model for PidQueue {
-    ghost use Rattle.std.specs.Prelude.{◌≤◌, length};
-    ghost use Rattle.buffers.specs.QueueValue.{QueueValue};
+    ghost use Rattle.std.specs.Prelude.{◌≤◌, ◌≡◌, length};
+    ghost use Rattle.buffers.specs.QueueValue.{QueueValue, first_stamp};
 
     ghost Value = { QueueValue };
 
     ghost view = { λ q. record { items = q.waiting.items; capacity = q.waiting.capacity } };
 
-    ghost invariant = { λ q. length q.waiting.items ≤ q.waiting.capacity };
+    ghost invariant = { λ q. (length q.waiting.items ≤ q.waiting.capacity)
+        × (q.next ≡ first_stamp q.waiting.items) };
 }
 
 impl PidQueue {
@@ -33,7 +38,10 @@ impl PidQueue {
         ensures { IfOk result (λ q. q ≡ record { items = []; capacity = capacity }) }
     {
         let waiting = HeapCircularBuffer::with_capacity(alloc, capacity)?;
-        Ok(PidQueue { waiting })
+        Ok(PidQueue {
+            waiting,
+            next: u64::MAX,
+        })
     }
 
     /// How many packets wait.
@@ -66,13 +74,34 @@ impl PidQueue {
         self.waiting.front()
     }
 
+    /// The time of the packet that waits longest, if that isn't after this time; in ticks of 27 MHz.
+    pub fn first_due(&self, now: u64) -> Option<u64>
+        ensures some { IfSome result (λ stamp. (item : Stamped) × (slice_get self.now.items 0 ≡ Some item)
+            × (item.stamp ≡ stamp) × (stamp ≤ now)) }
+        ensures none { IfNone result ((item : Stamped)
+            → slice_get self.now.items 0 ≡ Some item → now < item.stamp) }
+    {
+        // A head may have the time `u64::MAX` too.
+        if self.next <= now && (self.next < u64::MAX || !self.waiting.is_empty()) {
+            Some(self.next)
+        } else {
+            None
+        }
+    }
+
     /// Puts a packet behind the others. A full queue hands it back, and stays as it was.
     pub fn offer(&mut self, item: Stamped) -> Result<(), Stamped>
         ensures accepted { IsOk result ↔ (length self.old.items < self.old.capacity) }
         ensures ok { OnOk result (self.new ≡ with_last self.old item) }
         ensures err { IfErr result (λ refused. (refused ≡ item) × (self.new ≡ self.old)) }
     {
-        self.waiting.try_push_back(item)
+        let is_first = self.waiting.is_empty();
+        let stamp = item.stamp;
+        self.waiting.try_push_back(item)?;
+        if is_first {
+            self.next = stamp;
+        }
+        Ok(())
     }
 
     /// Removes the packet that waits longest; none where nothing waits.
@@ -80,6 +109,11 @@ impl PidQueue {
         ensures first { result ≡ slice_get self.old.items 0 }
         ensures rest { self.new ≡ without_first self.old }
     {
-        self.waiting.pop_front()
+        let first = self.waiting.pop_front();
+        self.next = match self.waiting.front() {
+            None => u64::MAX,
+            Some(item) => item.stamp,
+        };
+        first
     }
 }

@@ -112,3 +112,32 @@ fn a_queue_keeps_the_order_and_hands_back_what_is_too_much(rt: HostRuntime) -> R
     assert!(rt; queue.is_empty());
     Ok(())
 }
+
+#[test]
+fn the_first_of_a_queue_is_due_from_its_time_on(rt: HostRuntime) -> Result<(), Fail> {
+    let mut queue = PidQueue::with_capacity(rt.alloc(), 2)?;
+    assert_eq!(rt; queue.first_due(u64::MAX), None);
+    assert!(rt; queue.offer(packet_at(10)).is_ok());
+    assert!(rt; queue.offer(packet_at(u64::MAX)).is_ok());
+    assert_eq!(rt; queue.first_due(9), None);
+    assert_eq!(rt; queue.first_due(10), Some(10));
+    assert!(rt; queue.take().is_some());
+    assert_eq!(rt; queue.first_due(u64::MAX - 1), None);
+    assert_eq!(rt; queue.first_due(u64::MAX), Some(u64::MAX));
+    Ok(())
+}
+
+#[test]
+fn a_buffer_some_slots_later_is_the_one_that_idled(rt: HostRuntime) {
+    let mut bucket = Bucket::new(1_000, 500_000);
+    assert!(rt; offer(&mut bucket));
+    for slots in 0..600 {
+        assert_eq!(rt; bucket.after(0).level(), bucket.level(), "slot {slots}");
+        assert_eq!(rt;
+            bucket.after(1).level(),
+            bucket.level().saturating_sub(188_000)
+        );
+        bucket.idle();
+    }
+    assert_eq!(rt; bucket.after(u64::MAX).level(), 0);
+}

@@ -8,55 +8,56 @@ use Rattle.tspkt.specs.declared.stamped.Stamped.{Stamped}
 use Rattle.request.specs.declared.stream.Stream.{Stream}
 use Rattle.mux.specs.declared.candidate.Candidate.{Candidate}
 use Rattle.buffers.specs.QueueValue.{QueueValue}
+use Rattle.buffers.specs.BucketValue.{BucketValue}
 use Rattle.mux.specs.Lawful.{IsNotAfter}
-use Rattle.mux.specs.Choosing.{IsDueHead, IsFirstDueHead, Precedes, IsFirstOf}
+use Rattle.mux.specs.Choosing.{IsEligibleHead, IsFirstHead, Precedes, Leads, IsBetterHead, IsNoBetterHead}
 
 -- of the streams before place n, this one goes first
-pub record IsBest (streams : List Stream) (queues : List QueueValue) (now n : ℕ) (b : Candidate) : Type 0 where
+pub record IsBest (streams : List Stream) (queues : List QueueValue) (buckets : List BucketValue) (now n : ℕ) (b : Candidate) : Type 0 where
   pub item : Stamped
-  pub can : IsDueHead streams queues now b.place b.stream item
+  pub can : IsEligibleHead streams queues buckets now b.place b.stream item
   pub stamp_is : item.stamp ≡ b.stamp
-  pub first : (j : ℕ) (su : Stream) (other : Stamped) → j < n → IsDueHead streams queues now j su other → IsNotAfter b.stream item su other
+  pub first : (j : ℕ) (su : Stream) (other : Stamped) → j < n → IsEligibleHead streams queues buckets now j su other → IsNotAfter b.stream item su other
 
 -- of the streams before place n, this one goes first, or none can go
-abbrev pub IsBestBelow : List Stream → List QueueValue → ℕ → ℕ → Option Candidate → Type 0
-IsBestBelow streams queues now n None = (j : ℕ) (su : Stream) (other : Stamped) → j < n → IsDueHead streams queues now j su other → ⊥
-IsBestBelow streams queues now n (Some b) = IsBest streams queues now n b
+abbrev pub IsBestBelow : List Stream → List QueueValue → List BucketValue → ℕ → ℕ → Option Candidate → Type 0
+IsBestBelow streams queues buckets now n None = (j : ℕ) (su : Stream) (other : Stamped) → j < n → IsEligibleHead streams queues buckets now j su other → ⊥
+IsBestBelow streams queues buckets now n (Some b) = IsBest streams queues buckets now n b
 
 -- of all streams
-pub none_due : (streams : List Stream) (queues : List QueueValue) (now : ℕ) (best : Option Candidate) → IsBestBelow streams queues now (length streams) best
-    → IfNone best ((k : ℕ) (st : Stream) (item : Stamped) → IsDueHead streams queues now k st item → ⊥)
-none_due streams queues now None none = λ k st item due. none k st item (slice_get_within streams k st due.stream) due
-none_due streams queues now (Some b) best = tt
+pub none_eligible : (streams : List Stream) (queues : List QueueValue) (buckets : List BucketValue) (now : ℕ) (best : Option Candidate) → IsBestBelow streams queues buckets now (length streams) best
+    → IfNone best ((k : ℕ) (st : Stream) (item : Stamped) → IsEligibleHead streams queues buckets now k st item → ⊥)
+none_eligible streams queues buckets now None none = λ k st item due. none k st item (slice_get_within streams k st due.stream) due
+none_eligible streams queues buckets now (Some b) best = tt
 
-pub first_due : (streams : List Stream) (queues : List QueueValue) (now : ℕ) (best : Option Candidate) → IsBestBelow streams queues now (length streams) best
-    → IfSome best (IsFirstDueHead streams queues now)
-first_due streams queues now None none = tt
-first_due streams queues now (Some b) best =
-    record { item = best.item; due_head = best.can; first = λ j su other due. best.first j su other (slice_get_within streams j su due.stream) due }
+pub first_eligible : (streams : List Stream) (queues : List QueueValue) (buckets : List BucketValue) (now : ℕ) (best : Option Candidate) → IsBestBelow streams queues buckets now (length streams) best
+    → IfSome best (IsFirstHead streams queues buckets now)
+first_eligible streams queues buckets now None none = tt
+first_eligible streams queues buckets now (Some b) best =
+    record { item = best.item; head = best.can; first = λ j su other due. best.first j su other (slice_get_within streams j su due.stream) due }
 
 -- below the next place: below this one, or this one
 below : (j n : ℕ) → j < n + 1 → (j < n) ⊎ (j ≡ n)
 below j n l = elim (cases_order j n) [ inl e ↦ inr e | inr (inl m) ↦ inl m | inr (inr m) ↦ absurd (omega arith) ]
 
 -- a place has one head
-one_head : {streams : List Stream} {queues : List QueueValue} {now n : ℕ} {st su : Stream} {item other : Stamped} → IsDueHead streams queues now n st item → IsDueHead streams queues now n su other → (st ≡ su) × (item ≡ other)
+one_head : {streams : List Stream} {queues : List QueueValue} {buckets : List BucketValue} {now n : ℕ} {st su : Stream} {item other : Stamped} → IsEligibleHead streams queues buckets now n st item → IsEligibleHead streams queues buckets now n su other → (st ≡ su) × (item ≡ other)
 one_head a b =
     let same : a.queue ≡ b.queue = same_Some _ _ (sym a.here ∙ b.here) in
     (same_Some _ _ (sym a.stream ∙ b.stream), same_Some _ _ (sym a.head ∙ ap (λ (x : QueueValue). slice_get x.items 0) same ∙ b.head))
 
 -- nothing can go at the next place
-pub skips : (streams : List Stream) (queues : List QueueValue) (now n : ℕ) (best : Option Candidate) → IsBestBelow streams queues now n best
-    → ((st : Stream) (item : Stamped) → IsDueHead streams queues now n st item → ⊥) → IsBestBelow streams queues now (n + 1) best
-skips streams queues now n None none nothing =
+pub skips : (streams : List Stream) (queues : List QueueValue) (buckets : List BucketValue) (now n : ℕ) (best : Option Candidate) → IsBestBelow streams queues buckets now n best
+    → ((st : Stream) (item : Stamped) → IsEligibleHead streams queues buckets now n st item → ⊥) → IsBestBelow streams queues buckets now (n + 1) best
+skips streams queues buckets now n None none nothing =
     λ j su other l can.
-    elim (below j n l) [ inl m ↦ none j su other m can | inr e ↦ nothing su other (let P : ℕ → Type 0 = λ k. IsDueHead streams queues now k su other in subst P e can) ]
-skips streams queues now n (Some b) best nothing = record {
+    elim (below j n l) [ inl m ↦ none j su other m can | inr e ↦ nothing su other (let P : ℕ → Type 0 = λ k. IsEligibleHead streams queues buckets now k su other in subst P e can) ]
+skips streams queues buckets now n (Some b) best nothing = record {
   item = best.item;
   can = best.can;
   stamp_is = best.stamp_is;
   first = λ j su other l can.
-      elim (below j n l) [ inl m ↦ best.first j su other m can | inr e ↦ absurd (nothing su other (let P : ℕ → Type 0 = λ k. IsDueHead streams queues now k su other in subst P e can)) ];
+      elim (below j n l) [ inl m ↦ best.first j su other m can | inr e ↦ absurd (nothing su other (let P : ℕ → Type 0 = λ k. IsEligibleHead streams queues buckets now k su other in subst P e can)) ];
 }
 
 goes : (a b : Candidate) (item other : Stamped) → item.stamp ≡ a.stamp → other.stamp ≡ b.stamp → Precedes a b → IsNotAfter a.stream item b.stream other
@@ -73,78 +74,109 @@ goes_itself : (st : Stream) (a : Stamped) → IsNotAfter st a st a
 goes_itself st a = inr (refl, omega arith)
 
 -- what goes before the head at a place goes before whatever can go there
-at_place : {streams : List Stream} {queues : List QueueValue} {now : ℕ} {st su : Stream} {item other : Stamped} (a : Stream) (x : Stamped) (k j : ℕ) → IsDueHead streams queues now k st item → j ≡ k → IsDueHead streams queues now j su other
+at_place : {streams : List Stream} {queues : List QueueValue} {buckets : List BucketValue} {now : ℕ} {st su : Stream} {item other : Stamped} (a : Stream) (x : Stamped) (k j : ℕ) → IsEligibleHead streams queues buckets now k st item → j ≡ k → IsEligibleHead streams queues buckets now j su other
     → IsNotAfter a x st item → IsNotAfter a x su other
-at_place {streams} {queues} {now} {st} {su} {item} {other} a x k j can e there p =
-    let Q : ℕ → Type 0 = λ m. IsDueHead streams queues now m su other in
+at_place {streams} {queues} {buckets} {now} {st} {su} {item} {other} a x k j can e there p =
+    let Q : ℕ → Type 0 = λ m. IsEligibleHead streams queues buckets now m su other in
     let one = one_head can (subst Q e there) in
     let R : Stream → Type 0 = λ y. IsNotAfter a x y other in
     let T : Stamped → Type 0 = λ y. IsNotAfter a x st y in
     subst R one.0 (subst T one.1 p)
 
--- the head at the next place can go
-pub picks : (streams : List Stream) (queues : List QueueValue) (now n : ℕ) (best : Option Candidate) (next result : Candidate) (item : Stamped) → IsBestBelow streams queues now n best
-    → next.place ≡ n → IsDueHead streams queues now next.place next.stream item → item.stamp ≡ next.stamp → IsFirstOf best next result → IsBestBelow streams queues now (n + 1) (Some result)
-picks streams queues now n None next result item none place can stamp is =
-    let P : Candidate → Type 0 = λ b. IsBest streams queues now (n + 1) b in
-    let best : IsBest streams queues now (n + 1) next = record {
-      item = item;
-      can = can;
-      stamp_is = stamp;
-      first = λ j su other l there.
-          elim (below j n l) [
-            | inl m ↦ absurd (none j su other m there)
-            | inr e ↦ at_place next.stream item next.place j can (e ∙ sym place) there (goes_itself next.stream item)
-          ];
-    } in
-    subst P (sym is) best
-picks streams queues now n (Some b) next result item best place can stamp (inl (is, before)) =
-    let P : Candidate → Type 0 = λ b. IsBest streams queues now (n + 1) b in
-    let now_best : IsBest streams queues now (n + 1) next = record {
-      item = item;
-      can = can;
-      stamp_is = stamp;
-      first = λ j su other l there.
-          elim (below j n l) [
-            | inl m ↦ goes_on next.stream b.stream su item best.item other (goes next b item best.item stamp best.stamp_is before) (best.first j su other m there)
-            | inr e ↦ at_place next.stream item next.place j can (e ∙ sym place) there (goes_itself next.stream item)
-          ];
-    } in
-    subst P (sym is) now_best
-picks streams queues now n (Some b) next result item best place can stamp (inr (is, before)) =
-    let P : Candidate → Type 0 = λ b. IsBest streams queues now (n + 1) b in
-    let still : IsBest streams queues now (n + 1) b = record {
+-- no head of a later time goes before the best
+abbrev pub IsLimit : ℕ → Option Candidate → ℕ → Type 0
+IsLimit now None limit = limit ≡ now
+IsLimit now (Some b) limit = limit ≡ b.stamp
+
+limit_within : (streams : List Stream) (queues : List QueueValue) (buckets : List BucketValue) (now n : ℕ) (best : Option Candidate) (limit : ℕ) → IsBestBelow streams queues buckets now n best → IsLimit now best limit → limit ≤ now
+limit_within streams queues buckets now n None limit is at = omega arith
+limit_within streams queues buckets now n (Some b) limit is at = let due = is.can.due in let e = is.stamp_is in omega arith
+
+pub limit_some : (now : ℕ) (best : Option Candidate) (limit : ℕ) (next : Candidate) → best ≡ Some next → limit ≡ next.stamp → IsLimit now best limit
+limit_some now best limit next e l =
+    let P : Option Candidate → Type 0 = λ o. IsLimit now o limit in
+    subst P (sym e) l
+
+pub limit_same : (now : ℕ) (best : Option Candidate) (limit : ℕ) (old : Option Candidate) (before : ℕ) → best ≡ old → limit ≡ before → IsLimit now old before → IsLimit now best limit
+limit_same now best limit old before e l is =
+    let P : Option Candidate → Type 0 = λ o. IsLimit now o limit in
+    let Q : ℕ → Type 0 = λ n. IsLimit now old n in
+    subst P (sym e) (subst Q (sym l) is)
+
+-- nothing at the next place goes before the best
+pub skips_read : (streams : List Stream) (queues : List QueueValue) (buckets : List BucketValue) (now n : ℕ) (best : Option Candidate) (q : QueueValue) (d : Stream) (limit : ℕ) → IsBestBelow streams queues buckets now n best → IsLimit now best limit
+    → n < length queues → length streams ≡ length queues → q ≡ get_or queues n q → IsNoBetterHead best n (get_or streams n d) q buckets limit → IsBestBelow streams queues buckets now (n + 1) best
+skips_read streams queues buckets now n None q d limit is at_limit l size at nothing =
+    skips streams queues buckets now n None is (λ st item can.
+    let same : can.queue ≡ q = same_Some _ _ (sym can.here ∙ slice_get_read queues (length queues) n q refl l at) in
+    let due = can.due in
+    nothing item can.bucket (ap (λ (x : QueueValue). slice_get x.items 0) (sym same) ∙ can.head) (omega arith) can.bucket_here can.room)
+skips_read streams queues buckets now n (Some b) q d limit best at_limit l size at nothing =
+    let st : Stream = get_or streams n d in
+    record {
       item = best.item;
       can = best.can;
       stamp_is = best.stamp_is;
-      first = λ j su other l there.
-          elim (below j n l) [
-            | inl m ↦ best.first j su other m there
-            | inr e ↦ at_place b.stream best.item next.place j can (e ∙ sym place) there (goes b next best.item item best.stamp_is stamp before)
+      first = λ j su other m can.
+          elim (below j n m) [
+            | inl earlier ↦ best.first j su other earlier can
+            | inr e ↦
+                (let P : ℕ → Type 0 = λ k. IsEligibleHead streams queues buckets now k su other in
+                let here = subst P e can in
+                let same : here.queue ≡ q = same_Some _ _ (sym here.here ∙ slice_get_read queues (length queues) n q refl l at) in
+                let stream : st ≡ su = same_Some _ _ (sym (slice_get-get_or streams n d (omega arith)) ∙ here.stream) in
+                let head = ap (λ (x : QueueValue). slice_get x.items 0) (sym same) ∙ here.head in
+                let stamp = best.stamp_is in
+                let next : Candidate = record { place = n; stream = st; stamp = other.stamp } in
+                let Q : Stream → Type 0 = λ y. IsNotAfter b.stream best.item y other in
+                elim (cases_order other.stamp limit) [
+                  | inl s ↦ subst Q stream (goes b next best.item other stamp refl (nothing other here.bucket head (omega arith) here.bucket_here here.room))
+                  | inr (inl s) ↦ subst Q stream (goes b next best.item other stamp refl (nothing other here.bucket head (omega arith) here.bucket_here here.room))
+                  | inr (inr s) ↦ inl (omega arith)
+                ])
           ];
-    } in
-    subst P (sym is) still
+    }
 
--- the same, of a queue that was read
-pub skips_read : (streams : List Stream) (queues : List QueueValue) (now n : ℕ) (best : Option Candidate) (q : QueueValue) → IsBestBelow streams queues now n best → n < length queues → q ≡ get_or queues n q
-    → ((item : Stamped) → slice_get q.items 0 ≡ Some item → item.stamp ≤ now → ⊥) → IsBestBelow streams queues now (n + 1) best
-skips_read streams queues now n best q is l at nothing =
-    skips streams queues now n best is (λ st item can.
-    let same : can.queue ≡ q = same_Some _ _ (sym can.here ∙ slice_get_read queues (length queues) n q refl l at) in
-    nothing item (ap (λ (x : QueueValue). slice_get x.items 0) (sym same) ∙ can.head) can.due)
+-- the head at the next place goes first
+picks : (streams : List Stream) (queues : List QueueValue) (buckets : List BucketValue) (now n : ℕ) (best : Option Candidate) (next : Candidate) (item : Stamped) → IsBestBelow streams queues buckets now n best
+    → next.place ≡ n → IsEligibleHead streams queues buckets now next.place next.stream item → item.stamp ≡ next.stamp → Leads best next → IsBest streams queues buckets now (n + 1) next
+picks streams queues buckets now n None next item none place can stamp leads = record {
+  item = item;
+  can = can;
+  stamp_is = stamp;
+  first = λ j su other l there.
+      elim (below j n l) [
+        | inl m ↦ absurd (none j su other m there)
+        | inr e ↦ at_place next.stream item next.place j can (e ∙ sym place) there (goes_itself next.stream item)
+      ];
+}
+picks streams queues buckets now n (Some b) next item best place can stamp leads = record {
+  item = item;
+  can = can;
+  stamp_is = stamp;
+  first = λ j su other l there.
+      elim (below j n l) [
+        | inl m ↦ goes_on next.stream b.stream su item best.item other (goes next b item best.item stamp best.stamp_is leads) (best.first j su other m there)
+        | inr e ↦ at_place next.stream item next.place j can (e ∙ sym place) there (goes_itself next.stream item)
+      ];
+}
 
-pub picks_read : (streams : List Stream) (queues : List QueueValue) (now n : ℕ) (best : Option Candidate) (q : QueueValue) (d : Stream) (stamp : ℕ) (result : Candidate) → IsBestBelow streams queues now n best
-    → n < length queues → length streams ≡ length queues → q ≡ get_or queues n q
-    → (item : Stamped) → slice_get q.items 0 ≡ Some item → item.stamp ≡ stamp → stamp ≤ now
-    → IsFirstOf best (record { place = n; stream = get_or streams n d; stamp = stamp }) result → IsBestBelow streams queues now (n + 1) (Some result)
-picks_read streams queues now n best q d stamp result is l same at item head e due first =
-    let next : Candidate = record { place = n; stream = get_or streams n d; stamp = stamp } in
-    picks streams queues now n best next result item is refl
-    (record {
+pub picks_read : (streams : List Stream) (queues : List QueueValue) (buckets : List BucketValue) (now n : ℕ) (best : Option Candidate) (q : QueueValue) (d : Stream) (limit : ℕ) (next : Candidate) → IsBestBelow streams queues buckets now n best → IsLimit now best limit
+    → n < length queues → length streams ≡ length queues → q ≡ get_or queues n q → IsBetterHead best n (get_or streams n d) q buckets limit next → IsBestBelow streams queues buckets now (n + 1) (Some next)
+picks_read streams queues buckets now n best q d limit next is at_limit l size at better =
+    let low = limit_within streams queues buckets now n best limit is at_limit in
+    let due = better.due in
+    let stamp = better.stamp_is in
+    let place : next.place ≡ n = ap (λ (c : Candidate). c.place) better.here in
+    let can : IsEligibleHead streams queues buckets now n (get_or streams n d) better.item = record {
       stream = slice_get-get_or streams n d (omega arith);
       queue = q;
       here = slice_get_read queues (length queues) n q refl l at;
-      head = head;
+      head = better.head;
       due = omega arith;
-    })
-    e first
+      bucket = better.bucket;
+      bucket_here = better.bucket_here;
+      room = better.room;
+    } in
+    let P : Candidate → Type 0 = λ c. IsEligibleHead streams queues buckets now c.place c.stream better.item in
+    picks streams queues buckets now n best next better.item is place (subst P (sym better.here) can) stamp better.leads

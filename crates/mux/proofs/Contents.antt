@@ -32,6 +32,9 @@ stream_untabled p h st c = (stream_at p h (table_at p.rounds (slots h)) st c).0
 pub null_untabled : (p : PlanValue) (h : List Event) → IsContent p h Null → table_at p.rounds (slots h) ≡ None
 null_untabled p h c = (null_at p h (table_at p.rounds (slots h)) c).0
 
+pub null_choice : (p : PlanValue) (h : List Event) → IsContent p h Null → IsChoice p h Null
+null_choice p h c = (null_at p h (table_at p.rounds (slots h)) c).1
+
 pub table_due : (p : PlanValue) (h : List Event) (place : TablePlace) → IsContent p h (Table place) → table_at p.rounds (slots h) ≡ Some place
 table_due p h place c = table_of p h (table_at p.rounds (slots h)) place c
 

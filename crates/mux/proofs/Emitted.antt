@@ -1,5 +1,6 @@
 -- The packets that went out, by number.
-use Rattle.std.proofs.Common.{◌+◌, ◌≡◌, List, [], ◌∷◌, length, refl, ap, ◌∙◌, length-append}
+use Rattle.std.proofs.Common.{ℕ, zero, suc, ◌+◌, ◌<◌, ◌≡◌, List, [], ◌∷◌, ◌++◌, length, Some, refl, ap, ◌∙◌, arith, length-append}
+use Rattle.std.specs.List.{slice_get}
 use Rattle.mux.specs.declared.event.Event.{Event}
 use Rattle.mux.specs.declared.event.Event.TheVariants.{Took, Full, Close, Slot}
 use Rattle.plan.specs.Build.{PlanValue}
@@ -12,3 +13,13 @@ length-emitted p (Took i item ∷ h) = length-emitted p h
 length-emitted p (Full i st ∷ h) = length-emitted p h
 length-emitted p (Close i ∷ h) = length-emitted p h
 length-emitted p (Slot c ∷ h) = length-append (emitted p h) (packet_behind p h (emitted p h) c ∷ []) ∙ ap (λ n. n + 1) (length-emitted p h)
+
+-- what stands in a list with one more element
+pub before_end : {X : Type 0} (xs : List X) (y : X) (m : ℕ) → m < length xs → slice_get (xs ++ y ∷ []) m ≡ slice_get xs m
+before_end [] y m l = absurd (omega arith)
+before_end (x ∷ xs) y zero l = refl
+before_end (x ∷ xs) y (suc m) l = before_end xs y m (omega arith)
+
+pub at_end : {X : Type 0} (xs : List X) (y : X) → slice_get (xs ++ y ∷ []) (length xs) ≡ Some y
+at_end [] y = refl
+at_end (x ∷ xs) y = at_end xs y

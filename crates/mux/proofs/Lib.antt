@@ -7,7 +7,12 @@ pub mod Queues
 pub mod Stored
 pub mod Counting
 pub mod Emitted
+pub mod StreamPackets
+pub mod BucketSteps
+pub mod KeptBuckets
 pub mod Outputs
+pub mod Carried
+pub mod Nulls
 pub mod CounterLaws
 pub mod Sound
 pub mod Heads

@@ -1,15 +1,15 @@
 -- What holds of the packets that went out, from lawfulness.
-use Rattle.std.proofs.Common.{ℕ, zero, suc, ◌+◌, ◌-◌, ◌<◌, ◌≡◌, Bool, true, false, cond, nat_eq, List, [], ◌∷◌, ◌++◌, length, map, drop, take, get_or, Option, Some, None, refl, ap, ◌∙◌, sym, subst, arith, inl, inr, All, length-append}
+use Rattle.std.proofs.Common.{ℕ, zero, suc, ◌+◌, ◌-◌, ◌≡◌, Bool, true, false, cond, nat_eq, List, [], ◌∷◌, ◌++◌, length, map, drop, take, Option, Some, None, refl, ap, ◌∙◌, sym, subst, arith, inl, inr, length-append}
 use Rattle.std.specs.List.{slice_get}
 use Rattle.std.proofs.lemmas.List.{take-append-le, take_at, append-nil}
-use Rattle.std.proofs.lemmas.List.Elements.{All-nil, All-push, All-drop, filter-append}
-use Rattle.std.proofs.lemmas.Option.{same_Some, slice_get_within, get_or_from_slice_get}
+use Rattle.std.proofs.lemmas.List.Elements.{filter-append}
+use Rattle.std.proofs.lemmas.Option.{same_Some, slice_get_within}
 use Rattle.std.proofs.lemmas.Bool.{cases_Bool, cases_lt, ne_eqb, eqb-true}
-use Rattle.tspkt.specs.Packet.{pid_of, null_packet, IsPacket}
+use Rattle.tspkt.specs.Packet.{pid_of, null_packet}
 use Rattle.tspkt.specs.Counters.{lawful_of, lawful_behind, follows_of}
 use Rattle.tspkt.specs.Rewritten.{rewritten}
 use Rattle.tspkt.specs.declared.stamped.Stamped.{Stamped}
-use Rattle.tspkt.proofs.RewrittenLaws.{is_packet-rewritten, pid_of-rewritten, is_packet-null_packet, pid_of-null_packet}
+use Rattle.tspkt.proofs.RewrittenLaws.{is_packet-null_packet}
 use Rattle.tspkt.proofs.CounterLaws.{IsRewritten, AreRewritten, lawful_of-rewritten}
 use Rattle.request.specs.declared.stream.Stream.{Stream}
 use Rattle.mux.specs.declared.content.Content.TheVariants.{Null, Elementary, Table}
@@ -17,70 +17,18 @@ use Rattle.mux.specs.declared.event.Event.{Event}
 use Rattle.mux.specs.declared.event.Event.TheVariants.{Took, Full, Close, Slot}
 use Rattle.plan.specs.Build.{PlanValue}
 use Rattle.mux.specs.Plans.{IsMultiplexPlan}
-use Rattle.mux.specs.History.{is_mapped_to, taken_for, sent, queue, slots, slot_time, emitted, packet_behind, sent_packet}
+use Rattle.mux.specs.History.{is_mapped_to, taken_for, sent, queue, slot_time, emitted, packet_behind}
 use Rattle.mux.specs.Lawful.{IsLawful, IsContent}
-use Rattle.mux.proofs.Emitted.{length-emitted}
+use Rattle.mux.proofs.Emitted.{length-emitted, before_end, at_end}
 use Rattle.emission.specs.Emission.{of_pid, IsEmission, MayGoOut, IsPacketOf}
-use Rattle.emission.proofs.PlanFacts.{plan_facts}
-use Rattle.emission.proofs.TablePidLaws.{on_no_stream}
 use Rattle.rounds.specs.Rounds.{table_at}
 use Rattle.rounds.specs.declared.table_place.TablePlace.{TablePlace}
-use Rattle.rounds.proofs.RecurringLaws.{are_places}
-use Rattle.mux.specs.Output.{IsOutput}
+use Rattle.mux.specs.Headline.{CountersAreAsTaken}
 use Rattle.mux.specs.declared.content.Content.{Content}
 use Rattle.mux.proofs.Contents.{stream_choice, stream_untabled, null_untabled, table_due}
-use Rattle.mux.proofs.Plans.{IsAt, Has, has_of, all_at, stream_in, same_stream}
-use Rattle.mux.proofs.Refusals.{goes_both}
+use Rattle.mux.proofs.Plans.{IsAt, Has, has_of, same_stream}
 use Rattle.mux.proofs.Queues.{sent_within}
-
--- an item of a stream: a whole packet of the stream's PID
-abbrev IsItemOf : Stream → Stamped → Type 0
-IsItemOf st item = IsPacket item.packet × (pid_of item.packet ≡ st.pid)
-
--- each that was taken is one
-items_taken : (p : PlanValue) (st : Stream) (h : List Event) → IsLawful p h → All (IsItemOf st) (taken_for st h)
-items_taken p st [] law = All-nil (IsItemOf st)
-items_taken p st (Took i item ∷ h) law =
-    let ih = items_taken p st h law.0 in
-    elim (cases_Bool (is_mapped_to st i item)) [
-      | inl e ↦ rw e (All-push (IsItemOf st) (taken_for st h) item ih (law.1.packet, (goes_both st i item e).1))
-      | inr e ↦ rw e ih
-    ]
-items_taken p st (Full i su ∷ h) law = items_taken p st h law.0
-items_taken p st (Close i ∷ h) law = items_taken p st h law.0
-items_taken p st (Slot c ∷ h) law = items_taken p st h law.0
-
--- the head of a queue is one of them
-head_is_item : (p : PlanValue) (st : Stream) (h : List Event) (item : Stamped) → IsLawful p h → slice_get (queue st h) 0 ≡ Some item → IsItemOf st item
-head_is_item p st h item law head = all_at (IsItemOf st) (queue st h) 0 item (All-drop (IsItemOf st) (sent st h) (taken_for st h) (items_taken p st h law)) head
-
--- the output PID of a stream of a plan is below 8191
-out_below : (p : PlanValue) (k : ℕ) (st : Stream) → IsMultiplexPlan p → IsAt p k st → st.output_pid < 8191
-out_below p k st plan at = let high = (stream_in p k st plan at).output_pid.1 in omega arith
-
--- the packet of a slot with a stream's head
-packet_is : (p : PlanValue) (h : List Event) (st : Stream) (item : Stamped) → slice_get (queue st h) 0 ≡ Some item
-    → packet_behind p h (emitted p h) (Elementary st) ≡ rewritten item.packet st.output_pid (slot_time p (length (emitted p h)) - item.stamp)
-packet_is p h st item head = ap (sent_packet p (length (emitted p h)) st) head
-
--- a packet that is rewritten to the PID of a stream
-record IsMovedTo (st : Stream) (q : List ℕ) : Type 0 where
-  packet : IsPacket q
-  pid : pid_of q ≡ st.output_pid
-
-moved_to : (p : PlanValue) (h : List Event) (st : Stream) (item : Stamped) → IsMultiplexPlan p → IsLawful p h → Has p st → slice_get (queue st h) 0 ≡ Some item
-    → IsMovedTo st (packet_behind p h (emitted p h) (Elementary st))
-moved_to p h st item plan law has head =
-    let below = out_below p has.0 st plan has.1 in
-    let fits : st.output_pid < 8192 = omega arith in
-    let is = head_is_item p st h item law head in
-    let delay = slot_time p (length (emitted p h)) - item.stamp in
-    let moved : IsMovedTo st (rewritten item.packet st.output_pid delay) = record {
-      packet = is_packet-rewritten item.packet st.output_pid delay fits is.0;
-      pid = pid_of-rewritten item.packet st.output_pid delay fits is.0;
-    } in
-    let P : List ℕ → Type 0 = IsMovedTo st in
-    subst P (sym (packet_is p h st item head)) moved
+use Rattle.mux.proofs.StreamPackets.{head_is_item, out_below, packet_is, moved_to, null_apart, table_apart}
 
 -- what a slot with this content carries may go out
 may_go_out : (p : PlanValue) (h : List Event) (c : Content) → IsMultiplexPlan p → IsLawful p h → IsContent p h c → MayGoOut p (emitted p h) (packet_behind p h (emitted p h) c)
@@ -96,15 +44,6 @@ may_go_out p h (Elementary st) plan law content =
     let moved = moved_to p h st chosen.0 plan law (has_of p st in_plan) chosen.1.head in
     let P : Option TablePlace → Type 0 = λ o. IsPacketOf p (emitted p h) o (packet_behind p h (emitted p h) (Elementary st)) in
     subst P (sym (stream_untabled p h st content) ∙ ap (table_at p.rounds) (sym (length-emitted p h))) (moved.packet, inr (in_plan.0, st, in_plan.1, in_plan.2, moved.pid))
-
-before_end : {X : Type 0} (xs : List X) (y : X) (m : ℕ) → m < length xs → slice_get (xs ++ y ∷ []) m ≡ slice_get xs m
-before_end [] y m l = absurd (omega arith)
-before_end (x ∷ xs) y zero l = refl
-before_end (x ∷ xs) y (suc m) l = before_end xs y m (omega arith)
-
-at_end : {X : Type 0} (xs : List X) (y : X) → slice_get (xs ++ y ∷ []) (length xs) ≡ Some y
-at_end [] y = refl
-at_end (x ∷ xs) y = at_end xs y
 
 -- one more packet
 emission-push : (p : PlanValue) (out : List (List ℕ)) (q : List ℕ) → IsEmission p out → MayGoOut p out q → IsEmission p (out ++ q ∷ [])
@@ -126,7 +65,7 @@ emission-push p out q all one m x at =
     ]
 
 -- each slot carries what the plan says
-emits : (p : PlanValue) (h : List Event) → IsMultiplexPlan p → IsLawful p h → IsEmission p (emitted p h)
+pub emits : (p : PlanValue) (h : List Event) → IsMultiplexPlan p → IsLawful p h → IsEmission p (emitted p h)
 emits p [] plan law = λ m x at. cc
 emits p (Took i item ∷ h) plan law = emits p h plan law.0
 emits p (Full i st ∷ h) plan law = emits p h plan law.0
@@ -153,7 +92,7 @@ take_head zero (y ∷ xs) x e = ap (λ z. z ∷ []) (same_Some y x e)
 take_head (suc n) [] x e = cc
 take_head (suc n) (y ∷ xs) x e = let m : suc n + 1 ≡ suc (n + 1) = omega arith in rw m (ap (λ ys. y ∷ ys) (take_head n xs x e))
 
-abbrev packets_of : List Stamped → List (List ℕ)
+abbrev pub packets_of : List Stamped → List (List ℕ)
 packets_of items = map (λ (item : Stamped). item.packet) items
 
 packets-push : (xs : List Stamped) (x : Stamped) → packets_of (xs ++ x ∷ []) ≡ packets_of xs ++ x.packet ∷ []
@@ -161,7 +100,7 @@ packets-push [] x = refl
 packets-push (y ∷ xs) x = ap (λ ys. y.packet ∷ ys) (packets-push xs x)
 
 -- what went out on the PID of a stream are the items sent of it, moved
-sent_moved : (p : PlanValue) (h : List Event) (k : ℕ) (st : Stream) → IsMultiplexPlan p → IsLawful p h → IsAt p k st
+pub sent_moved : (p : PlanValue) (h : List Event) (k : ℕ) (st : Stream) → IsMultiplexPlan p → IsLawful p h → IsAt p k st
     → AreRewritten st.pid st.output_pid (packets_of (take (sent st h) (taken_for st h))) (of_pid st.output_pid (emitted p h))
 sent_moved p [] k st plan law at = tt
 sent_moved p (Took i item ∷ h) k st plan law at =
@@ -175,20 +114,15 @@ sent_moved p (Full i su ∷ h) k st plan law at = sent_moved p h k st plan law.0
 sent_moved p (Close i ∷ h) k st plan law at = sent_moved p h k st plan law.0 at
 sent_moved p (Slot Null ∷ h) k st plan law at =
     let ih = sent_moved p h k st plan law.0 at in
-    let below = out_below p k st plan at in
     let P : List (List ℕ) → Type 0 = AreRewritten st.pid st.output_pid (packets_of (take (sent st h) (taken_for st h))) in
-    let other : nat_eq (pid_of null_packet) st.output_pid ≡ false = ne_eqb (pid_of null_packet) st.output_pid (λ e. absurd (omega (arith, pid_of-null_packet))) in
+    let other : nat_eq (pid_of null_packet) st.output_pid ≡ false = ne_eqb (pid_of null_packet) st.output_pid (null_apart p k st plan at) in
     let out : of_pid st.output_pid (emitted p h ++ null_packet ∷ []) ≡ of_pid st.output_pid (emitted p h) =
     of_pid-push st.output_pid (emitted p h) null_packet ∙ ap (λ b. cond b (of_pid st.output_pid (emitted p h) ++ null_packet ∷ []) (of_pid st.output_pid (emitted p h))) other in
     subst P (sym out) ih
 sent_moved p (Slot (Table place) ∷ h) k st plan law at =
     let ih = sent_moved p h k st plan law.0 at in
     let q = packet_behind p h (emitted p h) (Table place) in
-    let l = slice_get_within p.request.streams k st at in
-    let is : get_or p.request.streams k st ≡ st = get_or_from_slice_get p.request.streams k st st at in
-    let fits = are_places p.rounds plan.rounds (slots h) place (table_due p h place law.1.content) in
-    let apart : pid_of q ≡ st.output_pid → ⊥ = λ e. on_no_stream p (emitted p h) place k st (plan_facts p plan.request plan.tables) fits l (e ∙ sym (ap (λ (x : Stream). x.output_pid) is)) in
-    let other : nat_eq (pid_of q) st.output_pid ≡ false = ne_eqb (pid_of q) st.output_pid apart in
+    let other : nat_eq (pid_of q) st.output_pid ≡ false = ne_eqb (pid_of q) st.output_pid (table_apart p h place k st plan law.1.content at) in
     let P : List (List ℕ) → Type 0 = AreRewritten st.pid st.output_pid (packets_of (take (sent st h) (taken_for st h))) in
     let out : of_pid st.output_pid (emitted p h ++ q ∷ []) ≡ of_pid st.output_pid (emitted p h) =
     of_pid-push st.output_pid (emitted p h) q ∙ ap (λ b. cond b (of_pid st.output_pid (emitted p h) ++ q ∷ []) (of_pid st.output_pid (emitted p h))) other in
@@ -243,14 +177,10 @@ packets-take zero (x ∷ xs) = refl
 packets-take (suc n) [] = refl
 packets-take (suc n) (x ∷ xs) = ap (λ ys. x.packet ∷ ys) (packets-take n xs)
 
-pub output_of : (p : PlanValue) (h : List Event) → IsMultiplexPlan p → IsLawful p h → All IsPacket (emitted p h) → IsOutput p h
-output_of p h plan law whole = record {
-  packets = whole;
-  emission = emits p h plan law;
-  stream_counters = λ st in_plan.
-      let has = has_of p st in_plan in
-      let below = out_below p has.0 st plan has.1 in
-      let moved = sent_moved p h has.0 st plan law has.1 in
-      lawful_of-rewritten st.pid st.output_pid (packets_of (take (sent st h) (taken_for st h))) (of_pid st.output_pid (emitted p h)) (omega arith) moved
-      ∙ ap lawful_of (packets-take (sent st h) (taken_for st h)) ∙ lawful_of-take (sent st h) (packets_of (taken_for st h));
-}
+-- the counters of a stream are lawful where those of its input are
+pub counters_are_as_taken : (p : PlanValue) (h : List Event) (st : Stream) → IsMultiplexPlan p → IsLawful p h → Has p st → CountersAreAsTaken p h st
+counters_are_as_taken p h st plan law has =
+    let below = out_below p has.0 st plan has.1 in
+    let moved = sent_moved p h has.0 st plan law has.1 in
+    lawful_of-rewritten st.pid st.output_pid (packets_of (take (sent st h) (taken_for st h))) (of_pid st.output_pid (emitted p h)) (omega arith) moved
+    ∙ ap lawful_of (packets-take (sent st h) (taken_for st h)) ∙ lawful_of-take (sent st h) (packets_of (taken_for st h))

@@ -1,5 +1,5 @@
 -- What is kept of inputs and queues says who is ready, and what goes next.
-use Rattle.std.proofs.Common.{ℕ, ◌<◌, ◌≡◌, false, List, [], length, get_or, Option, Some, None, ap, ◌∙◌, sym, arith, All}
+use Rattle.std.proofs.Common.{ℕ, ◌<◌, ◌≡◌, false, List, [], length, get_or, Option, Some, None, ap, ◌∙◌, sym, subst, arith, All}
 use Rattle.std.specs.Prelude.{IsTrue, IfNone}
 use Rattle.std.specs.List.{slice_get}
 use Rattle.std.proofs.lemmas.List.FromFn.{get_or-map-range_with_len}
@@ -12,10 +12,13 @@ use Rattle.request.specs.declared.stream.Stream.{Stream}
 use Rattle.mux.specs.declared.candidate.Candidate.{Candidate}
 use Rattle.mux.specs.declared.input_state.InputState.{InputState}
 use Rattle.buffers.specs.QueueValue.{QueueValue}
-use Rattle.mux.specs.History.{Run, slots, slot_time}
+use Rattle.buffers.specs.BucketValue.{BucketValue, HasRoom}
+use Rattle.mux.specs.Buckets.{AreBuckets}
+use Rattle.mux.proofs.BucketSteps.{room_fits}
+use Rattle.mux.specs.History.{Run, queue, slots, slot_time, emitted}
 use Rattle.mux.specs.Lawful.{AllReady, is_ready, IsDone, IsEligible, IsContent}
 use Rattle.mux.specs.Keeping.{AgreesWith, state_of, queue_of, ready_at}
-use Rattle.mux.specs.Choosing.{IsDueHead, IsFirstDueHead}
+use Rattle.mux.specs.Choosing.{IsEligibleHead, IsFirstHead}
 use Rattle.rounds.specs.Rounds.{table_at}
 use Rattle.mux.proofs.Contents.{untabled}
 use Rattle.mux.proofs.Plans.{IsAt, has_of, contains_of}
@@ -70,39 +73,50 @@ empty_from {r} {h} {states} {queues} k done i d l =
     let at : IsAt r.plan i st = slice_get-get_or r.plan.request.streams i nobody (omega arith) in
     ap (λ (q : QueueValue). q.items) (get_or_from_slice_get queues i (queue_of r.plan.request.queue h st) d (queue_get k i st at)) ∙ done.empty st (contains_of r.plan i st at)
 
--- an eligible head is due at its place, and the other way round
-due_from : {r : Run} {h : List Event} {states : List InputState} {queues : List QueueValue} → AgreesWith r h states queues → (now : ℕ) → now ≡ slot_time r.plan (slots h) → (st : Stream) (item : Stamped)
-    → (e : IsEligible r.plan h st item) → IsDueHead r.plan.request.streams queues now (has_of r.plan st e.stream).0 st item
-due_from {r} {h} k now t st item e =
+-- an eligible head may go next at its place, by what is kept, and the other way round
+head_from : {r : Run} {h : List Event} {states : List InputState} {queues : List QueueValue} {buckets : List BucketValue} → AgreesWith r h states queues → AreBuckets r.plan (emitted r.plan h) buckets
+    → (now : ℕ) → now ≡ slot_time r.plan (slots h) → (st : Stream) (item : Stamped)
+    → (e : IsEligible r.plan h st item) → IsEligibleHead r.plan.request.streams queues buckets now (has_of r.plan st e.stream).0 st item
+head_from {r} {h} k are now t st item e =
     let has = has_of r.plan st e.stream in
+    let own = are.each has.0 st has.1 in
     record {
       stream = has.1;
       queue = queue_of r.plan.request.queue h st;
       here = queue_get k has.0 st has.1;
       head = e.head;
       due = let l = e.due in omega arith;
+      bucket = own.0;
+      bucket_here = own.1;
+      room = (room_fits r.plan h has.0 st item own.0 k.plan k.lawful has.1 e.head own.2).1 e.fits;
     }
 
-due_to : {r : Run} {h : List Event} {states : List InputState} {queues : List QueueValue} → AgreesWith r h states queues → (now : ℕ) → now ≡ slot_time r.plan (slots h) → (k : ℕ) (st : Stream) (item : Stamped)
-    → IsDueHead r.plan.request.streams queues now k st item → IsEligible r.plan h st item
-due_to {r} {h} kept now t k st item due =
-    let same : due.queue ≡ queue_of r.plan.request.queue h st = same_Some _ _ (sym due.here ∙ queue_get kept k st due.stream) in
+head_to : {r : Run} {h : List Event} {states : List InputState} {queues : List QueueValue} {buckets : List BucketValue} → AgreesWith r h states queues → AreBuckets r.plan (emitted r.plan h) buckets
+    → (now : ℕ) → now ≡ slot_time r.plan (slots h) → (k : ℕ) (st : Stream) (item : Stamped)
+    → IsEligibleHead r.plan.request.streams queues buckets now k st item → IsEligible r.plan h st item
+head_to {r} {h} kept are now t k st item can =
+    let same : can.queue ≡ queue_of r.plan.request.queue h st = same_Some _ _ (sym can.here ∙ queue_get kept k st can.stream) in
+    let own = are.each k st can.stream in
+    let bucket : can.bucket ≡ own.0 = same_Some _ _ (sym can.bucket_here ∙ own.1) in
+    let head : slice_get (queue st h) 0 ≡ Some item = sym (ap (λ (q : QueueValue). slice_get q.items 0) same) ∙ can.head in
     record {
-      stream = contains_of r.plan k st due.stream;
-      head = sym (ap (λ (q : QueueValue). slice_get q.items 0) same) ∙ due.head;
-      due = let l = due.due in omega arith;
-      fits = tt;
+      stream = contains_of r.plan k st can.stream;
+      head = head;
+      due = let l = can.due in omega arith;
+      fits = (room_fits r.plan h k st item own.0 kept.plan kept.lawful can.stream head own.2).0 (subst HasRoom bucket can.room);
     }
 
 -- what the next slot carries
-pub none_goes : {r : Run} {h : List Event} {states : List InputState} {queues : List QueueValue} → AgreesWith r h states queues → (now : ℕ) → now ≡ slot_time r.plan (slots h)
-    → table_at r.plan.rounds (slots h) ≡ None → ((k : ℕ) (st : Stream) (item : Stamped) → IsDueHead r.plan.request.streams queues now k st item → ⊥) → IsContent r.plan h Null
-none_goes {r} {h} k now t free none = untabled r.plan h Null free (λ st item e. none (has_of r.plan st e.stream).0 st item (due_from k now t st item e))
+pub none_goes : {r : Run} {h : List Event} {states : List InputState} {queues : List QueueValue} {buckets : List BucketValue} → AgreesWith r h states queues → AreBuckets r.plan (emitted r.plan h) buckets
+    → (now : ℕ) → now ≡ slot_time r.plan (slots h) → table_at r.plan.rounds (slots h) ≡ None
+    → ((k : ℕ) (st : Stream) (item : Stamped) → IsEligibleHead r.plan.request.streams queues buckets now k st item → ⊥) → IsContent r.plan h Null
+none_goes {r} {h} k are now t free none = untabled r.plan h Null free (λ st item e. none (has_of r.plan st e.stream).0 st item (head_from k are now t st item e))
 
-pub one_goes : {r : Run} {h : List Event} {states : List InputState} {queues : List QueueValue} → AgreesWith r h states queues → (now : ℕ) → now ≡ slot_time r.plan (slots h)
-    → table_at r.plan.rounds (slots h) ≡ None → (c : Candidate) → IsFirstDueHead r.plan.request.streams queues now c → (slice_get r.plan.request.streams c.place ≡ Some c.stream) × IsContent r.plan h (Elementary c.stream)
-one_goes {r} {h} k now t free c best =
-    (best.due_head.stream, untabled r.plan h (Elementary c.stream) free (best.item, due_to k now t c.place c.stream best.item best.due_head, λ su other e. best.first (has_of r.plan su e.stream).0 su other (due_from k now t su other e)))
+pub one_goes : {r : Run} {h : List Event} {states : List InputState} {queues : List QueueValue} {buckets : List BucketValue} → AgreesWith r h states queues → AreBuckets r.plan (emitted r.plan h) buckets
+    → (now : ℕ) → now ≡ slot_time r.plan (slots h) → table_at r.plan.rounds (slots h) ≡ None → (c : Candidate) → IsFirstHead r.plan.request.streams queues buckets now c
+    → (slice_get r.plan.request.streams c.place ≡ Some c.stream) × IsContent r.plan h (Elementary c.stream)
+one_goes {r} {h} k are now t free c best =
+    (best.head.stream, untabled r.plan h (Elementary c.stream) free (best.item, head_to k are now t c.place c.stream best.item best.head, λ su other e. best.first (has_of r.plan su e.stream).0 su other (head_from k are now t su other e)))
 
 -- what follows where there is no value
 pub when_none : {X : Type 0} {P Q : Type 0} (o : Option X) → IfNone o P → (P → Q) → IfNone o Q

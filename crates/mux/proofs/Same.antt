@@ -19,6 +19,7 @@ use Rattle.mux.specs.Faithful.{PacketLists, IsNext, IsFaithful, IsPrefix, Output
 use Rattle.rounds.specs.declared.table_place.TablePlace.{TablePlace}
 use Rattle.rounds.specs.Rounds.{table_at}
 use Rattle.emission.specs.Emission.{table_packet_at, counted_behind}
+use Rattle.emission.specs.TableBuffers.{BufferFits}
 use Rattle.mux.proofs.Contents.{stream_choice}
 use Rattle.mux.proofs.Plans.{Has, has_of, same_stream, stream_in}
 use Rattle.mux.proofs.Refusals.{taken_for_of, goes_both, one_stream}
@@ -196,8 +197,8 @@ covers p lists i a b (x ∷ e) plan law_a faith_a law_b faith_b sent_same ready 
 
 -- a head that is eligible in one is eligible in the other
 eligible : (p : PlanValue) (lists : PacketLists) (a b : List Event) (st : Stream) (item : Stamped) → IsMultiplexPlan p → IsLawful p a → IsFaithful lists a → IsLawful p b → IsFaithful lists b
-    → ((su : Stream) → sent su a ≡ sent su b) → slots a ≡ slots b → AllReady p b → IsEligible p a st item → IsEligible p b st item
-eligible p lists a b st item plan law_a faith_a law_b faith_b sent_same same ready el =
+    → ((su : Stream) → sent su a ≡ sent su b) → slots a ≡ slots b → emitted p a ≡ emitted p b → AllReady p b → IsEligible p a st item → IsEligible p b st item
+eligible p lists a b st item plan law_a faith_a law_b faith_b sent_same same out ready el =
     let i = st.input in
     let g : Stamped → Bool = is_mapped_to st i in
     let front_a = taken_begins lists i a faith_a in
@@ -206,6 +207,8 @@ eligible p lists a b st item plan law_a faith_a law_b faith_b sent_same same rea
     let due = el.due in
     let t : slot_time p (slots a) ≡ slot_time p (slots b) = ap (slot_time p) same in
     let kept : List Stamped → Type 0 = λ xs. slice_get (drop (sent st b) xs) 0 ≡ Some item in
+    let Q : List (List ℕ) → Type 0 = λ ps. BufferFits p.request.rate st.leak (st.output_pid ∷ []) (ps ++ sent_packet p (slots a) st (Some item) ∷ []) in
+    let P : ℕ → Type 0 = λ m. BufferFits p.request.rate st.leak (st.output_pid ∷ []) (emitted p b ++ sent_packet p m st (Some item) ∷ []) in
     let at_b : slice_get (drop (sent st b) (filter g (taken i a))) 0 ≡ Some item = ap (λ n. slice_get (drop n (filter g (taken i a))) 0) (sym (sent_same st)) ∙ ap (λ xs. slice_get (drop (sent st a) xs) 0) (sym (taken_for_is st a)) ∙ at in
     let head : slice_get (drop (sent st b) (filter g (taken i b))) 0 ≡ Some item =
     elim (comparable (taken i a) (taken i b) front_a.0 front_b.0 (sym front_a.1 ∙ front_b.1)) [
@@ -219,23 +222,23 @@ eligible p lists a b st item plan law_a faith_a law_b faith_b sent_same same rea
       stream = el.stream;
       head = ap (λ xs. slice_get (drop (sent st b) xs) 0) (taken_for_is st b) ∙ head;
       due = omega arith;
-      fits = tt;
+      fits = subst P same (subst Q out el.fits);
     }
 
 -- the choice of one is the choice of the other
 same_choice : (p : PlanValue) (lists : PacketLists) (a b : List Event) (c d : Content) → IsMultiplexPlan p → IsLawful p a → IsFaithful lists a → IsLawful p b → IsFaithful lists b
-    → ((su : Stream) → sent su a ≡ sent su b) → slots a ≡ slots b → AllReady p a → AllReady p b → IsChoice p a c → IsChoice p b d → c ≡ d
-same_choice p lists a b (Table place) d plan la fa lb fb s n ra rb x y = absurd x
-same_choice p lists a b Null Null plan la fa lb fb s n ra rb x y = refl
-same_choice p lists a b Null (Table place) plan la fa lb fb s n ra rb x y = absurd y
-same_choice p lists a b (Elementary st) (Table place) plan la fa lb fb s n ra rb x y = absurd y
-same_choice p lists a b Null (Elementary su) plan la fa lb fb s n ra rb x y =
-    absurd (x su y.0 (eligible p lists b a su y.0 plan lb fb la fa (λ z. sym (s z)) (sym n) ra y.1))
-same_choice p lists a b (Elementary st) Null plan la fa lb fb s n ra rb x y =
-    absurd (y st x.0 (eligible p lists a b st x.0 plan la fa lb fb s n rb x.1))
-same_choice p lists a b (Elementary st) (Elementary su) plan la fa lb fb s n ra rb x y =
-    let u = x.2 su y.0 (eligible p lists b a su y.0 plan lb fb la fa (λ z. sym (s z)) (sym n) ra y.1) in
-    let q = y.2 st x.0 (eligible p lists a b st x.0 plan la fa lb fb s n rb x.1) in
+    → ((su : Stream) → sent su a ≡ sent su b) → slots a ≡ slots b → emitted p a ≡ emitted p b → AllReady p a → AllReady p b → IsChoice p a c → IsChoice p b d → c ≡ d
+same_choice p lists a b (Table place) d plan la fa lb fb s n o ra rb x y = absurd x
+same_choice p lists a b Null Null plan la fa lb fb s n o ra rb x y = refl
+same_choice p lists a b Null (Table place) plan la fa lb fb s n o ra rb x y = absurd y
+same_choice p lists a b (Elementary st) (Table place) plan la fa lb fb s n o ra rb x y = absurd y
+same_choice p lists a b Null (Elementary su) plan la fa lb fb s n o ra rb x y =
+    absurd (x su y.0 (eligible p lists b a su y.0 plan lb fb la fa (λ z. sym (s z)) (sym n) (sym o) ra y.1))
+same_choice p lists a b (Elementary st) Null plan la fa lb fb s n o ra rb x y =
+    absurd (y st x.0 (eligible p lists a b st x.0 plan la fa lb fb s n o rb x.1))
+same_choice p lists a b (Elementary st) (Elementary su) plan la fa lb fb s n o ra rb x y =
+    let u = x.2 su y.0 (eligible p lists b a su y.0 plan lb fb la fa (λ z. sym (s z)) (sym n) (sym o) ra y.1) in
+    let q = y.2 st x.0 (eligible p lists a b st x.0 plan la fa lb fb s n o rb x.1) in
     let out : st.output_pid ≡ su.output_pid = elim u [
       | inl l ↦ absurd (elim q [ inl m ↦ omega arith | inr m ↦ omega (arith, m.0) ])
       | inr l ↦ elim q [ inl m ↦ absurd (omega (arith, l.0)) | inr m ↦ omega (arith, l.1, m.1) ]
@@ -246,15 +249,15 @@ same_choice p lists a b (Elementary st) (Elementary su) plan la fa lb fb s n ra 
 
 -- and so is the content of the slot
 same_content_at : (p : PlanValue) (lists : PacketLists) (a b : List Event) (o : Option TablePlace) (c d : Content) → IsMultiplexPlan p → IsLawful p a → IsFaithful lists a → IsLawful p b → IsFaithful lists b
-    → ((su : Stream) → sent su a ≡ sent su b) → slots a ≡ slots b → AllReady p a → AllReady p b → IsContentAt p a o c → IsContentAt p b o d → c ≡ d
-same_content_at p lists a b (Some place) c d plan la fa lb fb s n ra rb x y = x ∙ sym y
-same_content_at p lists a b None c d plan la fa lb fb s n ra rb x y = same_choice p lists a b c d plan la fa lb fb s n ra rb x y
+    → ((su : Stream) → sent su a ≡ sent su b) → slots a ≡ slots b → emitted p a ≡ emitted p b → AllReady p a → AllReady p b → IsContentAt p a o c → IsContentAt p b o d → c ≡ d
+same_content_at p lists a b (Some place) c d plan la fa lb fb s n o ra rb x y = x ∙ sym y
+same_content_at p lists a b None c d plan la fa lb fb s n o ra rb x y = same_choice p lists a b c d plan la fa lb fb s n o ra rb x y
 
 same_content : (p : PlanValue) (lists : PacketLists) (a b : List Event) (c d : Content) → IsMultiplexPlan p → IsLawful p a → IsFaithful lists a → IsLawful p b → IsFaithful lists b
-    → ((su : Stream) → sent su a ≡ sent su b) → slots a ≡ slots b → AllReady p a → AllReady p b → IsContent p a c → IsContent p b d → c ≡ d
-same_content p lists a b c d plan la fa lb fb s n ra rb x y =
+    → ((su : Stream) → sent su a ≡ sent su b) → slots a ≡ slots b → emitted p a ≡ emitted p b → AllReady p a → AllReady p b → IsContent p a c → IsContent p b d → c ≡ d
+same_content p lists a b c d plan la fa lb fb s n o ra rb x y =
     let P : ℕ → Type 0 = λ m. IsContentAt p b (table_at p.rounds m) d in
-    same_content_at p lists a b (table_at p.rounds (slots a)) c d plan la fa lb fb s n ra rb x (subst P (sym n) y)
+    same_content_at p lists a b (table_at p.rounds (slots a)) c d plan la fa lb fb s n o ra rb x (subst P (sym n) y)
 
 -- and so is its packet
 same_packet : (p : PlanValue) (lists : PacketLists) (a b : List Event) (c : Content) → IsMultiplexPlan p → IsLawful p a → IsFaithful lists a → IsLawful p b → IsFaithful lists b
@@ -264,7 +267,7 @@ same_packet p lists a b Null plan la fa lb fb s n out rb c = refl
 same_packet p lists a b (Table place) plan la fa lb fb s n out rb c = ap (λ (ps : List (List ℕ)). counted_behind ps (table_packet_at p.tables place)) out
 same_packet p lists a b (Elementary st) plan la fa lb fb s n out rb c =
     let x = stream_choice p a st c in
-    let e = eligible p lists a b st x.0 plan la fa lb fb s n rb x.1 in
+    let e = eligible p lists a b st x.0 plan la fa lb fb s n out rb x.1 in
     ap (λ (ps : List (List ℕ)). sent_packet p (length ps) st (slice_get (queue st a) 0)) out ∙ ap (sent_packet p (length (emitted p b)) st) (x.1.head ∙ sym e.head)
 
 -- after the same number of slots both have sent the same
@@ -288,7 +291,7 @@ agree p lists (Slot c ∷ a) (Close j ∷ b) plan la fa lb fb n = let ih = agree
 agree p lists (Slot c ∷ a) (Slot d ∷ b) plan la fa lb fb n =
     let m : slots a ≡ slots b = omega arith in
     let ih = agree p lists a b plan la.0 fa lb.0 fb m in
-    let content : c ≡ d = same_content p lists a b c d plan la.0 fa lb.0 fb ih.sent_same m la.1.ready lb.1.ready la.1.content lb.1.content in
+    let content : c ≡ d = same_content p lists a b c d plan la.0 fa lb.0 fb ih.sent_same m ih.packets la.1.ready lb.1.ready la.1.content lb.1.content in
     let packet : packet_behind p a (emitted p a) c ≡ packet_behind p b (emitted p b) d =
     same_packet p lists a b c plan la.0 fa lb.0 fb ih.sent_same m ih.packets lb.1.ready la.1.content ∙ ap (packet_behind p b (emitted p b)) content in
     record {

@@ -1,12 +1,13 @@
 -- What a multiplex keeps, after an event: one lemma an event.
-use Rattle.std.proofs.Common.{ℕ, ◌+◌, ◌-◌, ◌<◌, ◌≡◌, ◌≢◌, ◌||◌, true, false, eq-eqb, cond, List, [], ◌∷◌, ◌++◌, length, map, set, get_or, drop, refl, ap, ◌∙◌, sym, subst, arith, length-append, Some}
+use Rattle.std.proofs.Common.{ℕ, ◌+◌, ◌-◌, ◌<◌, ◌≤◌, ◌≡◌, ◌≢◌, ◌||◌, true, false, eq-eqb, cond, List, [], ◌∷◌, ◌++◌, length, map, set, get_or, drop, refl, ap, ◌∙◌, sym, subst, arith, length-append, Some, None}
 use Rattle.std.specs.Prelude.{count_by}
 use Rattle.std.specs.List.{slice_get, range_with_len}
 use Rattle.std.proofs.lemmas.Simd.{map-map}
 use Rattle.std.proofs.lemmas.List.FromFn.{length-range_with_len, get_or-range_with_len, get_or-map-range_with_len}
-use Rattle.std.proofs.lemmas.Bool.{ne_eqb}
+use Rattle.std.proofs.lemmas.Bool.{ne_eqb, false≢true}
 use Rattle.std.proofs.lemmas.List.{length-map, get_or-map}
 use Rattle.std.proofs.lemmas.Option.{slice_get_within, get_or_from_slice_get}
+use Rattle.tspkt.specs.Packet.{null_packet}
 use Rattle.tspkt.specs.Rewritten.{rewritten}
 use Rattle.tspkt.specs.declared.stamped.Stamped.{Stamped}
 use Rattle.request.specs.declared.stream.Stream.{Stream}
@@ -16,14 +17,19 @@ use Rattle.mux.specs.declared.event.Event.{Event}
 use Rattle.mux.specs.declared.event.Event.TheVariants.{Took, Full, Close, Slot}
 use Rattle.mux.specs.declared.input_state.InputState.{InputState}
 use Rattle.buffers.specs.QueueValue.{QueueValue}
+use Rattle.buffers.specs.BucketValue.{BucketValue}
 use Rattle.rounds.specs.Turn.{TurnValue}
 use Rattle.rounds.specs.declared.table_place.TablePlace.{TablePlace}
+use Rattle.mux.specs.declared.mux.TheConstants.{MAX_SLOTS}
+use Rattle.mux.specs.Plans.{IsMultiplexPlan}
 use Rattle.mux.specs.SlotClock.{ClockValue, clock_at, advanced}
 use Rattle.mux.specs.History.{Run, taken, slots, slot_time, last_stamp, is_closed, full_noted, emitted, packet_behind, sent_packet}
 use Rattle.mux.specs.declared.counts.Counts.{Counts}
 use Rattle.mux.specs.Totals.{contents, is_table, is_elementary, is_null}
 use Rattle.mux.specs.Lawful.{MayTake, MayNoteFull, MaySend}
 use Rattle.mux.specs.Keeping.{AgreesWith, IsKept, state_of, queue_of, counts_of, turn_at, without_full}
+use Rattle.mux.specs.Buckets.{AreBuckets, MovedOn, empty_bucket}
+use Rattle.mux.proofs.BucketSteps.{buckets_none, buckets_moved, null_of_none, table_of_none, stream_of_place, chosen_has_room}
 use Rattle.mux.proofs.Lists.{set_map, set_map_at}
 use Rattle.mux.proofs.Plans.{IsAt}
 use Rattle.mux.proofs.Refusals.{IsTakenFor}
@@ -61,13 +67,24 @@ set_state before after n i l others =
 same_counts : (h after : List Event) → contents after ≡ contents h → counts_of after ≡ counts_of h
 same_counts h after c = ap (λ (cs : List Content). let x : Counts = record { tables = count_by is_table cs; elementary = count_by is_elementary cs; null = count_by is_null cs } in x) c
 
+-- a multiplex at its opening
+pub opening : (r : Run) (h : List Event) (states : List InputState) (queues : List QueueValue) (buckets : List BucketValue) (clock : ClockValue) (turn : TurnValue) (packets : List (List ℕ)) → IsMultiplexPlan r.plan → r.limit ≤ MAX_SLOTS
+    → h ≡ [] → states ≡ map (state_of []) (range_with_len 0 (length r.plan.request.inputs)) → queues ≡ map (queue_of r.plan.request.queue []) r.plan.request.streams → buckets ≡ map (empty_bucket r.plan.request.rate) r.plan.request.streams
+    → clock ≡ clock_at r.plan.request.rate 0 → turn ≡ turn_at r.plan 0 → packets ≡ []
+    → IsKept r h states queues buckets clock turn packets (record { tables = 0; elementary = 0; null = 0 })
+opening r h states queues buckets clock turn packets plan limit none s q b t u ps =
+    let P : List Event → Type 0 = λ es. IsKept r es states queues buckets clock turn packets (record { tables = 0; elementary = 0; null = 0 }) in
+    let start : AgreesWith r [] states queues = record { plan = plan; limit = limit; lawful = tt; within = omega arith; states_are = s; queues_are = q } in
+    subst P (sym none) (record { agrees = start; buckets_are = buckets_none r.plan buckets plan b; clock_is = t; turn_is = u; packets_are = ps; counts_are = refl })
+
 -- nothing went out with the event
-same_output : {r : Run} {h : List Event} {states : List InputState} {queues : List QueueValue} {clock : ClockValue} {turn : TurnValue} {packets : List (List ℕ)} {counts : Counts}
-    → IsKept r h states queues clock turn packets counts → (after : List Event) (now_states : List InputState) (now_queues : List QueueValue)
+same_output : {r : Run} {h : List Event} {states : List InputState} {queues : List QueueValue} {buckets : List BucketValue} {clock : ClockValue} {turn : TurnValue} {packets : List (List ℕ)} {counts : Counts}
+    → IsKept r h states queues buckets clock turn packets counts → (after : List Event) (now_states : List InputState) (now_queues : List QueueValue)
     → emitted r.plan after ≡ emitted r.plan h → contents after ≡ contents h → slots after ≡ slots h → AgreesWith r after now_states now_queues
-    → IsKept r after now_states now_queues clock turn packets counts
-same_output {r} {h} k after now_states now_queues e c m a = record {
+    → IsKept r after now_states now_queues buckets clock turn packets counts
+same_output {r} {h} {states} {queues} {buckets} k after now_states now_queues e c m a = record {
   agrees = a;
+  buckets_are = let P : List (List ℕ) → Type 0 = λ out. AreBuckets r.plan out buckets in subst P (sym e) k.buckets_are;
   packets_are = k.packets_are ∙ sym e;
   counts_are = k.counts_are ∙ sym (same_counts h after c);
   clock_is = k.clock_is ∙ ap (clock_at r.plan.request.rate) (sym m);
@@ -81,11 +98,11 @@ closes_one : (h : List Event) (i : ℕ) (x : InputState) → x ≡ state_of h i 
 closes_one h i x is = ap (λ (y : InputState). record y { closed = true }) is ∙ ap (λ b. let x : InputState = record (state_of h i) { closed = b || is_closed i h } in x) (sym (eq-eqb i i refl))
 
 -- an input is closed
-pub closing : {r : Run} {h : List Event} {states : List InputState} {queues : List QueueValue} {clock : ClockValue} {turn : TurnValue} {packets : List (List ℕ)} {counts : Counts}
-    → IsKept r h states queues clock turn packets counts → (after : List Event) (i : ℕ) (x : InputState)
+pub closing : {r : Run} {h : List Event} {states : List InputState} {queues : List QueueValue} {buckets : List BucketValue} {clock : ClockValue} {turn : TurnValue} {packets : List (List ℕ)} {counts : Counts}
+    → IsKept r h states queues buckets clock turn packets counts → (after : List Event) (i : ℕ) (x : InputState)
     → after ≡ Close i ∷ h → i < length r.plan.request.inputs → x ≡ get_or states i x → x.closed ≡ false
-    → IsKept r after (set states i (record x { closed = true })) queues clock turn packets counts
-closing {r} {h} {states} {queues} {clock} {turn} {packets} {counts} kept after i x e l at open_ =
+    → IsKept r after (set states i (record x { closed = true })) queues buckets clock turn packets counts
+closing {r} {h} {states} {queues} {buckets} {clock} {turn} {packets} {counts} kept after i x e l at open_ =
     let k = kept.agrees in
     let is : x ≡ state_of h i = state_at k i x l at in
     let inputs = length r.plan.request.inputs in
@@ -97,7 +114,7 @@ closing {r} {h} {states} {queues} {clock} {turn} {packets} {counts} kept after i
       states_are = ap (λ ys. set ys i (record x { closed = true })) k.states_are ∙ ap (set (map (state_of h) (range_with_len 0 inputs)) i) (closes_one h i x is) ∙ set_state (state_of h) (state_of (Close i ∷ h)) inputs i l (closes_others h i);
       queues_are = k.queues_are;
     } in
-    let P : List Event → Type 0 = λ es. IsKept r es (set states i (record x { closed = true })) queues clock turn packets counts in
+    let P : List Event → Type 0 = λ es. IsKept r es (set states i (record x { closed = true })) queues buckets clock turn packets counts in
     subst P (sym e) (same_output kept (Close i ∷ h) (set states i (record x { closed = true })) queues refl refl refl done)
 
 notes_others : (h : List Event) (st : Stream) (i j : ℕ) → j ≢ i → state_of h j ≡ state_of (Full i st ∷ h) j
@@ -107,11 +124,11 @@ notes_one : (h : List Event) (st : Stream) (i : ℕ) (x : InputState) → x ≡ 
 notes_one h st i x is = ap (λ (y : InputState). record y { full_noted = true }) is ∙ ap (λ b. let x : InputState = record (state_of h i) { full_noted = b || full_noted i h } in x) (sym (eq-eqb i i refl))
 
 -- a full queue is noted
-pub noting : {r : Run} {h : List Event} {states : List InputState} {queues : List QueueValue} {clock : ClockValue} {turn : TurnValue} {packets : List (List ℕ)} {counts : Counts}
-    → IsKept r h states queues clock turn packets counts → (after : List Event) (i : ℕ) (st : Stream) (x : InputState)
+pub noting : {r : Run} {h : List Event} {states : List InputState} {queues : List QueueValue} {buckets : List BucketValue} {clock : ClockValue} {turn : TurnValue} {packets : List (List ℕ)} {counts : Counts}
+    → IsKept r h states queues buckets clock turn packets counts → (after : List Event) (i : ℕ) (st : Stream) (x : InputState)
     → after ≡ Full i st ∷ h → i < length r.plan.request.inputs → x ≡ get_or states i x → MayNoteFull r.plan h i st
-    → IsKept r after (set states i (record x { full_noted = true })) queues clock turn packets counts
-noting {r} {h} {states} {queues} {clock} {turn} {packets} {counts} kept after i st x e l at may =
+    → IsKept r after (set states i (record x { full_noted = true })) queues buckets clock turn packets counts
+noting {r} {h} {states} {queues} {buckets} {clock} {turn} {packets} {counts} kept after i st x e l at may =
     let k = kept.agrees in
     let is : x ≡ state_of h i = state_at k i x l at in
     let inputs = length r.plan.request.inputs in
@@ -123,7 +140,7 @@ noting {r} {h} {states} {queues} {clock} {turn} {packets} {counts} kept after i 
       states_are = ap (λ ys. set ys i (record x { full_noted = true })) k.states_are ∙ ap (set (map (state_of h) (range_with_len 0 inputs)) i) (notes_one h st i x is) ∙ set_state (state_of h) (state_of (Full i st ∷ h)) inputs i l (notes_others h st i);
       queues_are = k.queues_are;
     } in
-    let P : List Event → Type 0 = λ es. IsKept r es (set states i (record x { full_noted = true })) queues clock turn packets counts in
+    let P : List Event → Type 0 = λ es. IsKept r es (set states i (record x { full_noted = true })) queues buckets clock turn packets counts in
     subst P (sym e) (same_output kept (Full i st ∷ h) (set states i (record x { full_noted = true })) queues refl refl refl done)
 
 -- the state of an input with one more packet taken
@@ -142,12 +159,12 @@ takes_one h item i x is =
     ∙ ap (λ b. let x : InputState = record (state_of h i) { last_stamp = cond b item.stamp (last_stamp i h); taken = length (cond b (taken i h ++ item ∷ []) (taken i h)) } in x) (sym (eq-eqb i i refl))
 
 -- a packet is taken for a stream
-pub taking : {r : Run} {h : List Event} {states : List InputState} {queues : List QueueValue} {clock : ClockValue} {turn : TurnValue} {packets : List (List ℕ)} {counts : Counts}
-    → IsKept r h states queues clock turn packets counts → (after : List Event) (i : ℕ) (item : Stamped) (k : ℕ) (st : Stream) (x : InputState) (q w : QueueValue)
+pub taking : {r : Run} {h : List Event} {states : List InputState} {queues : List QueueValue} {buckets : List BucketValue} {clock : ClockValue} {turn : TurnValue} {packets : List (List ℕ)} {counts : Counts}
+    → IsKept r h states queues buckets clock turn packets counts → (after : List Event) (i : ℕ) (item : Stamped) (k : ℕ) (st : Stream) (x : InputState) (q w : QueueValue)
     → after ≡ Took i item ∷ h → x ≡ get_or states i x → IsAt r.plan k st → q ≡ get_or queues k q → w ≡ record { items = q.items ++ item ∷ []; capacity = q.capacity }
     → MayTake r.plan h i item → IsTakenFor r.plan h i item st
-    → IsKept r after (set states i (with_taken x item)) (set queues k w) clock turn packets counts
-taking {r} {h} {states} {queues} {clock} {turn} {packets} {counts} whole after i item k st x q w e x_at at q_at w_is may taker =
+    → IsKept r after (set states i (with_taken x item)) (set queues k w) buckets clock turn packets counts
+taking {r} {h} {states} {queues} {buckets} {clock} {turn} {packets} {counts} whole after i item k st x q w e x_at at q_at w_is may taker =
     let kept = whole.agrees in
     let l = may.input in
     let inputs = length r.plan.request.inputs in
@@ -163,7 +180,7 @@ taking {r} {h} {states} {queues} {clock} {turn} {packets} {counts} whole after i
       states_are = ap (λ ys. set ys i (with_taken x item)) kept.states_are ∙ ap (set (map (state_of h) (range_with_len 0 inputs)) i) (takes_one h item i x is) ∙ set_state (state_of h) (state_of (Took i item ∷ h)) inputs i l (takes_others h item i);
       queues_are = ap (λ ys. set ys k w) kept.queues_are ∙ ap (set (map (queue_of capacity h) r.plan.request.streams) k) w' ∙ set_map_at (queue_of capacity h) (queue_of capacity (Took i item ∷ h)) r.plan.request.streams k st at (unqueued r.plan h i item st k kept.plan at taker);
     } in
-    let P : List Event → Type 0 = λ es. IsKept r es (set states i (with_taken x item)) (set queues k w) clock turn packets counts in
+    let P : List Event → Type 0 = λ es. IsKept r es (set states i (with_taken x item)) (set queues k w) buckets clock turn packets counts in
     subst P (sym e) (same_output whole (Took i item ∷ h) (set states i (with_taken x item)) (set queues k w) refl refl refl done)
 
 -- Slots.
@@ -173,14 +190,14 @@ abbrev pub turned : TurnValue → TurnValue
 turned t = record { rounds = t.rounds; slot = t.slot + 1 }
 
 -- a slot, whatever it carries
-sending : {r : Run} {h : List Event} {states : List InputState} {queues : List QueueValue} {clock : ClockValue} {turn : TurnValue} {packets : List (List ℕ)} {counts : Counts}
-    → IsKept r h states queues clock turn packets counts → (c : Content) (after : List Event) (now_states : List InputState) (now_queues : List QueueValue)
+sending : {r : Run} {h : List Event} {states : List InputState} {queues : List QueueValue} {buckets : List BucketValue} {clock : ClockValue} {turn : TurnValue} {packets : List (List ℕ)} {counts : Counts}
+    → IsKept r h states queues buckets clock turn packets counts → (c : Content) (after : List Event) (now_states : List InputState) (now_queues : List QueueValue) (now_buckets : List BucketValue)
     (now_clock : ClockValue) (now_turn : TurnValue) (now_packets : List (List ℕ)) (now_counts : Counts)
-    → after ≡ Slot c ∷ h → now_states ≡ map (state_of (Slot c ∷ h)) (range_with_len 0 (length r.plan.request.inputs)) → now_queues ≡ map (queue_of r.plan.request.queue (Slot c ∷ h)) r.plan.request.streams → now_clock ≡ advanced clock → now_turn ≡ turned turn
+    → after ≡ Slot c ∷ h → now_states ≡ map (state_of (Slot c ∷ h)) (range_with_len 0 (length r.plan.request.inputs)) → now_queues ≡ map (queue_of r.plan.request.queue (Slot c ∷ h)) r.plan.request.streams → AreBuckets r.plan (emitted r.plan (Slot c ∷ h)) now_buckets → now_clock ≡ advanced clock → now_turn ≡ turned turn
     → now_packets ≡ packets ++ packet_behind r.plan h (emitted r.plan h) c ∷ [] → now_counts ≡ counts_of (Slot c ∷ h)
     → slots h < r.limit → MaySend r.plan h c
-    → IsKept r after now_states now_queues now_clock now_turn now_packets now_counts
-sending {r} {h} {states} {queues} {clock} {turn} {packets} kept c after now_states now_queues now_clock now_turn now_packets now_counts e s q t u ps m within may =
+    → IsKept r after now_states now_queues now_buckets now_clock now_turn now_packets now_counts
+sending {r} {h} {states} {queues} {buckets} {clock} {turn} {packets} kept c after now_states now_queues now_buckets now_clock now_turn now_packets now_counts e s q bs t u ps m within may =
     let k = kept.agrees in
     let done : AgreesWith r (Slot c ∷ h) now_states now_queues = record {
       plan = k.plan;
@@ -190,42 +207,46 @@ sending {r} {h} {states} {queues} {clock} {turn} {packets} kept c after now_stat
       states_are = s;
       queues_are = q;
     } in
-    let all : IsKept r (Slot c ∷ h) now_states now_queues now_clock now_turn now_packets now_counts = record {
+    let all : IsKept r (Slot c ∷ h) now_states now_queues now_buckets now_clock now_turn now_packets now_counts = record {
       agrees = done;
+      buckets_are = bs;
       packets_are = ps ∙ ap (λ xs. xs ++ packet_behind r.plan h (emitted r.plan h) c ∷ []) kept.packets_are;
       counts_are = m;
       clock_is = t ∙ ap advanced kept.clock_is;
       turn_is = u ∙ ap turned kept.turn_is;
     } in
-    let P : List Event → Type 0 = λ es. IsKept r es now_states now_queues now_clock now_turn now_packets now_counts in
+    let P : List Event → Type 0 = λ es. IsKept r es now_states now_queues now_buckets now_clock now_turn now_packets now_counts in
     subst P (sym e) all
 
 -- a slot that carries nothing of an input
-sending_other : {r : Run} {h : List Event} {states : List InputState} {queues : List QueueValue} {clock : ClockValue} {turn : TurnValue} {packets : List (List ℕ)} {counts : Counts}
-    → IsKept r h states queues clock turn packets counts → (c : Content) (after : List Event) (now_states : List InputState) (now_clock : ClockValue) (now_turn : TurnValue) (now_packets : List (List ℕ)) (now_counts : Counts)
-    → after ≡ Slot c ∷ h → now_states ≡ map without_full states → now_clock ≡ advanced clock → now_turn ≡ turned turn → now_packets ≡ packets ++ packet_behind r.plan h (emitted r.plan h) c ∷ [] → now_counts ≡ counts_of (Slot c ∷ h)
+sending_other : {r : Run} {h : List Event} {states : List InputState} {queues : List QueueValue} {buckets : List BucketValue} {clock : ClockValue} {turn : TurnValue} {packets : List (List ℕ)} {counts : Counts}
+    → IsKept r h states queues buckets clock turn packets counts → (c : Content) (after : List Event) (now_states : List InputState) (now_buckets : List BucketValue) (now_clock : ClockValue) (now_turn : TurnValue) (now_packets : List (List ℕ)) (now_counts : Counts)
+    → after ≡ Slot c ∷ h → now_states ≡ map without_full states → AreBuckets r.plan (emitted r.plan (Slot c ∷ h)) now_buckets → now_clock ≡ advanced clock → now_turn ≡ turned turn → now_packets ≡ packets ++ packet_behind r.plan h (emitted r.plan h) c ∷ [] → now_counts ≡ counts_of (Slot c ∷ h)
     → map without_full (map (state_of h) (range_with_len 0 (length r.plan.request.inputs))) ≡ map (state_of (Slot c ∷ h)) (range_with_len 0 (length r.plan.request.inputs))
     → map (queue_of r.plan.request.queue h) r.plan.request.streams ≡ map (queue_of r.plan.request.queue (Slot c ∷ h)) r.plan.request.streams
-    → slots h < r.limit → MaySend r.plan h c → IsKept r after now_states queues now_clock now_turn now_packets now_counts
-sending_other {r} {h} {states} {queues} kept c after now_states now_clock now_turn now_packets now_counts e s t u ps m states_same queues_same within may =
+    → slots h < r.limit → MaySend r.plan h c → IsKept r after now_states queues now_buckets now_clock now_turn now_packets now_counts
+sending_other {r} {h} {states} {queues} kept c after now_states now_buckets now_clock now_turn now_packets now_counts e s bs t u ps m states_same queues_same within may =
     let k = kept.agrees in
-    sending kept c after now_states queues now_clock now_turn now_packets now_counts e (s ∙ ap (map without_full) k.states_are ∙ states_same) (k.queues_are ∙ queues_same) t u ps m within may
+    sending kept c after now_states queues now_buckets now_clock now_turn now_packets now_counts e (s ∙ ap (map without_full) k.states_are ∙ states_same) (k.queues_are ∙ queues_same) bs t u ps m within may
 
-pub sending_null : {r : Run} {h : List Event} {states : List InputState} {queues : List QueueValue} {clock : ClockValue} {turn : TurnValue} {packets : List (List ℕ)} {counts : Counts}
-    → IsKept r h states queues clock turn packets counts → (after : List Event) (now_states : List InputState) (now_clock : ClockValue) (now_turn : TurnValue) (now_packets : List (List ℕ))
-    → after ≡ Slot Null ∷ h → now_states ≡ map without_full states → now_clock ≡ advanced clock → now_turn ≡ turned turn → now_packets ≡ packets ++ packet_behind r.plan h (emitted r.plan h) Null ∷ []
-    → slots h < r.limit → MaySend r.plan h Null → IsKept r after now_states queues now_clock now_turn now_packets (record counts { null = counts.null + 1 })
-sending_null {r} {h} {states} {queues} {clock} {turn} {packets} {counts} kept after now_states now_clock now_turn now_packets e s t u ps within may =
-    sending_other kept Null after now_states now_clock now_turn now_packets (record counts { null = counts.null + 1 }) e s t u ps
+pub sending_null : {r : Run} {h : List Event} {states : List InputState} {queues : List QueueValue} {buckets : List BucketValue} {clock : ClockValue} {turn : TurnValue} {packets : List (List ℕ)} {counts : Counts}
+    → IsKept r h states queues buckets clock turn packets counts → (after : List Event) (now_states : List InputState) (now_buckets : List BucketValue) (now_clock : ClockValue) (now_turn : TurnValue) (now_packets : List (List ℕ))
+    → after ≡ Slot Null ∷ h → now_states ≡ map without_full states → MovedOn None buckets now_buckets → now_clock ≡ advanced clock → now_turn ≡ turned turn → now_packets ≡ packets ++ packet_behind r.plan h (emitted r.plan h) Null ∷ []
+    → slots h < r.limit → MaySend r.plan h Null → IsKept r after now_states queues now_buckets now_clock now_turn now_packets (record counts { null = counts.null + 1 })
+sending_null {r} {h} {states} {queues} {buckets} {clock} {turn} {packets} {counts} kept after now_states now_buckets now_clock now_turn now_packets e s moved t u ps within may =
+    sending_other kept Null after now_states now_buckets now_clock now_turn now_packets (record counts { null = counts.null + 1 }) e s
+    (buckets_moved r.plan (emitted r.plan h) null_packet None buckets now_buckets kept.buckets_are moved (null_of_none r.plan kept.agrees.plan) (λ k b yes there. absurd (false≢true yes))) t u ps
     (ap (λ (x : Counts). let y : Counts = record x { null = x.null + 1 } in y) kept.counts_are ∙ counts_null h)
     (map-map without_full (state_of h) (range_with_len 0 (length r.plan.request.inputs))) refl within may
 
-pub sending_table : {r : Run} {h : List Event} {states : List InputState} {queues : List QueueValue} {clock : ClockValue} {turn : TurnValue} {packets : List (List ℕ)} {counts : Counts}
-    → IsKept r h states queues clock turn packets counts → (place : TablePlace) (after : List Event) (now_states : List InputState) (now_clock : ClockValue) (now_turn : TurnValue) (now_packets : List (List ℕ))
-    → after ≡ Slot (Table place) ∷ h → now_states ≡ map without_full states → now_clock ≡ advanced clock → now_turn ≡ turned turn → now_packets ≡ packets ++ packet_behind r.plan h (emitted r.plan h) (Table place) ∷ []
-    → slots h < r.limit → MaySend r.plan h (Table place) → IsKept r after now_states queues now_clock now_turn now_packets (record counts { tables = counts.tables + 1 })
-sending_table {r} {h} {states} {queues} {clock} {turn} {packets} {counts} kept place after now_states now_clock now_turn now_packets e s t u ps within may =
-    sending_other kept (Table place) after now_states now_clock now_turn now_packets (record counts { tables = counts.tables + 1 }) e s t u ps
+pub sending_table : {r : Run} {h : List Event} {states : List InputState} {queues : List QueueValue} {buckets : List BucketValue} {clock : ClockValue} {turn : TurnValue} {packets : List (List ℕ)} {counts : Counts}
+    → IsKept r h states queues buckets clock turn packets counts → (place : TablePlace) (after : List Event) (now_states : List InputState) (now_buckets : List BucketValue) (now_clock : ClockValue) (now_turn : TurnValue) (now_packets : List (List ℕ))
+    → after ≡ Slot (Table place) ∷ h → now_states ≡ map without_full states → MovedOn None buckets now_buckets → now_clock ≡ advanced clock → now_turn ≡ turned turn → now_packets ≡ packets ++ packet_behind r.plan h (emitted r.plan h) (Table place) ∷ []
+    → slots h < r.limit → MaySend r.plan h (Table place) → IsKept r after now_states queues now_buckets now_clock now_turn now_packets (record counts { tables = counts.tables + 1 })
+sending_table {r} {h} {states} {queues} {buckets} {clock} {turn} {packets} {counts} kept place after now_states now_buckets now_clock now_turn now_packets e s moved t u ps within may =
+    let q = packet_behind r.plan h (emitted r.plan h) (Table place) in
+    sending_other kept (Table place) after now_states now_buckets now_clock now_turn now_packets (record counts { tables = counts.tables + 1 }) e s
+    (buckets_moved r.plan (emitted r.plan h) q None buckets now_buckets kept.buckets_are moved (table_of_none r.plan h place kept.agrees.plan may.content) (λ k b yes there. absurd (false≢true yes))) t u ps
     (ap (λ (x : Counts). let y : Counts = record x { tables = x.tables + 1 } in y) kept.counts_are ∙ counts_table place h)
     (map-map without_full (state_of h) (range_with_len 0 (length r.plan.request.inputs))) refl within may
 
@@ -247,13 +268,13 @@ cleared_at {r} {h} k cleared s i x l at =
     let inputs = length r.plan.request.inputs in
     at ∙ ap (λ ys. get_or ys i x) (s ∙ ap (map without_full) k.states_are ∙ map-map without_full (state_of h) (range_with_len 0 inputs)) ∙ get_or-map-range_with_len before 0 inputs i i x l (omega arith)
 
-pub sending_head : {r : Run} {h : List Event} {states : List InputState} {queues : List QueueValue} {clock : ClockValue} {turn : TurnValue} {packets : List (List ℕ)} {counts : Counts}
-    → IsKept r h states queues clock turn packets counts → (k : ℕ) (st : Stream) (x : InputState) (q w : QueueValue) (after : List Event) (cleared : List InputState) (now_clock : ClockValue) (now_turn : TurnValue) (now_packets : List (List ℕ))
+pub sending_head : {r : Run} {h : List Event} {states : List InputState} {queues : List QueueValue} {buckets : List BucketValue} {clock : ClockValue} {turn : TurnValue} {packets : List (List ℕ)} {counts : Counts}
+    → IsKept r h states queues buckets clock turn packets counts → (k : ℕ) (st : Stream) (x : InputState) (q w : QueueValue) (after : List Event) (cleared : List InputState) (now_buckets : List BucketValue) (now_clock : ClockValue) (now_turn : TurnValue) (now_packets : List (List ℕ))
     → after ≡ Slot (Elementary st) ∷ h → cleared ≡ map without_full states → x ≡ get_or cleared st.input x → st.input < length r.plan.request.inputs → IsAt r.plan k st
-    → q ≡ get_or queues k q → w ≡ record { items = drop 1 q.items; capacity = q.capacity }
+    → q ≡ get_or queues k q → w ≡ record { items = drop 1 q.items; capacity = q.capacity } → MovedOn (Some k) buckets now_buckets
     → now_clock ≡ advanced clock → now_turn ≡ turned turn → now_packets ≡ packets ++ packet_behind r.plan h (emitted r.plan h) (Elementary st) ∷ [] → slots h < r.limit → MaySend r.plan h (Elementary st)
-    → IsKept r after (set cleared st.input (with_sent x)) (set queues k w) now_clock now_turn now_packets (record counts { elementary = counts.elementary + 1 })
-sending_head {r} {h} {states} {queues} {clock} {turn} {packets} {counts} whole k st x q w after cleared now_clock now_turn now_packets e s x_at l at q_at w_is t u ps within may =
+    → IsKept r after (set cleared st.input (with_sent x)) (set queues k w) now_buckets now_clock now_turn now_packets (record counts { elementary = counts.elementary + 1 })
+sending_head {r} {h} {states} {queues} {buckets} {clock} {turn} {packets} {counts} whole k st x q w after cleared now_buckets now_clock now_turn now_packets e s x_at l at q_at w_is moved t u ps within may =
     let kept = whole.agrees in
     let inputs = length r.plan.request.inputs in
     let capacity = r.plan.request.queue in
@@ -262,9 +283,11 @@ sending_head {r} {h} {states} {queues} {clock} {turn} {packets} {counts} whole k
     let x_is : x ≡ before st.input = cleared_at kept cleared s st.input x l x_at in
     let q_is : q ≡ queue_of capacity h st = queue_at kept k st q at q_at in
     let w' : w ≡ queue_of capacity (Slot (Elementary st) ∷ h) st = w_is ∙ ap (λ (y : QueueValue). let z : QueueValue = record { items = drop 1 y.items; capacity = y.capacity } in z) q_is ∙ sent_queue capacity h st in
-    sending whole (Elementary st) after (set cleared st.input (with_sent x)) (set queues k w) now_clock now_turn now_packets (record counts { elementary = counts.elementary + 1 }) e
+    sending whole (Elementary st) after (set cleared st.input (with_sent x)) (set queues k w) now_buckets now_clock now_turn now_packets (record counts { elementary = counts.elementary + 1 }) e
     (ap (λ ys. set ys st.input (with_sent x)) cleared_is ∙ ap (set (map before (range_with_len 0 inputs)) st.input) (ap with_sent x_is ∙ sends_one h st) ∙ set_state before (state_of (Slot (Elementary st) ∷ h)) inputs st.input l (sends_others h st))
     (ap (λ ys. set ys k w) kept.queues_are ∙ ap (set (map (queue_of capacity h) r.plan.request.streams) k) w' ∙ set_map_at (queue_of capacity h) (queue_of capacity (Slot (Elementary st) ∷ h)) r.plan.request.streams k st at (unsent_queue r.plan h st k kept.plan at))
+    (buckets_moved r.plan (emitted r.plan h) (packet_behind r.plan h (emitted r.plan h) (Elementary st)) (Some k) buckets now_buckets whole.buckets_are moved
+    (stream_of_place r.plan h k st kept.plan kept.lawful at may.content) (chosen_has_room r.plan h buckets k st kept.plan kept.lawful whole.buckets_are at may.content))
     t u ps (ap (λ (x : Counts). let y : Counts = record x { elementary = x.elementary + 1 } in y) whole.counts_are ∙ counts_elementary st h) within may
 
 -- the packet that carries a stream's head

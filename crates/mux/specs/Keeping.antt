@@ -6,6 +6,7 @@ use Rattle.mux.specs.declared.event.Event.{Event}
 use Rattle.request.specs.declared.stream.Stream.{Stream}
 use Rattle.mux.specs.declared.input_state.InputState.{InputState}
 use Rattle.buffers.specs.QueueValue.{QueueValue}
+use Rattle.buffers.specs.BucketValue.{BucketValue}
 use Rattle.rounds.specs.Turn.{TurnValue}
 use Rattle.mux.specs.SlotClock.{ClockValue, clock_at}
 use Rattle.plan.specs.Build.{PlanValue}
@@ -14,6 +15,7 @@ use Rattle.mux.specs.History.{Run, taken, queue, slots, last_stamp, is_closed, f
 use Rattle.mux.specs.declared.counts.Counts.{Counts}
 use Rattle.mux.specs.Totals.{contents, is_of_input, is_elementary, is_table, is_null}
 use Rattle.mux.specs.Lawful.{IsLawful}
+use Rattle.mux.specs.Buckets.{AreBuckets}
 
 -- what is kept of an input
 abbrev pub state_of : List Event → ℕ → InputState
@@ -55,10 +57,11 @@ counts_of h = record {
   null = count_by is_null (contents h);
 }
 
--- and so do the clock and the tables' turn, the packets that went out, and how many were of what
+-- and so do the buckets, the clock and the tables' turn, the packets that went out, and how many were of what
 pub record IsKept (r : Run) (h : List Event) (states : List InputState) (queues : List QueueValue)
-    (clock : ClockValue) (turn : TurnValue) (packets : List (List ℕ)) (counts : Counts) : Type 0 where
+    (buckets : List BucketValue) (clock : ClockValue) (turn : TurnValue) (packets : List (List ℕ)) (counts : Counts) : Type 0 where
   pub agrees : AgreesWith r h states queues
+  pub buckets_are : AreBuckets r.plan (emitted r.plan h) buckets
   pub clock_is : clock ≡ clock_at r.plan.request.rate (slots h)
   pub turn_is : turn ≡ turn_at r.plan (slots h)
   pub packets_are : packets ≡ emitted r.plan h

@@ -1,6 +1,6 @@
 -- Which events may follow which: the rules by which a multiplex takes packets, notes a full queue, closes an input
 -- and sends a slot (profile). A history is lawful where each of its events could come when it came.
-use Rattle.std.specs.Prelude.{ℕ, List, [], ◌∷◌, ◌≡◌, ◌<◌, ◌≤◌, ◌⊎◌, Bool, false, ◌&&◌, ◌||◌, ◌==◌, not, nat_lt, if◌then◌else◌, length, Option, Some, None, IsTrue, Contains}
+use Rattle.std.specs.Prelude.{ℕ, List, [], ◌∷◌, ◌++◌, ◌≡◌, ◌<◌, ◌≤◌, ◌⊎◌, Bool, false, ◌&&◌, ◌||◌, ◌==◌, not, nat_lt, if◌then◌else◌, length, Option, Some, None, IsTrue, Contains}
 use Rattle.std.specs.List.{slice_get, list_any}
 use Rattle.tspkt.specs.Packet.{IsPacket}
 use Rattle.tspkt.specs.declared.stamped.Stamped.{Stamped}
@@ -12,7 +12,8 @@ use Rattle.mux.specs.declared.content.Content.TheVariants.{Null, Elementary, Tab
 use Rattle.mux.specs.declared.event.Event.{Event}
 use Rattle.mux.specs.declared.event.Event.TheVariants as events
 use Rattle.plan.specs.Build.{PlanValue}
-use Rattle.mux.specs.History.{Run, in_force, is_mapped_to, queue, slots, slot_time, last_stamp, is_closed, full_noted}
+use Rattle.emission.specs.TableBuffers.{BufferFits}
+use Rattle.mux.specs.History.{Run, in_force, is_mapped_to, queue, slots, slot_time, last_stamp, is_closed, full_noted, sent_packet, emitted}
 
 -- The next slot can't get an earlier packet of the input: it is closed, or its last stamp is past
 -- the slot's time, or a full queue of it was noted since the last turn.
@@ -27,11 +28,13 @@ pub record IsDone (p : PlanValue) (h : List Event) : Type 0 where
   pub closed : (i : ℕ) → i < length p.request.inputs → IsTrue (is_closed i h)
   pub empty : (st : Stream) → Contains p.request.streams st → queue st h ≡ []
 
--- The stream's transport buffer has room for the packet of this item: transport buffers aren't followed yet.
+-- The next slot may carry the packet of this item: with it behind what went out, the stream's transport buffer held no
+-- more than 512 bytes, at each byte (ISO/IEC 13818-1, 2.4.2).
 abbrev pub Fits : PlanValue → List Event → Stream → Stamped → Type 0
-Fits p h st item = Unit {0}
+Fits p h st item =
+    BufferFits p.request.rate st.leak (st.output_pid ∷ []) (emitted p h ++ sent_packet p (slots h) st (Some item) ∷ [])
 
--- the item is the head of its stream's queue, is due in the next slot, and fits its buffer
+-- the item is the head of its stream's queue, is due in the next slot, and its packet fits the stream's transport buffer
 pub record IsEligible (p : PlanValue) (h : List Event) (st : Stream) (item : Stamped) : Type 0 where
   pub stream : Contains (in_force p h).request.streams st
   pub head : slice_get (queue st h) 0 ≡ Some item

@@ -3,10 +3,12 @@ pub mod History
 pub mod Lawful
 pub mod Answers
 pub mod Totals
-pub mod Output
+pub mod Headline
 pub mod Faithful
 pub mod SlotClock
 pub mod PidCounters
 pub mod Stored
+pub mod Buckets
+pub mod KeptBucket
 pub mod Keeping
 pub mod Choosing

@@ -2,7 +2,7 @@
 
 use request::Stream;
 
-/// A stream whose head is due, with its place in the plan.
+/// A stream whose head is due and fits its transport buffer, with its place in the plan.
 #[derive(Clone, Copy)]
 pub(crate) struct Candidate {
     pub place: usize,

@@ -6,10 +6,11 @@ ghost use Rattle.tspkt.specs.declared.stamped.Stamped.{Stamped};
 ghost use Rattle.request.specs.declared.stream.Stream.{Stream};
 ghost use Rattle.mux.specs.declared.input_state.InputState.{InputState};
 ghost use Rattle.mux.specs.Keeping.{ready_at, without_full};
-ghost use Rattle.mux.specs.Choosing.{IsFirstOf, IsDueHead, IsFirstDueHead};
+ghost use Rattle.mux.specs.Choosing.{Leads, Follows, IsBetterHead, IsNoBetterHead, IsEligibleHead, IsFirstHead};
 
 use crate::candidate::Candidate;
 use crate::input_state::InputState;
+use crate::progress::Progress;
 use buffers::PidQueue;
 use request::Stream;
 
@@ -52,55 +53,68 @@ pub(crate) fn clear_full(inputs: &mut Vec<InputState>)
     }
 }
 
-/// The time of a queue's head, if it is due.
-fn due_head(queue: &PidQueue, now: u64) -> Option<u64>
-    ensures some { IfSome result (λ stamp. (item : Stamped) × (slice_get queue.now.items 0 ≡ Some item)
-        × (item.stamp ≡ stamp) × (stamp ≤ now)) }
-    ensures none { IfNone result ((item : Stamped)
-        → slice_get queue.now.items 0 ≡ Some item → item.stamp ≤ now → ⊥) }
-{
-    let stamp = queue.head()?.stamp;
-    if stamp <= now { Some(stamp) } else { None }
-}
-
-/// The one of two that goes first.
-fn first_of(best: Option<Candidate>, next: Candidate) -> Candidate
-    ensures { IsFirstOf best next result }
+/// Whether the next of two goes before the best so far, if there is one.
+fn goes_first(best: Option<Candidate>, next: Candidate) -> bool
+    ensures yes { result ≡ true → Leads best next }
+    ensures no { result ≡ false → Follows best next }
 {
     match best {
-        None => next,
+        None => true,
         Some(b) => {
-            if next.stamp < b.stamp
+            next.stamp < b.stamp
                 || next.stamp == b.stamp && next.stream.output_pid < b.stream.output_pid
-            {
-                next
-            } else {
-                b
-            }
         }
     }
 }
 
-/// Of the heads that are due the one that goes first: that of the least time, and of these that of
-/// the least output PID.
-pub(crate) fn choose(streams: &[Stream], queues: &[PidQueue], now: u64) -> Option<Candidate>
-    requires { length streams.now ≡ length queues.now }
+/// The head of the queue at a place, if its time isn't after the limit, it goes before the best so far, and its stream's
+/// bucket has room.
+fn better_head(
+    best: Option<Candidate>,
+    place: usize,
+    stream: Stream,
+    queue: &PidQueue,
+    progress: &Progress,
+    limit: u64,
+) -> Option<Candidate>
+    requires { place < length progress.now.buckets }
+    ensures some { IfSome result (IsBetterHead best place stream queue.now progress.now.buckets limit) }
+    ensures none { IfNone result (IsNoBetterHead best place stream queue.now progress.now.buckets limit) }
+{
+    let stamp = queue.first_due(limit)?;
+    let next = Candidate {
+        place,
+        stream,
+        stamp,
+    };
+    if goes_first(best, next) && progress.bucket(place).fits() {
+        Some(next)
+    } else {
+        None
+    }
+}
+
+/// Of the heads that are due, and that their streams' buckets have room for, the one that goes
+/// first: that of the least time, and of these that of the least output PID.
+pub(crate) fn choose(
+    streams: &[Stream],
+    queues: &[PidQueue],
+    progress: &Progress,
+    now: u64,
+) -> Option<Candidate>
+    requires queues { length streams.now ≡ length queues.now }
+    requires buckets { length streams.now ≡ length progress.now.buckets }
     ensures none { IfNone result ((k : ℕ) (st : Stream) (item : Stamped)
-        → IsDueHead streams.now queues.now now k st item → ⊥) }
-    ensures some { IfSome result (IsFirstDueHead streams.now queues.now now) }
+        → IsEligibleHead streams.now queues.now progress.now.buckets now k st item → ⊥) }
+    ensures some { IfSome result (IsFirstHead streams.now queues.now progress.now.buckets now) }
 {
     let mut best: Option<Candidate> = None;
+    // No head of a later time goes before the best, so most queues are passed over by one comparison.
+    let mut limit = now;
     for (i, stream) in streams.iter().enumerate() {
-        let queue = &queues[i];
-        if let Some(stamp) = due_head(queue, now) {
-            best = Some(first_of(
-                best,
-                Candidate {
-                    place: i,
-                    stream: *stream,
-                    stamp,
-                },
-            ));
+        if let Some(next) = better_head(best, i, *stream, &queues[i], progress, limit) {
+            best = Some(next);
+            limit = next.stamp;
         }
     }
     best

@@ -2,8 +2,9 @@
 //!
 //! A `Plan` says which streams go into the multiplex, how fast it runs, and which slots carry its tables. A `Mux` takes
 //! packets of the inputs, in the order of their times, and sends one packet a slot: the table packet whose turn it is, else
-//! the queued packet that is due first, else a null packet. It answers that an input isn't ready where the next packet of
-//! that input might still go first, so what is sent doesn't depend on the order in which the inputs are read.
+//! the queued packet that is due first, of those that their streams' transport buffers have room for, else a null packet.
+//! It answers that an input isn't ready where the next packet of that input might still go first, so what is sent doesn't
+//! depend on the order in which the inputs are read.
 //!
 //! Contracts see a `Mux` as its `History`: the plan, the limit of slots, and the events since it was opened. Each call
 //! adds exactly one event, or none.
@@ -15,10 +16,12 @@ mod content;
 mod counts;
 mod event;
 mod input_state;
+mod kept_bucket;
 pub mod laws;
 mod mux;
 mod output;
 mod pid_counters;
+mod progress;
 mod slot;
 mod slot_clock;
 mod stored_event;

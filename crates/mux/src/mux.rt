@@ -13,7 +13,7 @@ ghost use Rattle.mux.specs.History.{opened, with_event, is_mapped_to, is_closed,
 ghost use Rattle.mux.specs.Lawful.{is_mapped, MayTake, MayNoteFull, IsDone, AllReady, IsContent, MaySend};
 ghost use Rattle.mux.specs.Answers.{TakeAnswers, SlotAnswers, Sends, IsLeastUnready};
 ghost use Rattle.mux.specs.Totals.{IsTotals, IsCounts};
-ghost use Rattle.mux.specs.Output.{IsSound};
+ghost use Rattle.mux.specs.Headline.{IsSound, IsLevelOf};
 ghost use Rattle.mux.specs.Keeping.{state_of, queue_of};
 
 use crate::candidate::Candidate;
@@ -21,8 +21,8 @@ use crate::choice::{all_closed, all_empty, choose, clear_full, first_unready};
 use crate::counts::Counts;
 use crate::input_state::InputState;
 use crate::output::Output;
+use crate::progress::Progress;
 use crate::slot::Slot;
-use crate::slot_clock::SlotClock;
 use crate::stored_event::StoredEvent;
 use crate::taken::Taken;
 use crate::totals::Totals;
@@ -46,8 +46,8 @@ pub struct Mux {
     taken: Vec<Stamped>,
     inputs: Vec<InputState>,
     queues: Vec<PidQueue>,
+    progress: Progress,
     output: Output,
-    clock: SlotClock,
     turn: TableTurn,
     counts: Counts,
 }
@@ -68,7 +68,7 @@ impl Model for Mux {
     ghost invariant = { λ m. IsKept
         (record { plan = m.plan; limit = m.limit })
         (history_of m.plan.request.streams (reverse m.stored.items) (reverse m.taken.items))
-        m.inputs.items m.queues.items m.clock m.turn m.output m.counts };
+        m.inputs.items m.queues.items m.progress.buckets m.progress.clock m.turn m.output m.counts };
 }
 
 /// What is kept of so many inputs before the first packet.
@@ -108,15 +108,15 @@ fn new_queues(
 impl Mux {
     /// A multiplex of this plan with nothing taken or sent, for at most this many slots (at most 1,000,000).
     pub fn open(alloc: Global, plan: Plan, slots: u64) -> Result<Mux, AllocError>
-        requires { slots ≤ MAX_SLOTS }
+        requires { slots ≤ 1000000 }
         ensures { IfOk result (λ m. m ≡ opened plan slots) }
     {
         let _ = plan.request().rate();
         let _ = plan.rounds().rate();
-        let clock = SlotClock::new(plan.rate());
         let turn = TableTurn::new(plan.rounds());
         let inputs = new_states(alloc, plan.inputs().len())?;
         let queues = new_queues(alloc, plan.streams(), plan.request().queue())?;
+        let progress = Progress::new(alloc, plan.rate(), plan.streams())?;
         Ok(Mux {
             plan,
             limit: slots,
@@ -124,8 +124,8 @@ impl Mux {
             taken: Vec::new(alloc),
             inputs,
             queues,
+            progress,
             output: Output::new(alloc)?,
-            clock,
             turn,
             counts: Counts {
                 tables: 0,
@@ -169,6 +169,16 @@ impl Mux {
         ensures { IsCounts self.now.events result }
     {
         self.counts
+    }
+
+    /// The level of a stream's transport buffer (ISO/IEC 13818-1, 2.4.2) after the last slot, in bits a second times bytes:
+    /// 512 bytes are 512 times the rate of the multiplex. The stream is named by its number. Before the first slot it is 0.
+    pub fn level(&self, stream: usize) -> u64
+        requires { stream < length self.now.run.plan.request.streams }
+        ensures { (st : Stream) → slice_get self.now.run.plan.request.streams stream ≡ Some st
+            → IsLevelOf self.now.run.plan self.now.events st result }
+    {
+        self.progress.bucket(stream).level()
     }
 
     /// What is kept of an input.
@@ -298,14 +308,14 @@ impl Mux {
         ensures full { result ≡ true → self.now.run.limit ≤ slots self.now.events }
         ensures within { result ≡ false → slots self.now.events < self.now.run.limit }
     {
-        self.limit <= self.clock.slot()
+        self.limit <= self.progress.slot()
     }
 
     /// When the next slot goes out, in ticks of 27 MHz.
     fn now(&self) -> u64
         ensures { result ≡ slot_time self.now.run.plan (slots self.now.events) }
     {
-        self.clock.time()
+        self.progress.time()
     }
 
     /// The least input that isn't ready for the next slot, which goes out now.
@@ -326,7 +336,12 @@ impl Mux {
             (slice_get self.now.run.plan.request.streams c.place ≡ Some c.stream)
             × IsContent self.now.run.plan self.now.events (Content.Elementary c.stream)) }
     {
-        choose(self.plan.streams(), self.queues.as_slice(), now)
+        choose(
+            self.plan.streams(),
+            self.queues.as_slice(),
+            &self.progress,
+            now,
+        )
     }
 
     /// The table packet whose turn it is in the next slot, or none where that has no table.
@@ -362,7 +377,7 @@ impl Mux {
         self.output.push(packet)?;
         self.stored.push_reserved(StoredEvent::table(place));
         clear_full(&mut self.inputs);
-        self.clock.advance();
+        self.progress.pass();
         self.turn.advance();
         self.counts.tables += 1;
         Ok(packet)
@@ -380,7 +395,7 @@ impl Mux {
         self.output.push(packet)?;
         self.stored.push_reserved(StoredEvent::Null);
         clear_full(&mut self.inputs);
-        self.clock.advance();
+        self.progress.pass();
         self.turn.advance();
         self.counts.null += 1;
         Ok(packet)
@@ -396,15 +411,15 @@ impl Mux {
         ensures err { OnErr result (self.new ≡ self.old) }
     {
         self.stored.reserve(1)?;
-        let item = *self.queues[place].head().unwrap();
+        let item = self.queues[place].head().unwrap();
         let packet = rewrite(&item.packet, stream.output_pid, now - item.stamp);
         self.output.push(packet)?;
         let _ = self.queues[place].take();
         self.stored
             .push_reserved(StoredEvent::Elementary(place as u8));
         clear_full(&mut self.inputs);
+        self.progress.send(place);
         self.inputs[stream.input].sent += 1;
-        self.clock.advance();
         self.turn.advance();
         self.counts.elementary += 1;
         Ok(packet)
@@ -413,8 +428,10 @@ impl Mux {
     /// Sends the next slot, where the run isn't done, has slots left, and each input is ready; in this order.
     ///
     /// An input is ready where it is closed, or its packet last taken comes after the slot, or a full queue of it was
-    /// noted since the last slot. A table slot carries its table packet. Each other slot carries the packet that is due and
-    /// has the least time, of equal times that with the least output PID, or a null packet where none is due.
+    /// noted since the last slot. A table slot carries its table packet. Each other slot carries, of the packets that wait
+    /// first in their streams' queues, are due, and leave no more than 512 bytes in their streams' transport buffers at
+    /// each byte, the one of the least time, of equal times that with the least output PID; or a null packet where there
+    /// is none. A packet that its buffer has no room for holds back no packet of another stream.
     pub fn slot(&mut self) -> Slot
         ensures answer { SlotAnswers self.old result self.new }
         ensures run { self.new.run ≡ self.old.run }

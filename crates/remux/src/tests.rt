@@ -5,3 +5,4 @@ mod helpers;
 mod inputs;
 mod memory;
 mod table_slots;
+mod transport_buffers;

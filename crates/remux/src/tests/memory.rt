@@ -70,6 +70,8 @@ fn closes_at_last(rt: &impl Abort, mux: &mut Mux)
     }
 }
 
+/// The list of events grows with the first, the fifth and the ninth of them: a packet that is taken, a full queue and a close.
+/// That of the packets that went out grows with the first slot and the fifth.
 #[test]
 fn refused_memory_changes_nothing(rt: HostRuntime) {
     let mut mux = opens_at_last(&rt, rt.alloc());
@@ -78,11 +80,16 @@ fn refused_memory_changes_nothing(rt: HostRuntime) {
         sent: 0,
         queued: 0,
     };
-    takes_at_last(&rt, &mut mux, item(&rt, 0, 0), none);
-    notes_at_last(&rt, &mut mux, item(&rt, 1, 0));
+    takes_at_last(&rt, &mut mux, item(&rt, 5, 0), none);
     sends_at_last(&rt, &mut mux, 0);
-    closes_at_last(&rt, &mut mux);
     sends_at_last(&rt, &mut mux, 1);
+    sends_at_last(&rt, &mut mux, 2);
+    notes_at_last(&rt, &mut mux, item(&rt, 6, 0));
+    sends_at_last(&rt, &mut mux, 3);
+    sends_at_last(&rt, &mut mux, 4);
+    notes_at_last(&rt, &mut mux, item(&rt, 6, 0));
+    closes_at_last(&rt, &mut mux);
+    sends_at_last(&rt, &mut mux, 5);
     assert!(rt; matches!(&mux.slot(), Slot::Done));
     let all = Totals {
         taken: 1,

@@ -6,7 +6,7 @@ use Rattle.mux.specs.declared.content.Content.TheVariants.{Null, Elementary}
 use Rattle.request.specs.declared.stream.Stream.{Stream}
 use Rattle.buffers.specs.QueueValue.{QueueValue}
 use Rattle.rounds.specs.Rounds.{table_at}
-use Rattle.mux.specs.Choosing.{IsDueHead, IsFirstDueHead}
+use Rattle.mux.specs.Choosing.{IsEligibleHead, IsFirstHead}
 use Rattle.mux.specs.History.{History, slots, slot_time}
 use Rattle.mux.specs.Lawful.{IsContent}
 use Rattle.mux.proofs.Readiness.{none_goes, one_goes, when_none}
@@ -16,17 +16,17 @@ pub returns-clause-none : goal.returns-clause-none
 returns-clause-none c =
     let t = c.requires.now ∙ sym (ap (λ (h : History). slot_time h.run.plan (slots h.events)) c.self.view_is) in
     let free = ap (λ (h : History). table_at h.run.plan.rounds (slots h.events)) c.self.view_is ∙ c.requires.no_table in
-    let Q : List Stream → Type 0 = λ xs. (k : ℕ) (st : Stream) (item : Stamped) → IsDueHead xs c.as_slice.result.now c.args.now k st item → ⊥ in
-    let S : List QueueValue → Type 0 = λ xs. (k : ℕ) (st : Stream) (item : Stamped) → IsDueHead c.self.inside.plan.request.streams xs c.args.now k st item → ⊥ in
+    let Q : List Stream → Type 0 = λ xs. (k : ℕ) (st : Stream) (item : Stamped) → IsEligibleHead xs c.as_slice.result.now c.self.inside.progress.buckets c.args.now k st item → ⊥ in
+    let S : List QueueValue → Type 0 = λ xs. (k : ℕ) (st : Stream) (item : Stamped) → IsEligibleHead c.self.inside.plan.request.streams xs c.self.inside.progress.buckets c.args.now k st item → ⊥ in
     let R : History → Type 0 = λ h. IsContent h.run.plan h.events Null in
-    when_none c.choose.result c.choose.ensures.none (λ none. subst R c.self.view_is (none_goes c.self.invariant.agrees c.args.now t free (subst S c.as_slice.ensures.value (subst Q c.streams.ensures none))))
+    when_none c.choose.result c.choose.ensures.none (λ none. subst R c.self.view_is (none_goes c.self.invariant.agrees c.self.invariant.buckets_are c.args.now t free (subst S c.as_slice.ensures.value (subst Q c.streams.ensures none))))
 
 pub returns-clause-some : goal.returns-clause-some
 returns-clause-some c =
     let t = c.requires.now ∙ sym (ap (λ (h : History). slot_time h.run.plan (slots h.events)) c.self.view_is) in
     IfSome_then c.choose.result c.choose.ensures.some (λ b first.
     let free = ap (λ (h : History). table_at h.run.plan.rounds (slots h.events)) c.self.view_is ∙ c.requires.no_table in
-    let Q : List Stream → Type 0 = λ xs. IsFirstDueHead xs c.as_slice.result.now c.args.now b in
-    let S : List QueueValue → Type 0 = λ xs. IsFirstDueHead c.self.inside.plan.request.streams xs c.args.now b in
+    let Q : List Stream → Type 0 = λ xs. IsFirstHead xs c.as_slice.result.now c.self.inside.progress.buckets c.args.now b in
+    let S : List QueueValue → Type 0 = λ xs. IsFirstHead c.self.inside.plan.request.streams xs c.self.inside.progress.buckets c.args.now b in
     let R : History → Type 0 = λ h. (slice_get h.run.plan.request.streams b.place ≡ Some b.stream) × IsContent h.run.plan h.events (Elementary b.stream) in
-    subst R c.self.view_is (one_goes c.self.invariant.agrees c.args.now t free b (subst S c.as_slice.ensures.value (subst Q c.streams.ensures first))))
+    subst R c.self.view_is (one_goes c.self.invariant.agrees c.self.invariant.buckets_are c.args.now t free b (subst S c.as_slice.ensures.value (subst Q c.streams.ensures first))))

@@ -1,4 +1,4 @@
-use Rattle.std.proofs.Common.{◌≡◌, ◌<◌, sym, ap, ◌∙◌, arith, subst, ◌++◌, ◌∷◌, [], List, length, Some, reverse}
+use Rattle.std.proofs.Common.{refl, eq-eqb, ◌≡◌, ◌<◌, sym, ap, ◌∙◌, arith, subst, ◌++◌, ◌∷◌, [], List, length, Some, reverse}
 use Rattle.std.specs.List.{slice_get}
 use Rattle.std.proofs.lemmas.Option.{slice_get_within}
 use Rattle.std.proofs.lemmas.List.{length-map}
@@ -17,6 +17,7 @@ use Rattle.mux.specs.Lawful.{MaySend}
 use Rattle.mux.proofs.Plans.{stream_in}
 use Rattle.mux.proofs.Stored.{with_elementary}
 use Rattle.mux.proofs.Counting.{count_within}
+use Rattle.mux.proofs.BucketSteps.{chosen_has_room}
 use Rattle.mux.proofs.Steps.{length_states, length_queues, cleared_at, sending_head, sent_packet_is}
 use Rattle.tspkt.specs.declared.stamped.Stamped.{Stamped}
 use Rattle.std.proofs.lemmas.Option.{same_Some}
@@ -25,6 +26,13 @@ use Rattle.mux.proofs.mux.Mux.send_head.Goals as goal
 
 pub index-requires : goal.index-requires
 index-requires c =
+    let n = length_queues c.self.invariant.agrees in
+    let at : slice_get c.self.inside.plan.request.streams c.args.place ≡ Some c.args.stream = ap (λ (h : History). slice_get h.run.plan.request.streams c.args.place) c.self.view_is ∙ c.requires.place in
+    let l = slice_get_within c.self.inside.plan.request.streams c.args.place c.args.stream at in
+    omega (arith, c.self.inside.queues.ok.0)
+
+pub index_mut-requires : goal.index_mut-requires
+index_mut-requires c =
     let n = length_queues c.self.invariant.agrees in
     let at : slice_get c.self.inside.plan.request.streams c.args.place ≡ Some c.args.stream = ap (λ (h : History). slice_get h.run.plan.request.streams c.args.place) c.self.view_is ∙ c.requires.place in
     let l = slice_get_within c.self.inside.plan.request.streams c.args.place c.args.stream at in
@@ -59,8 +67,8 @@ overflow_add-self c =
     let limit = k.limit in
     omega (arith, count_within is_elementary h)
 
-pub unwrap-requires : goal.unwrap-requires
-unwrap-requires c =
+pub unwrap-item-requires : goal.unwrap-item-requires
+unwrap-item-requires c =
     let at : slice_get c.self.inside.plan.request.streams c.args.place ≡ Some c.args.stream = ap (λ (h : History). slice_get h.run.plan.request.streams c.args.place) c.self.view_is ∙ c.requires.place in
     let R : History → Type 0 = λ h. MaySend h.run.plan h.events (Elementary c.args.stream) in
     let may = subst R (sym c.self.view_is) c.requires.may in
@@ -74,7 +82,7 @@ overflow_sub-now c =
     let may = subst R (sym c.self.view_is) c.requires.may in
     let next = goes_next c.self.invariant.agrees c.args.place c.args.stream c.index.result.now at c.index.ensures may.content in
     let t = c.requires.now ∙ sym (ap (λ (h : History). slot_time h.run.plan (slots h.events)) c.self.view_is) in
-    let same : c.unwrap.result.now ≡ next.item = same_Some _ _ (sym (copied_is c.head.result c.unwrap.result _ c.unwrap.ensures c.head.ensures) ∙ next.head) in
+    let same : c.unwrap-item.result.now ≡ next.item = same_Some _ _ (sym (copied_is c.head.result c.unwrap-item.result _ c.unwrap-item.ensures c.head.ensures) ∙ next.head) in
     let stamp = ap (λ (x : Stamped). x.stamp) same in
     let due = next.due in
     omega arith
@@ -86,6 +94,21 @@ overflow_cast-place c =
     let count = c.self.invariant.agrees.plan.request.stream_count in
     omega (arith, count)
 
+pub send-requires-clause-place : goal.send-requires-clause-place
+send-requires-clause-place c =
+    let at : slice_get c.self.inside.plan.request.streams c.args.place ≡ Some c.args.stream = ap (λ (h : History). slice_get h.run.plan.request.streams c.args.place) c.self.view_is ∙ c.requires.place in
+    let l = slice_get_within c.self.inside.plan.request.streams c.args.place c.args.stream at in
+    let count = c.self.invariant.buckets_are.count in
+    omega arith
+
+pub send-requires-clause-room : goal.send-requires-clause-room
+send-requires-clause-room c b there =
+    let at : slice_get c.self.inside.plan.request.streams c.args.place ≡ Some c.args.stream = ap (λ (h : History). slice_get h.run.plan.request.streams c.args.place) c.self.view_is ∙ c.requires.place in
+    let R : History → Type 0 = λ h. MaySend h.run.plan h.events (Elementary c.args.stream) in
+    let may = subst R (sym c.self.view_is) c.requires.may in
+    let k = c.self.invariant.agrees in
+    chosen_has_room c.self.inside.plan _ c.self.inside.progress.buckets c.args.place c.args.stream k.plan k.lawful c.self.invariant.buckets_are at may.content c.args.place b (eq-eqb c.args.place c.args.place refl) there
+
 pub invariant_of-self-2 : goal.invariant_of-self-2
 invariant_of-self-2 c =
     let S : History → Type 0 = λ h. slots h.events < h.run.limit in
@@ -95,12 +118,12 @@ invariant_of-self-2 c =
     let next = goes_next c.self.invariant.agrees c.args.place c.args.stream c.index.result.now at c.index.ensures may.content in
     let l = (stream_in c.self.inside.plan c.args.place c.args.stream c.self.invariant.agrees.plan at).input in
     let t = c.requires.now ∙ sym (ap (λ (h : History). slot_time h.run.plan (slots h.events)) c.self.view_is) in
-    let head = copied_is c.head.result c.unwrap.result _ c.unwrap.ensures c.head.ensures in
+    let head = copied_is c.head.result c.unwrap-item.result _ c.unwrap-item.ensures c.head.ensures in
     let e = with_elementary c.self.inside.plan c.self.inside.stored.items _ (reverse c.self.inside.taken.items) c.args.place c.args.stream at
     (c.push_reserved.ensures.items ∙ ap (λ (es : List StoredEvent). es ++ stored.Elementary c.args.place ∷ []) c.in_ok-reserve.ensures.items) in
-    let p = c.rewrite-packet.ensures.value ∙ sent_packet_is c.self.invariant.agrees c.args.place c.args.stream c.index.result.now c.unwrap.result.now c.args.now at c.index.ensures head t in
-    sending_head c.self.invariant c.args.place c.args.stream c.index_mut-2.result.now c.index_mut.result.now c.take.new.self _ c.clear_full.new.inputs.items _ _ _ e c.clear_full.ensures
-    c.index_mut-2.ensures.value l at c.index_mut.ensures.value c.take.ensures.rest c.advance.ensures c.advance-2.ensures
+    let p = c.rewrite-packet.ensures.value ∙ sent_packet_is c.self.invariant.agrees c.args.place c.args.stream c.index.result.now c.unwrap-item.result.now c.args.now at c.index.ensures head t in
+    sending_head c.self.invariant c.args.place c.args.stream c.index_mut-2.result.now c.index_mut.result.now c.take.new.self _ c.clear_full.new.inputs.items _ _ _ _ e c.clear_full.ensures
+    c.index_mut-2.ensures.value l at c.index_mut.ensures.value c.take.ensures.rest c.send.ensures.buckets c.send.ensures.clock c.advance.ensures
     (c.in_ok-push.ensures.ok ∙ ap (λ x. c.self.inside.output ++ x ∷ []) p)
     (subst S (sym c.self.view_is) c.requires.within) may
 
@@ -111,12 +134,12 @@ returns-clause-ok c =
     let may = subst R (sym c.self.view_is) c.requires.may in
     let next = goes_next c.self.invariant.agrees c.args.place c.args.stream c.index.result.now at c.index.ensures may.content in
     let t = c.requires.now ∙ sym (ap (λ (h : History). slot_time h.run.plan (slots h.events)) c.self.view_is) in
-    let head = copied_is c.head.result c.unwrap.result _ c.unwrap.ensures c.head.ensures in
+    let head = copied_is c.head.result c.unwrap-item.result _ c.unwrap-item.ensures c.head.ensures in
     let e = with_elementary c.self.inside.plan c.self.inside.stored.items _ (reverse c.self.inside.taken.items) c.args.place c.args.stream at
     (c.push_reserved.ensures.items ∙ ap (λ (es : List StoredEvent). es ++ stored.Elementary c.args.place ∷ []) c.in_ok-reserve.ensures.items) in
     let opened : List Event → History = λ es. record { run = record { plan = c.self.inside.plan; limit = c.self.inside.limit }; events = es } in (
       ap opened e ∙ ap (λ (h : History). with_event h (Slot (Elementary c.args.stream))) c.self.view_is,
       c.rewrite-packet.ensures.value
-          ∙ sent_packet_is c.self.invariant.agrees c.args.place c.args.stream c.index.result.now c.unwrap.result.now c.args.now at c.index.ensures head t
+          ∙ sent_packet_is c.self.invariant.agrees c.args.place c.args.stream c.index.result.now c.unwrap-item.result.now c.args.now at c.index.ensures head t
           ∙ ap (λ (h : History). packet_behind h.run.plan h.events (emitted h.run.plan h.events) (Elementary c.args.stream)) c.self.view_is,
     )

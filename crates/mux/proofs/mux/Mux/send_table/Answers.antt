@@ -49,7 +49,7 @@ invariant_of-self-3 c =
     let S : History → Type 0 = λ h. slots h.events < h.run.limit in
     let e = with_table c.self.inside.plan.request.streams c.self.inside.stored.items _ _ c.args.place
     (c.push_reserved.ensures.items ∙ ap (λ (es : List StoredEvent). es ++ c.table.result ∷ []) c.in_ok-reserve.ensures.items ∙ ap (λ (x : StoredEvent). c.self.inside.stored.items ++ x ∷ []) c.table.ensures) in
-    sending_table c.self.invariant c.args.place _ _ _ _ _ e c.clear_full.ensures c.advance.ensures c.advance-2.ensures
+    sending_table c.self.invariant c.args.place _ _ _ _ _ _ e c.clear_full.ensures c.pass.ensures.buckets c.pass.ensures.clock c.advance.ensures
     (c.in_ok-push.ensures.ok
     ∙ ap (λ p. c.self.inside.output ++ p ∷ [])
     (c.table_packet-packet.ensures

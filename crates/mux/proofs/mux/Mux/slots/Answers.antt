@@ -2,7 +2,7 @@ use Rattle.std.proofs.Common.{ℕ, List, length, reverse, ap, ◌∙◌, subst, 
 use Rattle.tspkt.specs.Packet.{IsPacket}
 use Rattle.mux.specs.History.{History, slots}
 use Rattle.mux.specs.Stored.{history_of}
-use Rattle.mux.specs.Output.{IsSound}
+use Rattle.mux.specs.Headline.{IsSound}
 use Rattle.mux.proofs.Emitted.{length-emitted}
 use Rattle.mux.proofs.Sound.{is_sound}
 use Rattle.mux.proofs.mux.Mux.slots.Goals as goal

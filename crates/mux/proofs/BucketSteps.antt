@@ -1,0 +1,160 @@
+-- The buckets of the streams, before the first slot and from slot to slot, and what they say of the streams' transport buffers.
+use Rattle.std.proofs.Common.{ℕ, ◌-◌, ◌≡◌, ◌↔◌, nat_eq, Bool, true, false, List, [], ◌∷◌, ◌++◌, length, map, Option, Some, None, refl, ap, ◌∙◌, sym, subst, arith, inl, inr, eq-eqb}
+use Rattle.std.specs.List.{slice_get}
+use Rattle.std.specs.Option.{option_map}
+use Rattle.std.proofs.Math.Bool.{or-false}
+use Rattle.std.proofs.lemmas.Bool.{cases_eq, ne_eqb, eqb-true}
+use Rattle.std.proofs.lemmas.List.{length-map}
+use Rattle.std.proofs.lemmas.Option.{same_Some, slice_get-map}
+use Rattle.tspkt.specs.Packet.{pid_of, null_packet}
+use Rattle.tspkt.specs.declared.stamped.Stamped.{Stamped}
+use Rattle.tspkt.proofs.RewrittenLaws.{pid_of-rewritten}
+use Rattle.request.specs.declared.stream.Stream.{Stream}
+use Rattle.rounds.specs.declared.table_place.TablePlace.{TablePlace}
+use Rattle.plan.specs.Build.{PlanValue}
+use Rattle.buffers.specs.Level.{is_on_pids, bytes_of_set, IsLevel}
+use Rattle.buffers.specs.BucketValue.{BucketValue, HasRoom}
+use Rattle.emission.specs.TableBuffers.{BufferFits}
+use Rattle.emission.proofs.StreamBufferLaws.{stream_level_none, stream_fits_none, stream_level_sent, stream_level_idle, stream_fits_sent, stream_fits_idle, has_room-fits}
+use Rattle.mux.specs.declared.content.Content.TheVariants.{Elementary, Table}
+use Rattle.mux.specs.declared.event.Event.{Event}
+use Rattle.mux.specs.Plans.{IsMultiplexPlan}
+use Rattle.mux.specs.History.{queue, slots, slot_time, emitted, packet_behind, sent_packet}
+use Rattle.mux.specs.Lawful.{IsLawful, IsContent, Fits}
+use Rattle.mux.specs.Headline.{IsLevelOf}
+use Rattle.mux.specs.Buckets.{empty_bucket, IsBucketOf, AreBuckets, is_place, after_slot, MovedOn}
+use Rattle.mux.proofs.Contents.{stream_choice}
+use Rattle.mux.proofs.Plans.{IsAt, stream_in, same_place, one_out}
+use Rattle.mux.proofs.StreamPackets.{head_is_item, out_below, moved_to, null_apart, table_apart}
+
+-- before the first slot
+bucket_none : (p : PlanValue) (k : ℕ) (st : Stream) → IsMultiplexPlan p → IsAt p k st → IsBucketOf p.request.rate [] st (empty_bucket p.request.rate st)
+bucket_none p k st plan at =
+    let leak = (stream_in p k st plan at).leak in
+    let rate = plan.request.rate in
+    let b = empty_bucket p.request.rate st in
+    record {
+      bucket = record { leak_from = omega arith; leak_to = omega arith; rate_from = omega arith; rate_to = omega arith; level_to = omega arith };
+      leak_is = refl;
+      rate_is = refl;
+      filled = stream_level_none b (st.output_pid ∷ []) refl;
+      fits = stream_fits_none p.request.rate st.leak (st.output_pid ∷ []);
+    }
+
+pub buckets_none : (p : PlanValue) (buckets : List BucketValue) → IsMultiplexPlan p → buckets ≡ map (empty_bucket p.request.rate) p.request.streams → AreBuckets p [] buckets
+buckets_none p buckets plan e =
+    let empty = empty_bucket p.request.rate in
+    record {
+      count = ap length e ∙ length-map p.request.streams empty;
+      each = λ k st at. (empty st, ap (λ xs. slice_get xs k) e ∙ slice_get-map empty p.request.streams k ∙ ap (option_map empty) at, bucket_none p k st plan at);
+    }
+
+-- one packet more, of the stream or not
+bucket_moved : (rate : ℕ) (out : List (List ℕ)) (st : Stream) (b : BucketValue) (q : List ℕ) (is_sent : Bool) → IsBucketOf rate out st b → is_on_pids (st.output_pid ∷ []) q ≡ is_sent → (is_sent ≡ true → HasRoom b)
+    → IsBucketOf rate (out ++ q ∷ []) st (after_slot is_sent b)
+bucket_moved rate out st b q true is on room =
+    let old = is.bucket in
+    record {
+      bucket = record { leak_from = old.leak_from; leak_to = old.leak_to; rate_from = old.rate_from; rate_to = old.rate_to; level_to = room refl };
+      leak_is = is.leak_is;
+      rate_is = is.rate_is;
+      filled = stream_level_sent b (st.output_pid ∷ []) out q is.filled on;
+      fits = stream_fits_sent b (st.output_pid ∷ []) out q old is.filled is.fits on (room refl);
+    }
+bucket_moved rate out st b q false is on room =
+    let old = is.bucket in
+    let low = old.level_to in
+    record {
+      bucket = record { leak_from = old.leak_from; leak_to = old.leak_to; rate_from = old.rate_from; rate_to = old.rate_to; level_to = omega arith };
+      leak_is = is.leak_is;
+      rate_is = is.rate_is;
+      filled = stream_level_idle b (st.output_pid ∷ []) out q is.filled on;
+      fits = stream_fits_idle b (st.output_pid ∷ []) out q old is.filled is.fits on;
+    }
+
+-- the packet is of the stream at this place, or of none
+abbrev pub IsOfPlace : PlanValue → List ℕ → Option ℕ → Type 0
+IsOfPlace p q sent = (k : ℕ) (st : Stream) → IsAt p k st → is_on_pids (st.output_pid ∷ []) q ≡ is_place sent k
+
+-- the buckets have room for it
+abbrev pub HaveRoom : Option ℕ → List BucketValue → Type 0
+HaveRoom sent buckets = (k : ℕ) (b : BucketValue) → is_place sent k ≡ true → slice_get buckets k ≡ Some b → HasRoom b
+
+pub buckets_moved : (p : PlanValue) (out : List (List ℕ)) (q : List ℕ) (sent : Option ℕ) (buckets now : List BucketValue) → AreBuckets p out buckets → MovedOn sent buckets now → IsOfPlace p q sent → HaveRoom sent buckets
+    → AreBuckets p (out ++ q ∷ []) now
+buckets_moved p out q sent buckets now are moved of room = record {
+  count = moved.count ∙ are.count;
+  each = λ k st at.
+      let old = are.each k st at in
+      (after_slot (is_place sent k) old.0, moved.each k old.0 old.1, bucket_moved p.request.rate out st old.0 q (is_place sent k) old.2 (of k st at) (λ e. room k old.0 e old.1));
+}
+
+-- Which packets are whose.
+
+on_pid : (pid : ℕ) (q : List ℕ) → is_on_pids (pid ∷ []) q ≡ nat_eq pid (pid_of q)
+on_pid pid q = or-false (nat_eq pid (pid_of q))
+
+pub null_of_none : (p : PlanValue) → IsMultiplexPlan p → IsOfPlace p null_packet None
+null_of_none p plan k st at = on_pid st.output_pid null_packet ∙ ne_eqb st.output_pid (pid_of null_packet) (λ e. null_apart p k st plan at (sym e))
+
+pub table_of_none : (p : PlanValue) (h : List Event) (place : TablePlace) → IsMultiplexPlan p → IsContent p h (Table place) → IsOfPlace p (packet_behind p h (emitted p h) (Table place)) None
+table_of_none p h place plan content k st at =
+    let q = packet_behind p h (emitted p h) (Table place) in
+    on_pid st.output_pid q ∙ ne_eqb st.output_pid (pid_of q) (λ e. table_apart p h place k st plan content at (sym e))
+
+pub stream_of_place : (p : PlanValue) (h : List Event) (place : ℕ) (su : Stream) → IsMultiplexPlan p → IsLawful p h → IsAt p place su → IsContent p h (Elementary su)
+    → IsOfPlace p (packet_behind p h (emitted p h) (Elementary su)) (Some place)
+stream_of_place p h place su plan law there content k st at =
+    let q = packet_behind p h (emitted p h) (Elementary su) in
+    let chosen = stream_choice p h su content in
+    let moved = moved_to p h su chosen.0 plan law (place, there) chosen.1.head in
+    elim (cases_eq place k) [
+      | inl e ↦
+          (let same : su ≡ st = same_place p place k su st e there at in
+          on_pid st.output_pid q ∙ eq-eqb st.output_pid (pid_of q) (sym (moved.pid ∙ ap (λ (x : Stream). x.output_pid) same)) ∙ sym (eq-eqb place k e))
+      | inr ne ↦
+          on_pid st.output_pid q ∙ ne_eqb st.output_pid (pid_of q) (λ e. ne (one_out p place k su st plan there at (sym moved.pid ∙ sym e))) ∙ sym (ne_eqb place k ne)
+    ]
+
+-- What the buckets say.
+
+-- there is room for the packet of a queue's head where it fits
+pub room_fits : (p : PlanValue) (h : List Event) (k : ℕ) (st : Stream) (item : Stamped) (b : BucketValue) → IsMultiplexPlan p → IsLawful p h → IsAt p k st → slice_get (queue st h) 0 ≡ Some item
+    → IsBucketOf p.request.rate (emitted p h) st b → HasRoom b ↔ Fits p h st item
+room_fits p h k st item b plan law at head is =
+    let q = sent_packet p (slots h) st (Some item) in
+    let below = out_below p k st plan at in
+    let its = head_is_item p st h item law head in
+    let pid : pid_of q ≡ st.output_pid = pid_of-rewritten item.packet st.output_pid (slot_time p (slots h) - item.stamp) (omega arith) its.0 in
+    let on : is_on_pids (st.output_pid ∷ []) q ≡ true = on_pid st.output_pid q ∙ eq-eqb st.output_pid (pid_of q) (sym pid) in
+    let P : ℕ → Type 0 = λ rate. HasRoom b ↔ BufferFits rate b.leak (st.output_pid ∷ []) (emitted p h ++ q ∷ []) in
+    let Q : ℕ → Type 0 = λ leak. HasRoom b ↔ BufferFits p.request.rate leak (st.output_pid ∷ []) (emitted p h ++ q ∷ []) in
+    subst Q is.leak_is (subst P is.rate_is (has_room-fits b (st.output_pid ∷ []) (emitted p h) q is.bucket is.filled is.fits on))
+
+-- the bucket of the stream that the next slot carries has room
+pub chosen_has_room : (p : PlanValue) (h : List Event) (buckets : List BucketValue) (place : ℕ) (st : Stream) → IsMultiplexPlan p → IsLawful p h → AreBuckets p (emitted p h) buckets → IsAt p place st → IsContent p h (Elementary st)
+    → HaveRoom (Some place) buckets
+chosen_has_room p h buckets place st plan law are at content k b here there =
+    let chosen = stream_choice p h st content in
+    let own = are.each place st at in
+    let same : own.0 ≡ b = same_Some own.0 b (sym own.1 ∙ ap (slice_get buckets) (eqb-true place k here) ∙ there) in
+    subst HasRoom same ((room_fits p h place st chosen.0 own.0 plan law at chosen.1.head own.2).1 chosen.1.fits)
+
+-- a stream's transport buffer was never overrun
+pub stream_fits : (p : PlanValue) (out : List (List ℕ)) (buckets : List BucketValue) (k : ℕ) (st : Stream) → AreBuckets p out buckets → IsAt p k st → BufferFits p.request.rate st.leak (st.output_pid ∷ []) out
+stream_fits p out buckets k st are at =
+    let own = are.each k st at in
+    let P : ℕ → Type 0 = λ rate. BufferFits rate own.0.leak (st.output_pid ∷ []) out in
+    let Q : ℕ → Type 0 = λ leak. BufferFits p.request.rate leak (st.output_pid ∷ []) out in
+    subst Q own.2.leak_is (subst P own.2.rate_is own.2.fits)
+
+-- and its level is the bucket's
+pub level_is : (p : PlanValue) (h : List Event) (buckets : List BucketValue) (k : ℕ) (st : Stream) (b : BucketValue) → AreBuckets p (emitted p h) buckets → IsAt p k st → slice_get buckets k ≡ Some b → IsLevelOf p h st b.level
+level_is p h buckets k st b are at read =
+    let own = are.each k st at in
+    let same : own.0 ≡ b = same_Some own.0 b (sym own.1 ∙ read) in
+    let of : List ℕ = bytes_of_set (st.output_pid ∷ []) (emitted p h) in
+    let P : ℕ → Type 0 = λ rate. IsLevel own.0.leak rate of own.0.level in
+    let Q : ℕ → Type 0 = λ leak. IsLevel leak p.request.rate of own.0.level in
+    let R : BucketValue → Type 0 = λ x. IsLevel st.leak p.request.rate of x.level in
+    subst R same (subst Q own.2.leak_is (subst P own.2.rate_is own.2.filled))
