@@ -1,0 +1,10 @@
+use Rattle.std.proofs.Common.{subst}
+use Rattle.request.specs.Request.{IsRequest}
+use Rattle.rounds.specs.Rounds.{IsRounds}
+use Rattle.output_faults.proofs.OutputFaultLaws as told
+use Rattle.output_faults.proofs.laws.counter_faults_are_as_taken.Goals as goal
+
+pub returns : goal.returns
+returns c = λ rate period out taken h same.
+    told.counter_faults_taken c.args.plan.now rate period out taken (subst IsRequest c.request.ensures.value c.rate.ensures.request) c.request.ensures.plan
+    (subst IsRounds c.rounds.ensures c.rate-2.ensures.rounds) h same

@@ -1,0 +1,8 @@
+//! What the analyser tells of what a multiplex of a plan sends.
+//!
+//! The lists of packets are the emissions of a plan, and the faults are those that the analyser tells of them. `laws` has
+//! what holds of every emission: no fault of sync, no fault of a table, and a wrong counter only where a packet of a stream
+//! has one.
+#![tactic(auto)]
+
+pub mod laws;
