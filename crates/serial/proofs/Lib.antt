@@ -1,0 +1,4 @@
+pub mod KnownLaws
+pub mod ItemLaws
+pub mod InputLaws
+pub mod OrderLaws

@@ -1,0 +1,103 @@
+//! Framing that goes on while its items are taken.
+
+use std::alloc::{AllocError, Global};
+use std::marker::Model;
+use tspkt::{FeedFault, Framer, Item};
+
+/// A framer, and the items that it told and that weren't taken yet. Without a framer no more will be told.
+#[derive(Drop)]
+pub(crate) struct ItemReader {
+    framer: Option<Framer>,
+    items: Vec<Item>,
+    /// How many of the items were taken.
+    taken: usize,
+}
+
+impl Model for ItemReader {
+    ghost use Rattle.std.specs.Prelude.{◌≤◌, drop, vec_len};
+    ghost use Rattle.serial.specs.Reading.{ReaderValue, IsReader};
+
+    ghost Value = { ReaderValue };
+
+    ghost view = { λ r. record { framer = r.framer; ahead = drop r.taken r.items.items } };
+
+    ghost invariant = { λ r. (r.taken ≤ vec_len r.items) × IsReader r.framer (drop r.taken r.items.items) };
+}
+
+impl ItemReader {
+    ghost use Rattle.std.specs.Prelude.{◌≡◌, ◌∷◌, [], IfSome, IfNone, OnOk, OnErr, Err, is_none};
+    ghost use Rattle.serial.specs.Reading.{ReaderValue, new_reader, without_framer, Feeds, IsFull, Finishes, IsPlaced};
+
+    /// One that has read nothing.
+    pub fn new(alloc: Global) -> ItemReader
+        ensures { result ≡ new_reader }
+    {
+        ItemReader {
+            framer: Some(Framer::new()),
+            items: Vec::new(alloc),
+            taken: 0,
+        }
+    }
+
+    /// Whether nothing more will be told.
+    pub fn is_over(&self) -> bool
+        ensures { result ≡ is_none self.now.framer }
+    {
+        self.framer.is_none()
+    }
+
+    /// Takes the next item that was told.
+    pub fn next(&mut self) -> Option<Item>
+        ensures framer { self.new.framer ≡ self.old.framer }
+        ensures item { IfSome result (λ item. self.old.ahead ≡ item ∷ self.new.ahead) }
+        ensures placed { IfSome result IsPlaced }
+        ensures none { IfNone result ((self.old.ahead ≡ []) × (self.new ≡ self.old)) }
+    {
+        let item = *self.items.get(self.taken)?;
+        self.taken += 1;
+        Some(item)
+    }
+
+    /// Reads the next piece of the stream. An `Err` ends the framing.
+    pub fn feed(&mut self, piece: &[u8]) -> Result<(), FeedFault>
+        requires { self.old.ahead ≡ [] }
+        ensures ok { OnOk result (Feeds self.old.framer piece.now self.new) }
+        ensures err { OnErr result (self.new ≡ without_framer) }
+        ensures too_much { result ≡ Err FeedFault.TooMuch → IsFull self.old.framer piece.now }
+    {
+        self.items.clear();
+        self.taken = 0;
+        let Some(mut framer) = self.framer.take() else {
+            return Ok(());
+        };
+        framer.feed(piece, &mut self.items)?;
+        self.framer = Some(framer);
+        Ok(())
+    }
+
+    /// Ends the stream. An `Err` is want of memory, and tells nothing.
+    pub fn finish(&mut self) -> Result<(), AllocError>
+        requires { self.old.ahead ≡ [] }
+        ensures ok { OnOk result (Finishes self.old.framer self.new) }
+        ensures err { OnErr result (self.new ≡ without_framer) }
+    {
+        self.items.clear();
+        self.taken = 0;
+        let Some(framer) = self.framer.take() else {
+            return Ok(());
+        };
+        match framer.finish(&mut self.items) {
+            Ok(()) => Ok(()),
+            Err((_, e)) => Err(e),
+        }
+    }
+
+    /// Gives up what wasn't taken, and tells no more.
+    pub fn give_up(&mut self)
+        ensures { self.new ≡ without_framer }
+    {
+        self.framer = None;
+        self.items.clear();
+        self.taken = 0;
+    }
+}

@@ -1,0 +1,65 @@
+//! What became of an input in a run.
+
+ghost use Rattle.std.specs.Prelude.{◌≡◌};
+ghost use Rattle.serial.specs.Counting.{nothing_counted, with_counts};
+
+/// Why an input was read no further before its end.
+#[derive(Clone, Copy, Debug, PartialEq, Eq)]
+pub enum Stop {
+    /// The run ended first.
+    Gate,
+    /// A read failed.
+    ReadFailed,
+    /// It has more bytes than an input may have.
+    TooMuch,
+    /// Memory was refused.
+    Memory,
+}
+
+/// What was found in an input, and why it was left, if it didn't end.
+#[derive(Clone, Copy, Debug, PartialEq, Eq)]
+pub struct Report {
+    /// Packets that framing found.
+    pub framed: u64,
+    /// Those of them that have no packet's layout.
+    pub malformed: u64,
+    /// Those of them that have it, but a PID that the plan doesn't name.
+    pub unmapped: u64,
+    /// Packets with a bad sync byte, in a stream that kept its sync.
+    pub bad: u64,
+    /// How often sync was lost.
+    pub losses: u64,
+    /// Bytes that are in no packet.
+    pub lost: u64,
+    /// None where the input ended, or is still read.
+    pub stopped: Option<Stop>,
+}
+
+impl Report {
+    /// That of an input of which nothing was read.
+    pub fn new() -> Report
+        ensures { result ≡ nothing_counted }
+    {
+        Report {
+            framed: 0,
+            malformed: 0,
+            unmapped: 0,
+            bad: 0,
+            losses: 0,
+            lost: 0,
+            stopped: None,
+        }
+    }
+
+    /// Adds the other's counts. They stop at the largest number of 64 bits.
+    pub(crate) fn add(&mut self, other: &Report)
+        ensures { self.new ≡ with_counts self.old other.now }
+    {
+        self.framed = self.framed.saturating_add(other.framed);
+        self.malformed = self.malformed.saturating_add(other.malformed);
+        self.unmapped = self.unmapped.saturating_add(other.unmapped);
+        self.bad = self.bad.saturating_add(other.bad);
+        self.losses = self.losses.saturating_add(other.losses);
+        self.lost = self.lost.saturating_add(other.lost);
+    }
+}

@@ -1,0 +1,275 @@
+//! An input of the serial run.
+
+use crate::item_reader::ItemReader;
+use crate::looking::look_at;
+use crate::origin::Origin;
+use crate::report::{Report, Stop};
+use crate::source::Source;
+use plan::Plan;
+use request::Input;
+use std::alloc::{AllocError, Global};
+use tspkt::{FeedFault, Stamped};
+
+/// An input: what it is read from, what framing told of it and wasn't taken yet, and what was found so far.
+#[derive(Drop)]
+pub struct SerialInput<R> {
+    origin: Origin,
+    source: R,
+    reader: ItemReader,
+    /// A packet that was handed back.
+    held: Option<Stamped>,
+    is_closed: bool,
+    report: Report,
+}
+
+impl<R: Source> SerialInput<R> {
+    ghost use Rattle.std.specs.Prelude.{◌≡◌, ◌≢◌, ◌<◌, ◌⊎◌, ◌++◌, ◌∷◌, ℕ, List, [], length, true, false, None, Some, IfOk, IfNone, OnOk, OnErr, IsSome};
+    ghost use Rattle.std.specs.Option.{option_to_list};
+    ghost use Rattle.std.specs.Io.KnownBytes.{IsAtEnd};
+    ghost use Rattle.tspkt.specs.declared.stamped.Stamped.{Stamped as GivenPacket};
+    ghost use Rattle.request.specs.Request.{IsInput, input_value};
+    ghost use Rattle.plan.specs.Build.{PlanValue};
+    ghost use Rattle.serial.specs.Failures.{FailsOnce};
+    ghost use Rattle.serial.specs.Counting.{nothing_counted};
+    ghost use Rattle.serial.specs.Takeable.{origin_of};
+    ghost use Rattle.serial.specs.Reading.{without_framer, left_to_read};
+    ghost use Rattle.serial.specs.InputReading.{HasRead, ReadsOn, IsDone, BeginsTakeable, IsWhole, answered};
+
+    /// The input with this number in the plan, of which nothing was read.
+    pub fn new(alloc: Global, number: usize, input: &Input, source: R) -> SerialInput<R>
+        requires { IsInput (input_value input.now) }
+        ensures read { (plan : PlanValue) → HasRead R.remaining plan result [] [] }
+        ensures origin { result.origin ≡ origin_of number (input_value input.now) }
+        ensures source { result.source ≡ source }
+        ensures report { result.report ≡ nothing_counted }
+        ensures open { result.is_closed ≡ false }
+    {
+        SerialInput {
+            origin: Origin::new(number, input),
+            source,
+            reader: ItemReader::new(alloc),
+            held: None,
+            is_closed: false,
+            report: Report::new(),
+        }
+    }
+
+    /// The next packet that the plan names, with its time; none where the input has no more. It reads pieces of at most
+    /// the length of `piece` until there is one. An `Err` is want of memory, and ends the input.
+    pub fn next(&mut self, plan: &Plan, piece: &mut [u8]) -> Result<Option<Stamped>, AllocError>
+        requires { 0 < length piece.old }
+        ensures read { ReadsOn R.remaining plan.now self.old self.new (answered result) }
+        ensures done { IfOk result (λ found. IfNone found (IsDone self.new)) }
+        ensures held { OnOk result (self.new.held ≡ None) }
+        ensures memory { OnErr result (self.new.report.stopped ≡ Some Stop.Memory) }
+        ensures failed { self.new.report.stopped ≡ Some Stop.ReadFailed
+            → (self.old.report.stopped ≡ Some Stop.ReadFailed)
+            ⊎ FailsOnce (R.failures self.old.source) (R.failures self.new.source) }
+        ensures origin { self.new.origin ≡ self.old.origin }
+        ensures closed { self.new.is_closed ≡ self.old.is_closed }
+    {
+        if let Some(held) = self.held.take() {
+            return Ok(Some(held));
+        }
+        self.search(plan, piece)
+    }
+
+    /// The next packet of an input that holds none.
+    fn search(&mut self, plan: &Plan, piece: &mut [u8]) -> Result<Option<Stamped>, AllocError>
+        requires piece { 0 < length piece.old }
+        requires held { self.old.held ≡ None }
+        ensures read { ReadsOn R.remaining plan.now self.old self.new (answered result) }
+        ensures done { IfOk result (λ found. IfNone found (IsDone self.new)) }
+        ensures held { OnOk result (self.new.held ≡ None) }
+        ensures memory { OnErr result (self.new.report.stopped ≡ Some Stop.Memory) }
+        ensures failed { self.new.report.stopped ≡ Some Stop.ReadFailed
+            → (self.old.report.stopped ≡ Some Stop.ReadFailed)
+            ⊎ FailsOnce (R.failures self.old.source) (R.failures self.new.source) }
+        ensures origin { self.new.origin ≡ self.old.origin }
+        ensures closed { self.new.is_closed ≡ self.old.is_closed }
+    {
+        loop {
+            let found = self.next_told(plan);
+            if found.is_some() || self.reader.is_over() {
+                return Ok(found);
+            }
+            match self.read(piece) {
+                Ok(()) => {}
+                Err(e) => return Err(e),
+            }
+        }
+    }
+
+    /// The next packet that the plan names among the items that were told.
+    fn next_told(&mut self, plan: &Plan) -> Option<Stamped>
+        requires { self.old.held ≡ None }
+        ensures read { (bytes : List ℕ) (given : List GivenPacket) → HasRead R.remaining plan.now self.old bytes given
+            → HasRead R.remaining plan.now self.new bytes (given ++ option_to_list result) }
+        ensures none { IfNone result (self.new.reader.ahead ≡ []) }
+        ensures stays { self.new ≡ record self.old { reader = self.new.reader; report = self.new.report } }
+        ensures framer { self.new.reader.framer ≡ self.old.reader.framer }
+        ensures stopped { self.new.report.stopped ≡ self.old.report.stopped }
+    {
+        while let Some(item) = self.reader.next() {
+            let found = look_at(plan, &self.origin, &item, &mut self.report);
+            if found.is_some() {
+                return found;
+            }
+        }
+        None
+    }
+
+    /// Reads the next piece and frames it, where all items were looked at. A failed read and a stream that is too long
+    /// end the input, and what framing hasn't told is given up.
+    fn read(&mut self, piece: &mut [u8]) -> Result<(), AllocError>
+        requires piece { 0 < length piece.old }
+        requires ahead { self.old.reader.ahead ≡ [] }
+        requires open { IsSome self.old.reader.framer }
+        ensures read { (plan : PlanValue) → ReadsOn R.remaining plan self.old self.new [] }
+        ensures smaller { left_to_read self.new.reader.framer < left_to_read self.old.reader.framer }
+        ensures memory { OnErr result (self.new.report.stopped ≡ Some Stop.Memory) }
+        ensures failed { self.new.report.stopped ≡ Some Stop.ReadFailed
+            → (self.old.report.stopped ≡ Some Stop.ReadFailed)
+            ⊎ FailsOnce (R.failures self.old.source) (R.failures self.new.source) }
+        ensures unfailed { IsSome self.new.reader.framer
+            → R.failures self.new.source ≡ R.failures self.old.source }
+        ensures going { IsSome self.new.reader.framer
+            → self.new.report.stopped ≡ self.old.report.stopped }
+        ensures held { self.new.held ≡ self.old.held }
+        ensures origin { self.new.origin ≡ self.old.origin }
+        ensures closed { self.new.is_closed ≡ self.old.is_closed }
+    {
+        match self.source.read(piece) {
+            Ok(0) => self.finish(),
+            Ok(count) => self.feed(&piece[..count]),
+            Err(_) => {
+                self.stop(Stop::ReadFailed);
+                Ok(())
+            }
+        }
+    }
+
+    /// Frames a piece.
+    fn feed(&mut self, piece: &[u8]) -> Result<(), AllocError>
+        requires piece { 0 < length piece.now }
+        requires ahead { self.old.reader.ahead ≡ [] }
+        requires open { IsSome self.old.reader.framer }
+        ensures read { (plan : PlanValue) (bytes : List ℕ) (given : List GivenPacket)
+            → HasRead R.remaining plan self.old bytes given
+            → HasRead R.remaining plan self.new (bytes ++ piece.now) given }
+        ensures smaller { left_to_read self.new.reader.framer < left_to_read self.old.reader.framer }
+        ensures memory { OnErr result (self.new.report.stopped ≡ Some Stop.Memory) }
+        ensures failed { self.new.report.stopped ≡ Some Stop.ReadFailed
+            → self.old.report.stopped ≡ Some Stop.ReadFailed }
+        ensures going { IsSome self.new.reader.framer
+            → self.new.report.stopped ≡ self.old.report.stopped }
+        ensures stays { self.new ≡ record self.old { reader = self.new.reader; report = self.new.report } }
+    {
+        match self.reader.feed(piece) {
+            Ok(()) => Ok(()),
+            Err(FeedFault::TooMuch) => {
+                self.report.stopped = Some(Stop::TooMuch);
+                Ok(())
+            }
+            Err(FeedFault::Memory) => {
+                self.report.stopped = Some(Stop::Memory);
+                Err(AllocError)
+            }
+        }
+    }
+
+    /// Ends the framing, at the source's end.
+    fn finish(&mut self) -> Result<(), AllocError>
+        requires ahead { self.old.reader.ahead ≡ [] }
+        requires open { IsSome self.old.reader.framer }
+        ensures read { (plan : PlanValue) (bytes : List ℕ) (given : List GivenPacket)
+            → IsAtEnd (R.remaining self.old.source)
+            → HasRead R.remaining plan self.old bytes given
+            → HasRead R.remaining plan self.new bytes given }
+        ensures over { self.new.reader.framer ≡ None }
+        ensures memory { OnErr result (self.new.report.stopped ≡ Some Stop.Memory) }
+        ensures failed { self.new.report.stopped ≡ Some Stop.ReadFailed
+            → self.old.report.stopped ≡ Some Stop.ReadFailed }
+        ensures stays { self.new ≡ record self.old { reader = self.new.reader; report = self.new.report } }
+    {
+        match self.reader.finish() {
+            Ok(()) => Ok(()),
+            Err(e) => {
+                self.report.stopped = Some(Stop::Memory);
+                Err(e)
+            }
+        }
+    }
+
+    /// Leaves the input for this cause.
+    fn stop(&mut self, cause: Stop)
+        requires { cause ≢ Stop.TooMuch }
+        ensures read { (plan : PlanValue) (bytes : List ℕ) (given : List GivenPacket)
+            → HasRead R.remaining plan self.old bytes given
+            → HasRead R.remaining plan self.new bytes given }
+        ensures stays { self.new ≡ record self.old {
+          reader = without_framer;
+          report = record self.old.report { stopped = Some cause };
+        } }
+    {
+        self.reader.give_up();
+        self.report.stopped = Some(cause);
+    }
+
+    /// Keeps a packet that was handed back, as the input's next one.
+    pub fn hold(&mut self, stamped: Stamped)
+        requires { self.old.held ≡ None }
+        ensures read { (plan : PlanValue) (bytes : List ℕ) (given : List GivenPacket)
+            → HasRead R.remaining plan self.old bytes (given ++ stamped ∷ [])
+            → HasRead R.remaining plan self.new bytes given }
+        ensures stays { self.new ≡ record self.old { held = Some stamped } }
+    {
+        self.held = Some(stamped);
+    }
+
+    /// Notes that it was closed in the multiplex.
+    pub fn close(&mut self)
+        ensures { self.new ≡ record self.old { is_closed = true } }
+    {
+        self.is_closed = true;
+    }
+
+    /// Notes that the run ended before the input, unless the input was closed or was left for another cause.
+    pub fn leave(&mut self)
+        ensures read { (plan : PlanValue) (bytes : List ℕ) (given : List GivenPacket)
+            → HasRead R.remaining plan self.old bytes given
+            → HasRead R.remaining plan self.new bytes given }
+        ensures gate { self.old.is_closed ≡ false → self.old.report.stopped ≡ None
+            → self.new.report ≡ record self.old.report { stopped = Some Stop.Gate } }
+        ensures closed { self.old.is_closed ≡ true → self.new ≡ self.old }
+        ensures stopped { IsSome self.old.report.stopped → self.new ≡ self.old }
+    {
+        if !self.is_closed && self.report.stopped.is_none() {
+            self.stop(Stop::Gate);
+        }
+    }
+
+    /// What was found so far. What was given begins what can be taken, and where nothing is left and nothing stopped the
+    /// input it is all of it, and the report counts all items.
+    pub fn report(&self) -> Report
+        ensures value { result ≡ self.now.report }
+        ensures begins { (plan : PlanValue) (bytes : List ℕ) (given : List GivenPacket)
+            → HasRead R.remaining plan self.now bytes given
+            → BeginsTakeable plan self.now.origin bytes given }
+        ensures whole { (plan : PlanValue) (bytes : List ℕ) (given : List GivenPacket)
+            → HasRead R.remaining plan self.now bytes given → IsDone self.now
+            → result.stopped ≡ None → IsWhole R.remaining plan self.now bytes given }
+        ensures too_much { (plan : PlanValue) (bytes : List ℕ) (given : List GivenPacket)
+            → HasRead R.remaining plan self.now bytes given
+            → result.stopped ≡ Some Stop.TooMuch → 3154116608 < length bytes }
+    {
+        self.report
+    }
+
+    /// What it was read from.
+    pub fn into_source(self) -> R
+        ensures { result ≡ self.source }
+    {
+        self.source
+    }
+}
