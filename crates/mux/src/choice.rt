@@ -37,7 +37,7 @@ pub(crate) fn first_unready(inputs: &[InputState], now: u64) -> Option<usize>
         → IsTrue (ready_at now (slice_index_or inputs.now j d)))) }
 {
     for (i, x) in inputs.iter().enumerate() {
-        if !(x.closed || now < x.last_stamp || x.full_noted) {
+        if !(now < x.last_stamp || x.closed || x.full_noted) {
             return Some(i);
         }
     }

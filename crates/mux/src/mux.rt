@@ -11,7 +11,7 @@ ghost use Rattle.mux.specs.declared.content.Content.{Content};
 ghost use Rattle.mux.specs.Plans.{IsMultiplexPlan};
 ghost use Rattle.mux.specs.History.{opened, with_event, is_mapped_to, is_closed, queue, slots, slot_time, emitted};
 ghost use Rattle.mux.specs.Lawful.{is_mapped, MayTake, MayNoteFull, IsDone, AllReady, IsContent, MaySend};
-ghost use Rattle.mux.specs.Answers.{TakeAnswers, SlotAnswers, Sends, IsLeastUnready};
+ghost use Rattle.mux.specs.Answers.{TakeAnswers, SlotAnswers, IsLeastUnready};
 ghost use Rattle.mux.specs.Totals.{IsTotals, IsCounts};
 ghost use Rattle.mux.specs.Headline.{IsSound, IsLevelOf};
 ghost use Rattle.mux.specs.Keeping.{state_of, queue_of};
@@ -32,7 +32,7 @@ use request::Stream;
 use rounds::{TablePlace, TableTurn};
 use std::alloc::{AllocError, Global};
 use std::marker::Model;
-use tspkt::{Packet, Stamped, null, rewrite};
+use tspkt::{Packet, Stamped, null};
 
 /// The greatest number of slots of a run.
 pub const MAX_SLOTS: u64 = 1_000_000;
@@ -365,11 +365,11 @@ impl Mux {
     }
 
     /// Sends the table packet whose turn it is.
-    fn send_table(&mut self, place: TablePlace) -> Result<Packet, AllocError>
+    fn send_table(&mut self, place: TablePlace) -> Result<(), AllocError>
         requires due { table_at self.old.run.plan.rounds (slots self.old.events) ≡ Some place }
         requires within { slots self.old.events < self.old.run.limit }
         requires may { MaySend self.old.run.plan self.old.events (Content.Table place) }
-        ensures ok { IfOk result (Sends self.old (Content.Table place) self.new) }
+        ensures ok { OnOk result (self.new ≡ with_event self.old (Event.Slot (Content.Table place))) }
         ensures err { OnErr result (self.new ≡ self.old) }
     {
         self.stored.reserve(1)?;
@@ -380,40 +380,40 @@ impl Mux {
         self.progress.pass();
         self.turn.advance();
         self.counts.tables += 1;
-        Ok(packet)
+        Ok(())
     }
 
     /// Sends a null packet.
-    fn send_null(&mut self) -> Result<Packet, AllocError>
+    fn send_null(&mut self) -> Result<(), AllocError>
         requires within { slots self.old.events < self.old.run.limit }
         requires may { MaySend self.old.run.plan self.old.events Content.Null }
-        ensures ok { IfOk result (Sends self.old Content.Null self.new) }
+        ensures ok { OnOk result (self.new ≡ with_event self.old (Event.Slot Content.Null)) }
         ensures err { OnErr result (self.new ≡ self.old) }
     {
         self.stored.reserve(1)?;
-        let packet = null();
-        self.output.push(packet)?;
+        self.output.push(null())?;
         self.stored.push_reserved(StoredEvent::Null);
         clear_full(&mut self.inputs);
         self.progress.pass();
         self.turn.advance();
         self.counts.null += 1;
-        Ok(packet)
+        Ok(())
     }
 
     /// Sends the head of a stream's queue.
-    fn send_head(&mut self, place: usize, stream: Stream, now: u64) -> Result<Packet, AllocError>
+    fn send_head(&mut self, place: usize, stream: Stream, now: u64) -> Result<(), AllocError>
         requires now { now ≡ slot_time self.old.run.plan (slots self.old.events) }
         requires place { slice_get self.old.run.plan.request.streams place ≡ Some stream }
         requires within { slots self.old.events < self.old.run.limit }
         requires may { MaySend self.old.run.plan self.old.events (Content.Elementary stream) }
-        ensures ok { IfOk result (Sends self.old (Content.Elementary stream) self.new) }
+        ensures ok { OnOk result
+            (self.new ≡ with_event self.old (Event.Slot (Content.Elementary stream))) }
         ensures err { OnErr result (self.new ≡ self.old) }
     {
         self.stored.reserve(1)?;
         let item = self.queues[place].head().unwrap();
-        let packet = rewrite(&item.packet, stream.output_pid, now - item.stamp);
-        self.output.push(packet)?;
+        self.output
+            .push_rewritten(&item.packet, stream.output_pid, now - item.stamp)?;
         let _ = self.queues[place].take();
         self.stored
             .push_reserved(StoredEvent::Elementary(place as u8));
@@ -422,7 +422,26 @@ impl Mux {
         self.inputs[stream.input].sent += 1;
         self.turn.advance();
         self.counts.elementary += 1;
-        Ok(packet)
+        Ok(())
+    }
+
+    /// Sends the next slot, for which all inputs are ready.
+    fn send(&mut self, now: u64) -> Result<(), AllocError>
+        requires now { now ≡ slot_time self.old.run.plan (slots self.old.events) }
+        requires running { IsDone self.old.run.plan self.old.events → ⊥ }
+        requires within { slots self.old.events < self.old.run.limit }
+        requires ready { AllReady self.old.run.plan self.old.events }
+        ensures ok { OnOk result ((c : Content) × MaySend self.old.run.plan self.old.events c
+            × (self.new ≡ with_event self.old (Event.Slot c))) }
+        ensures err { OnErr result (self.new ≡ self.old) }
+    {
+        match self.table_due() {
+            Some(place) => self.send_table(place),
+            None => match self.next(now) {
+                None => self.send_null(),
+                Some(best) => self.send_head(best.place, best.stream, now),
+            },
+        }
     }
 
     /// Sends the next slot, where the run isn't done, has slots left, and each input is ready; in this order.
@@ -446,15 +465,9 @@ impl Mux {
         if let Some(input) = self.unready(now) {
             return Slot::NotReady(input);
         }
-        let sent = match self.table_due() {
-            Some(place) => self.send_table(place),
-            None => match self.next(now) {
-                None => self.send_null(),
-                Some(best) => self.send_head(best.place, best.stream, now),
-            },
-        };
-        match sent {
-            Ok(packet) => Slot::Sent(packet),
+        let slot = self.slots();
+        match self.send(now) {
+            Ok(()) => Slot::Sent(self.emitted(slot)),
             Err(_) => Slot::Memory,
         }
     }

@@ -2,13 +2,15 @@
 
 ghost use Rattle.std.specs.Prelude.{◌≡◌, ◌<◌, ◌++◌, ◌∷◌, [], ◌%◌, length, Some, IfOk, OnOk, OnErr, All};
 ghost use Rattle.tspkt.specs.Packet.{IsPacket};
+ghost use Rattle.tspkt.specs.Rewritten.{rewritten};
 ghost use Rattle.std.specs.List.{slice_get};
 ghost use Rattle.emission.specs.Emission.{of_pid};
 
 use crate::pid_counters::PidCounters;
 use std::alloc::{AllocError, Global};
 use std::marker::Model;
-use tspkt::Packet;
+use std::slice;
+use tspkt::{Packet, rewrite};
 
 /// The packets that went out, one a slot, and the counters that come next.
 #[derive(Drop)]
@@ -73,6 +75,29 @@ impl Output {
         let _ = packet.bytes();
         self.packets.push(packet)?;
         self.counters.count(packet.pid());
+        Ok(())
+    }
+
+    /// One more packet goes out: this one on another PID, and later by a delay in ticks of 27 MHz. It fails only for want of
+    /// memory.
+    pub fn push_rewritten(
+        &mut self,
+        packet: &Packet,
+        pid: u16,
+        delay: u64,
+    ) -> Result<(), AllocError>
+        requires { pid < 8192 }
+        ensures ok { OnOk result (self.new ≡ self.old ++ rewritten packet.now pid delay ∷ []) }
+        ensures err { OnErr result (self.new ≡ self.old) }
+    {
+        let _ = packet.bytes();
+        let slot = self.packets.len();
+        self.packets.extend_from_slice(slice::from_ref(packet))?;
+        // Where it lies, so that it is copied once.
+        let sent = &mut self.packets[slot];
+        *sent = rewrite(sent, pid, delay);
+        let _ = sent.bytes();
+        self.counters.count(pid);
         Ok(())
     }
 }

@@ -8,7 +8,7 @@ use Rattle.mux.specs.declared.content.Content.TheVariants.{Elementary}
 use Rattle.mux.specs.declared.stored_event.StoredEvent.{StoredEvent}
 use Rattle.mux.specs.declared.stored_event.StoredEvent.TheVariants as stored
 use Rattle.mux.specs.declared.input_state.InputState.{InputState}
-use Rattle.mux.specs.History.{History, with_event, slots, slot_time, emitted, packet_behind}
+use Rattle.mux.specs.History.{History, with_event, slots, slot_time}
 use Rattle.mux.specs.Stored.{history_of}
 use Rattle.mux.specs.declared.counts.Counts.{Counts}
 use Rattle.mux.specs.Totals.{is_of_input, is_elementary}
@@ -121,25 +121,16 @@ invariant_of-self-2 c =
     let head = copied_is c.head.result c.unwrap-item.result _ c.unwrap-item.ensures c.head.ensures in
     let e = with_elementary c.self.inside.plan c.self.inside.stored.items _ (reverse c.self.inside.taken.items) c.args.place c.args.stream at
     (c.push_reserved.ensures.items ∙ ap (λ (es : List StoredEvent). es ++ stored.Elementary c.args.place ∷ []) c.in_ok-reserve.ensures.items) in
-    let p = c.rewrite-packet.ensures.value ∙ sent_packet_is c.self.invariant.agrees c.args.place c.args.stream c.index.result.now c.unwrap-item.result.now c.args.now at c.index.ensures head t in
+    let p = sent_packet_is c.self.invariant.agrees c.args.place c.args.stream c.index.result.now c.unwrap-item.result.now c.args.now at c.index.ensures head t in
     sending_head c.self.invariant c.args.place c.args.stream c.index_mut-2.result.now c.index_mut.result.now c.take.new.self _ c.clear_full.new.inputs.items _ _ _ _ e c.clear_full.ensures
     c.index_mut-2.ensures.value l at c.index_mut.ensures.value c.take.ensures.rest c.send.ensures.buckets c.send.ensures.clock c.advance.ensures
-    (c.in_ok-push.ensures.ok ∙ ap (λ x. c.self.inside.output ++ x ∷ []) p)
+    (c.in_ok-push_rewritten.ensures.ok ∙ ap (λ x. c.self.inside.output ++ x ∷ []) p)
     (subst S (sym c.self.view_is) c.requires.within) may
 
 pub returns-clause-ok : goal.returns-clause-ok
 returns-clause-ok c =
     let at : slice_get c.self.inside.plan.request.streams c.args.place ≡ Some c.args.stream = ap (λ (h : History). slice_get h.run.plan.request.streams c.args.place) c.self.view_is ∙ c.requires.place in
-    let R : History → Type 0 = λ h. MaySend h.run.plan h.events (Elementary c.args.stream) in
-    let may = subst R (sym c.self.view_is) c.requires.may in
-    let next = goes_next c.self.invariant.agrees c.args.place c.args.stream c.index.result.now at c.index.ensures may.content in
-    let t = c.requires.now ∙ sym (ap (λ (h : History). slot_time h.run.plan (slots h.events)) c.self.view_is) in
-    let head = copied_is c.head.result c.unwrap-item.result _ c.unwrap-item.ensures c.head.ensures in
     let e = with_elementary c.self.inside.plan c.self.inside.stored.items _ (reverse c.self.inside.taken.items) c.args.place c.args.stream at
     (c.push_reserved.ensures.items ∙ ap (λ (es : List StoredEvent). es ++ stored.Elementary c.args.place ∷ []) c.in_ok-reserve.ensures.items) in
-    let opened : List Event → History = λ es. record { run = record { plan = c.self.inside.plan; limit = c.self.inside.limit }; events = es } in (
-      ap opened e ∙ ap (λ (h : History). with_event h (Slot (Elementary c.args.stream))) c.self.view_is,
-      c.rewrite-packet.ensures.value
-          ∙ sent_packet_is c.self.invariant.agrees c.args.place c.args.stream c.index.result.now c.unwrap-item.result.now c.args.now at c.index.ensures head t
-          ∙ ap (λ (h : History). packet_behind h.run.plan h.events (emitted h.run.plan h.events) (Elementary c.args.stream)) c.self.view_is,
-    )
+    let opened : List Event → History = λ es. record { run = record { plan = c.self.inside.plan; limit = c.self.inside.limit }; events = es } in
+    ap opened e ∙ ap (λ (h : History). with_event h (Slot (Elementary c.args.stream))) c.self.view_is

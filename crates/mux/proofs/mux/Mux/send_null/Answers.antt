@@ -27,5 +27,5 @@ invariant_of-self-2 c =
     let S : History → Type 0 = λ h. slots h.events < h.run.limit in
     let e = with_null c.self.inside.plan.request.streams c.self.inside.stored.items _ _ (c.push_reserved.ensures.items ∙ ap (λ (es : List StoredEvent). es ++ stored.Null ∷ []) c.in_ok-reserve.ensures.items) in
     sending_null c.self.invariant _ _ _ _ _ _ e c.clear_full.ensures c.pass.ensures.buckets c.pass.ensures.clock c.advance.ensures
-    (c.in_ok-push.ensures.ok ∙ ap (λ p. c.self.inside.output ++ p ∷ []) c.null-packet.ensures)
+    (c.in_ok-push.ensures.ok ∙ ap (λ p. c.self.inside.output ++ p ∷ []) c.null.ensures)
     (subst S (sym c.self.view_is) c.requires.within) (subst R (sym c.self.view_is) c.requires.may)
