@@ -25,7 +25,7 @@ use Rattle.std.specs.Io.KnownBytes.{Consumes}
 use Rattle.serial.proofs.KnownLaws.{consumes_on, consumes_nothing}
 use Rattle.serial.proofs.ItemLaws.{weight, weight-framed, placed_from, all_front}
 
-takeable-append : (plan : PlanValue) (o : OriginValue) (xs ys : List Item) → takeable plan o (xs ++ ys) ≡ takeable plan o xs ++ takeable plan o ys
+pub takeable-append : (plan : PlanValue) (o : OriginValue) (xs ys : List Item) → takeable plan o (xs ++ ys) ≡ takeable plan o xs ++ takeable plan o ys
 takeable-append plan o xs ys = filter_map-append (taken_of plan o) xs ys
 
 -- where there is no packet there is nothing to take

@@ -1,4 +1,13 @@
 pub mod KnownLaws
 pub mod ItemLaws
 pub mod InputLaws
+pub mod FailureLaws
 pub mod OrderLaws
+pub mod FeedingLaws
+pub mod FaithfulLaws
+pub mod SendingLaws
+pub mod RunningLaws
+pub mod OpeningLaws
+pub mod FaultBounds
+pub mod OutcomeLaws
+pub mod OutputLaws

@@ -1,16 +1,18 @@
 -- What an input of a run has read, and which packets it has given (profile).
-use Rattle.std.specs.Prelude.{◌≡◌, ℕ, ◌<◌, ◌≤◌, List, [], ◌++◌, length, Option, Some, None, Result, Ok, Err}
+use Rattle.std.specs.Prelude.{◌≡◌, ℕ, ◌<◌, ◌≤◌, List, [], ◌++◌, length, Option, Some, None, IsSome, Result, Ok, Err}
+use Rattle.std.specs.List.{slice_get}
 use Rattle.std.specs.Option.{option_to_list}
 use Rattle.std.specs.Io.KnownBytes.{Consumes, IsAtEnd}
 use Rattle.tspkt.specs.Framed.{FramerState, framed, seen, packets_of, still_to_tell, IsFramedSoFar}
 use Rattle.tspkt.specs.declared.item.Item.{Item}
 use Rattle.tspkt.specs.declared.stamped.Stamped.{Stamped}
 use Rattle.plan.specs.Build.{PlanValue}
+use Rattle.serial.specs.Failures.{FailsOnce}
 use Rattle.serial.specs.Takeable.{OriginValue, takeable, CountsItems}
 use Rattle.serial.specs.Reading.{ReaderValue}
 use Rattle.serial.specs.declared.report.Report.{Report}
 use Rattle.serial.specs.declared.report.Stop.{Stop}
-use Rattle.serial.specs.declared.report.Stop.TheVariants.{TooMuch}
+use Rattle.serial.specs.declared.report.Stop.TheVariants.{ReadFailed, TooMuch}
 use Rattle.serial.specs.declared.serial_input.SerialInput.{SerialInput}
 
 -- These packets begin what can be taken of the bytes, whatever follows them.
@@ -57,6 +59,18 @@ abbrev pub ReadsOn : {R : Type 0} → (R → Option (List ℕ)) → PlanValue �
 ReadsOn remaining plan old new answer =
     (bytes : List ℕ) (given : List Stamped) → HasRead remaining plan old bytes given
     → (more : List ℕ) × Consumes (remaining old.source) (remaining new.source) more × HasRead remaining plan new (bytes ++ more) (given ++ answer)
+
+-- The input's source failed so often before it was read. A failed read is told where it failed once more, and an input that
+-- is still read met none.
+pub record TellsFailures {R : Type 0} (failures : R → ℕ) (before : ℕ) (input : SerialInput R) : Type 0 where
+  pub unfailed : IsSome input.reader.framer → failures input.source ≡ before
+  pub told : input.report.stopped ≡ Some ReadFailed → FailsOnce before (failures input.source)
+
+-- the same of all inputs
+abbrev pub AllTellFailures : {R : Type 0} → (R → ℕ) → List ℕ → List (SerialInput R) → Type 0
+AllTellFailures {R} failures befores inputs =
+    (i : ℕ) (x : SerialInput R) (before : ℕ) → slice_get inputs i ≡ Some x → slice_get befores i ≡ Some before
+    → TellsFailures failures before x
 
 -- nothing is left to give
 pub record IsDone {R : Type 0} (input : SerialInput R) : Type 0 where

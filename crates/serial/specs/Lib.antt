@@ -6,3 +6,11 @@ pub mod Counting
 pub mod Reading
 pub mod InputReading
 pub mod Order
+pub mod Feeding
+pub mod Sending
+pub mod Running
+pub mod Opening
+pub mod Ending
+pub mod Outcome
+pub mod OutputFaults
+pub mod EqualOutput

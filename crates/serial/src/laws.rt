@@ -1,6 +1,8 @@
-//! What holds of each input.
+//! What holds of each input, and of what a run writes.
 
 ghost use Rattle.serial.specs.Order.{PacketsComeInOrder, PacketsAreFew};
+ghost use Rattle.serial.specs.OutputFaults.{AnalyserTellsOnlyWhatWasTaken};
+ghost use Rattle.serial.specs.EqualOutput.{EqualInputsGiveEqualBytes, BytesAreOfEveryHistory};
 
 /// The packets that a run may take of an input come in the order of their times.
 pub fn packets_come_in_order()
@@ -10,4 +12,20 @@ pub fn packets_come_in_order()
 /// There are at most 16,777,216 of an input.
 pub fn packets_are_few()
     ensures { PacketsAreFew }
+{}
+
+/// Of what a multiplex sends the analyser tells no fault of sync, none of the PAT or a PMT, and a wrong counter only where a
+/// wrong one was taken.
+pub fn analyser_tells_only_what_was_taken()
+    ensures { AnalyserTellsOnlyWhatWasTaken }
+{}
+
+/// Two runs of one plan over equal inputs write equal bytes, where nothing but their end stopped an input.
+pub fn equal_inputs_give_equal_bytes()
+    ensures { EqualInputsGiveEqualBytes }
+{}
+
+/// Such a run writes the packets of every lawful history that takes the inputs' packets in their order to its end.
+pub fn bytes_are_of_every_history()
+    ensures { BytesAreOfEveryHistory }
 {}

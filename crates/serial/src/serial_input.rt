@@ -33,7 +33,7 @@ impl<R: Source> SerialInput<R> {
     ghost use Rattle.serial.specs.Counting.{nothing_counted};
     ghost use Rattle.serial.specs.Takeable.{origin_of};
     ghost use Rattle.serial.specs.Reading.{without_framer, left_to_read};
-    ghost use Rattle.serial.specs.InputReading.{HasRead, ReadsOn, IsDone, BeginsTakeable, IsWhole, answered};
+    ghost use Rattle.serial.specs.InputReading.{HasRead, ReadsOn, TellsFailures, IsDone, BeginsTakeable, IsWhole, answered};
 
     /// The input with this number in the plan, of which nothing was read.
     pub fn new(alloc: Global, number: usize, input: &Input, source: R) -> SerialInput<R>
@@ -42,6 +42,7 @@ impl<R: Source> SerialInput<R> {
         ensures origin { result.origin ≡ origin_of number (input_value input.now) }
         ensures source { result.source ≡ source }
         ensures report { result.report ≡ nothing_counted }
+        ensures failures { TellsFailures R.failures (R.failures source) result }
         ensures open { result.is_closed ≡ false }
     {
         SerialInput {
@@ -65,6 +66,11 @@ impl<R: Source> SerialInput<R> {
         ensures failed { self.new.report.stopped ≡ Some Stop.ReadFailed
             → (self.old.report.stopped ≡ Some Stop.ReadFailed)
             ⊎ FailsOnce (R.failures self.old.source) (R.failures self.new.source) }
+        ensures failures { (before : ℕ) → TellsFailures R.failures before self.old
+            → TellsFailures R.failures before self.new }
+        ensures going { self.new.report.stopped ≡ None → self.old.report.stopped ≡ None }
+        ensures unleft { self.new.report.stopped ≡ Some Stop.Gate
+            → self.old.report.stopped ≡ Some Stop.Gate }
         ensures origin { self.new.origin ≡ self.old.origin }
         ensures closed { self.new.is_closed ≡ self.old.is_closed }
     {
@@ -82,9 +88,11 @@ impl<R: Source> SerialInput<R> {
         ensures done { IfOk result (λ found. IfNone found (IsDone self.new)) }
         ensures held { OnOk result (self.new.held ≡ None) }
         ensures memory { OnErr result (self.new.report.stopped ≡ Some Stop.Memory) }
-        ensures failed { self.new.report.stopped ≡ Some Stop.ReadFailed
-            → (self.old.report.stopped ≡ Some Stop.ReadFailed)
-            ⊎ FailsOnce (R.failures self.old.source) (R.failures self.new.source) }
+        ensures failures { (before : ℕ) → TellsFailures R.failures before self.old
+            → TellsFailures R.failures before self.new }
+        ensures going { self.new.report.stopped ≡ None → self.old.report.stopped ≡ None }
+        ensures unleft { self.new.report.stopped ≡ Some Stop.Gate
+            → self.old.report.stopped ≡ Some Stop.Gate }
         ensures origin { self.new.origin ≡ self.old.origin }
         ensures closed { self.new.is_closed ≡ self.old.is_closed }
     {
@@ -128,13 +136,11 @@ impl<R: Source> SerialInput<R> {
         ensures read { (plan : PlanValue) → ReadsOn R.remaining plan self.old self.new [] }
         ensures smaller { left_to_read self.new.reader.framer < left_to_read self.old.reader.framer }
         ensures memory { OnErr result (self.new.report.stopped ≡ Some Stop.Memory) }
-        ensures failed { self.new.report.stopped ≡ Some Stop.ReadFailed
-            → (self.old.report.stopped ≡ Some Stop.ReadFailed)
-            ⊎ FailsOnce (R.failures self.old.source) (R.failures self.new.source) }
-        ensures unfailed { IsSome self.new.reader.framer
-            → R.failures self.new.source ≡ R.failures self.old.source }
-        ensures going { IsSome self.new.reader.framer
-            → self.new.report.stopped ≡ self.old.report.stopped }
+        ensures failures { (before : ℕ) → TellsFailures R.failures before self.old
+            → TellsFailures R.failures before self.new }
+        ensures going { self.new.report.stopped ≡ None → self.old.report.stopped ≡ None }
+        ensures unleft { self.new.report.stopped ≡ Some Stop.Gate
+            → self.old.report.stopped ≡ Some Stop.Gate }
         ensures held { self.new.held ≡ self.old.held }
         ensures origin { self.new.origin ≡ self.old.origin }
         ensures closed { self.new.is_closed ≡ self.old.is_closed }
@@ -161,8 +167,9 @@ impl<R: Source> SerialInput<R> {
         ensures memory { OnErr result (self.new.report.stopped ≡ Some Stop.Memory) }
         ensures failed { self.new.report.stopped ≡ Some Stop.ReadFailed
             → self.old.report.stopped ≡ Some Stop.ReadFailed }
-        ensures going { IsSome self.new.reader.framer
-            → self.new.report.stopped ≡ self.old.report.stopped }
+        ensures going { self.new.report.stopped ≡ None → self.old.report.stopped ≡ None }
+        ensures unleft { self.new.report.stopped ≡ Some Stop.Gate
+            → self.old.report.stopped ≡ Some Stop.Gate }
         ensures stays { self.new ≡ record self.old { reader = self.new.reader; report = self.new.report } }
     {
         match self.reader.feed(piece) {
@@ -190,6 +197,9 @@ impl<R: Source> SerialInput<R> {
         ensures memory { OnErr result (self.new.report.stopped ≡ Some Stop.Memory) }
         ensures failed { self.new.report.stopped ≡ Some Stop.ReadFailed
             → self.old.report.stopped ≡ Some Stop.ReadFailed }
+        ensures going { self.new.report.stopped ≡ None → self.old.report.stopped ≡ None }
+        ensures unleft { self.new.report.stopped ≡ Some Stop.Gate
+            → self.old.report.stopped ≡ Some Stop.Gate }
         ensures stays { self.new ≡ record self.old { reader = self.new.reader; report = self.new.report } }
     {
         match self.reader.finish() {
@@ -243,6 +253,7 @@ impl<R: Source> SerialInput<R> {
             → self.new.report ≡ record self.old.report { stopped = Some Stop.Gate } }
         ensures closed { self.old.is_closed ≡ true → self.new ≡ self.old }
         ensures stopped { IsSome self.old.report.stopped → self.new ≡ self.old }
+        ensures source { self.new.source ≡ self.old.source }
     {
         if !self.is_closed && self.report.stopped.is_none() {
             self.stop(Stop::Gate);

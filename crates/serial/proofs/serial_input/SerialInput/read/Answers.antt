@@ -1,9 +1,11 @@
-use Rattle.std.proofs.Common.{rules, ◌≡◌, ◌<◌, length, [], ◌++◌, take, sym, ap, subst}
+use Rattle.std.proofs.Common.{rules, ◌≡◌, ◌<◌, length, [], ◌++◌, take, sym, ap, ◌∙◌, subst}
 use Rattle.std.proofs.lemmas.List.{append-nil}
 use Rattle.std.specs.Io.KnownBytes.{Consumes}
 use Rattle.serial.specs.InputReading.{HasRead}
 use Rattle.serial.proofs.KnownLaws.{keeps_consumes}
+use Rattle.serial.specs.Failures.{FailsOnce}
 use Rattle.serial.proofs.InputLaws.{looked_elsewhere}
+use Rattle.serial.proofs.FailureLaws.{tells_still, tells_failed}
 use Rattle.serial.proofs.serial_input.SerialInput.read.Goals as goal
 
 pub returns-in-Ok-eq0-clause-read : goal.returns-in-Ok-eq0-clause-read
@@ -43,3 +45,22 @@ returns-in-Err-clause-read g c = λ plan bytes given h.
       subst (λ v. Consumes (R s.source) (R v) []) (sym (ap (λ v. v.source) c.stop.ensures.stays)) (keeps_consumes _ _ c.in-Err.ensures.bytes),
       subst (λ v. HasRead R plan c.stop.new.self v (given ++ [])) (sym (append-nil bytes)) (subst (λ v. HasRead R plan c.stop.new.self bytes v) (sym (append-nil given)) read),
     )
+
+pub returns-in-Ok-eq0-clause-failures : goal.returns-in-Ok-eq0-clause-failures
+returns-in-Ok-eq0-clause-failures g c before tells =
+    let failures = g.R.Source.failures in
+    tells_still failures before c.args.self.now c.finish.new.self (ap (λ v. failures v.source) c.finish.ensures.stays ∙ c.in-Ok-eq0.ensures.ok)
+    (λ some. c.requires.open) c.finish.ensures.failed tells
+
+pub returns-in-Ok-clause-failures : goal.returns-in-Ok-clause-failures
+returns-in-Ok-clause-failures g c before tells =
+    let failures = g.R.Source.failures in
+    tells_still failures before c.args.self.now c.feed.new.self (ap (λ v. failures v.source) c.feed.ensures.stays ∙ c.in-Ok.ensures.ok)
+    (λ some. c.requires.open) c.feed.ensures.failed tells
+
+pub returns-in-Err-clause-failures : goal.returns-in-Err-clause-failures
+returns-in-Err-clause-failures g c before tells =
+    let s = c.args.self.now in
+    let failures = g.R.Source.failures in
+    let failed = subst (λ v. FailsOnce (failures s.source) (failures v)) (sym (ap (λ v. v.source) c.stop.ensures.stays)) c.in-Err.ensures.err in
+    tells_failed failures before s c.stop.new.self c.requires.open (ap (λ v. v.reader.framer) c.stop.ensures.stays) failed tells

@@ -1,0 +1,279 @@
+-- What an input gives is what the multiplex may take.
+use Rattle.std.proofs.lemmas.Bool.Decides.{nat_tests}
+use Rattle.std.proofs.Common.{ℕ, ◌<◌, ◌≤◌, ◌≡◌, Bool, true, false, nat_eq, nat_lt, ltb, eq-eqb, List, [], ◌∷◌, ◌++◌, length, Option, Some, None, is_some, if◌then◌else◌, ◌||◌, length-append, refl, ap, ◌∙◌, sym, subst, arith, inl, inr, append_assoc}
+use Rattle.std.specs.Option.{option_to_list}
+use Rattle.std.specs.Prelude.{Result, Ok, Err, OnOk}
+use Rattle.std.proofs.lemmas.Bool.{cases_Bool, ne_eqb, false≢true}
+use Rattle.std.proofs.lemmas.List.{append-nil}
+use Rattle.std.specs.Io.KnownBytes.{Consumes, IsAtEnd}
+use Rattle.tspkt.specs.Packet.{pid_of}
+use Rattle.tspkt.specs.Framed.{framed}
+use Rattle.tspkt.specs.declared.item.Item.{Item}
+use Rattle.tspkt.specs.declared.item.Item.TheVariants.{Packet, Bad, SyncLoss, Lost}
+use Rattle.tspkt.specs.declared.stamped.Stamped.{Stamped}
+use Rattle.request.specs.declared.stream.Stream.{Stream}
+use Rattle.plan.specs.declared.stream.Stream.{Stream as Planned}
+use Rattle.plan.specs.Build.{PlanValue}
+use Rattle.plan.specs.StreamPlace.{planned_stream}
+use Rattle.mux.specs.declared.event.Event.{Event}
+use Rattle.mux.specs.declared.event.Event.TheVariants.{Took, Full, Close, Slot}
+use Rattle.mux.specs.History.{History, slots, slot_time, taken, last_stamp, is_closed, full_noted}
+use Rattle.mux.specs.Lawful.{is_mapped, is_queue_full, is_ready}
+use Rattle.mux.proofs.Mapped.{planned_some}
+use Rattle.mux.proofs.Refusals.{goes_from, mapped_at, is_refused_full, is_unrefused}
+use Rattle.serial.specs.Takeable.{OriginValue, takeable, is_well_formed, is_named}
+use Rattle.serial.specs.Order.{ComeFrom}
+use Rattle.serial.specs.InputReading.{HasLooked, ReadsOn, IsDone}
+use Rattle.serial.specs.Reading.{ReaderValue}
+use Rattle.serial.specs.declared.report.Report.{Report}
+use Rattle.serial.specs.declared.report.Stop.TheVariants.{Gate}
+use Rattle.serial.specs.declared.serial_input.SerialInput.{SerialInput}
+use Rattle.serial.specs.Feeding.{IsOrigin, HasGiven, Feeds, MayBeTaken, IsOfInput, IsGivenOrHeld, turns_left}
+use Rattle.serial.proofs.InputLaws.{told_inside, takeable-append}
+use Rattle.serial.proofs.OrderLaws.{come_in_order, are_few}
+
+-- Each packet that can be taken is one that the plan names.
+
+abbrev AreNamed : PlanValue → OriginValue → List Stamped → Type 0
+AreNamed plan origin [] = Unit {0}
+AreNamed plan origin (x ∷ xs) = (is_named plan origin x.packet ≡ true) × AreNamed plan origin xs
+
+named : (plan : PlanValue) (origin : OriginValue) (items : List Item) → AreNamed plan origin (takeable plan origin items)
+named plan origin [] = tt
+named plan origin (Packet place bytes ∷ items) =
+    let rest = named plan origin items in
+    elim (cases_Bool (is_well_formed bytes)) [
+      | inl e ↦ elim (cases_Bool (is_named plan origin bytes)) [ inl f ↦ rw (e, f) (f, rest) | inr f ↦ rw (e, f) rest ]
+      | inr e ↦ rw e rest
+    ]
+named plan origin (Bad place ∷ items) = named plan origin items
+named plan origin (SyncLoss place ∷ items) = named plan origin items
+named plan origin (Lost count ∷ items) = named plan origin items
+
+named_at : (plan : PlanValue) (origin : OriginValue) (xs ys : List Stamped) (x : Stamped) → AreNamed plan origin (xs ++ x ∷ ys) → is_named plan origin x.packet ≡ true
+named_at plan origin [] ys x all = all.0
+named_at plan origin (y ∷ xs) ys x all = named_at plan origin xs ys x all.1
+
+some_planned : (plan : PlanValue) (i : ℕ) (item : Stamped) (o : Option Planned) → planned_stream plan.request.streams i (pid_of item.packet) ≡ o → is_some o ≡ true → is_mapped plan i item ≡ true
+some_planned plan i item None e some = cc
+some_planned plan i item (Some x) e some =
+    let planned = planned_some plan.request.streams i (pid_of item.packet) x e in
+    mapped_at plan i item x.number planned.stream planned.there (goes_from planned.stream i item planned.input_is planned.pid_is)
+
+-- No packet comes before the one that was taken last.
+
+abbrev last_of : ℕ → List Stamped → ℕ
+last_of t [] = t
+last_of t (x ∷ xs) = last_of x.stamp xs
+
+come_at : (t : ℕ) (xs ys : List Stamped) (x : Stamped) → ComeFrom t (xs ++ x ∷ ys) → last_of t xs ≤ x.stamp
+come_at t [] ys x c = c.0
+come_at t (y ∷ xs) ys x c = come_at y.stamp xs ys x c.1
+
+last_push : (t : ℕ) (xs : List Stamped) (x : Stamped) → last_of t (xs ++ x ∷ []) ≡ x.stamp
+last_push t [] x = refl
+last_push t (y ∷ xs) x = last_push y.stamp xs x
+
+last_taken : (i : ℕ) (h : List Event) → last_stamp i h ≡ last_of 0 (taken i h)
+last_taken i [] = refl
+last_taken i (Took j item ∷ h) = elim (cases_Bool (nat_eq j i)) [ inl e ↦ rw e (sym (last_push 0 (taken i h) item)) | inr e ↦ rw e (last_taken i h) ]
+last_taken i (Full j st ∷ h) = last_taken i h
+last_taken i (Close j ∷ h) = last_taken i h
+last_taken i (Slot c ∷ h) = last_taken i h
+
+-- What was given begins what can be taken of bytes that aren't too many.
+
+abbrev pub IsInside : PlanValue → OriginValue → List Stamped → Type 0
+IsInside plan origin given = (inside : List ℕ) × (later : List Stamped) × (length inside ≤ 3154116608) × (given ++ later ≡ takeable plan origin (framed 188 inside))
+
+pub given_inside : (plan : PlanValue) (o : OriginValue) (reader : ReaderValue) (held : Option Stamped) (report : Report) (at_end : Type 0) (bytes : List ℕ) (given : List Stamped) (looked : List Item)
+    → HasLooked plan o reader held report at_end bytes given looked → IsInside plan o given
+given_inside plan o reader held report at_end bytes given looked has =
+    let told = told_inside plan o reader.framer (looked ++ reader.ahead) bytes report.stopped at_end has.told in
+    let rest = takeable plan o reader.ahead ++ takeable plan o told.1 in (
+      told.0,
+      option_to_list held ++ rest,
+      told.2,
+      sym (append_assoc given (option_to_list held) rest)
+          ∙ ap (λ xs. xs ++ rest) (sym has.given_is)
+          ∙ sym (append_assoc (takeable plan o looked) (takeable plan o reader.ahead) (takeable plan o told.1))
+          ∙ ap (λ xs. xs ++ takeable plan o told.1) (sym (takeable-append plan o looked reader.ahead))
+          ∙ sym (takeable-append plan o (looked ++ reader.ahead) told.1)
+          ∙ ap (takeable plan o) told.3,
+    )
+
+pub few : (plan : PlanValue) (o : OriginValue) (given : List Stamped) → IsInside plan o given → length given ≤ 16777216
+few plan o given is =
+    let all = takeable plan o (framed 188 is.0) in
+    let most = are_few plan o is.0 is.2 in
+    let parts : length given ≤ length all = omega (arith, length-append given is.1, ap length is.3) in
+    omega (arith, most, parts)
+
+-- the next packet of an input may be taken
+pub may_be_taken : (p : PlanValue) (h : List Event) (i : ℕ) (o : OriginValue) (item : Stamped) → o.number ≡ i → 0 < o.rate → is_closed i h ≡ false → IsInside p o (taken i h ++ item ∷ [])
+    → MayBeTaken p h i item
+may_be_taken p h i o item number rate opened is =
+    let all = takeable p o (framed 188 is.0) in
+    let split : taken i h ++ item ∷ is.1 ≡ all = sym (append_assoc (taken i h) (item ∷ []) is.1) ∙ is.3 in
+    let named_here : is_named p o item.packet ≡ true =
+    (let P : List Stamped → Type 0 = AreNamed p o in named_at p o (taken i h) is.1 item (subst P (sym split) (named p o (framed 188 is.0)))) in
+    let mapped : is_mapped p i item ≡ true =
+    (let P : ℕ → Type 0 = λ n. is_mapped p n item ≡ true in subst P number (some_planned p o.number item (planned_stream p.request.streams o.number (pid_of item.packet)) refl named_here)) in
+    let order : last_of 0 (taken i h) ≤ item.stamp =
+    (let P : List Stamped → Type 0 = ComeFrom 0 in come_at 0 (taken i h) is.1 item (subst P (sym split) (come_in_order p o is.0 rate))) in
+    let last = last_taken i h in
+    let later : last_stamp i h ≤ item.stamp = omega (arith, last, order) in
+    let forward : ltb item.stamp (last_stamp i h) ≡ false = grind (arith, nat_tests) in
+    elim (cases_Bool (is_queue_full p h i item)) [
+      | inl e ↦ inr (is_refused_full p h i item opened mapped forward e)
+      | inr e ↦ inl (is_unrefused p h i item opened mapped forward e)
+    ]
+
+-- Events of one input are nothing to another.
+
+pub taken_other : (i j : ℕ) (e : Event) (h : List Event) → IsOfInput i e → (i ≡ j → ⊥) → taken j (e ∷ h) ≡ taken j h
+taken_other i j (Took k item) h is ne = ap (λ b. if b then taken j h ++ item ∷ [] else taken j h) (ne_eqb k j (λ same. ne (sym is ∙ same)))
+taken_other i j (Full k st) h is ne = refl
+taken_other i j (Close k) h is ne = refl
+taken_other i j (Slot c) h is ne = absurd is
+
+pub closed_other : (i j : ℕ) (e : Event) (h : List Event) → IsOfInput i e → (i ≡ j → ⊥) → is_closed j (e ∷ h) ≡ is_closed j h
+closed_other i j (Took k item) h is ne = refl
+closed_other i j (Full k st) h is ne = refl
+closed_other i j (Close k) h is ne = ap (λ b. b || is_closed j h) (ne_eqb k j (λ same. ne (sym is ∙ same)))
+closed_other i j (Slot c) h is ne = absurd is
+
+-- An input that goes on.
+
+consumes_on : (a b c : Option (List ℕ)) (xs ys : List ℕ) → Consumes a b xs → Consumes b c ys → Consumes a c (xs ++ ys)
+consumes_on None b c xs ys f g = tt
+consumes_on (Some first) None c xs ys f g = absurd f
+consumes_on (Some first) (Some second) None xs ys f g = absurd g
+consumes_on (Some first) (Some second) (Some third) xs ys f g = f ∙ ap (λ zs. xs ++ zs) g ∙ sym (append_assoc xs ys third)
+
+pub given_on : {R : Type 0} (remaining : R → Option (List ℕ)) (p : PlanValue) (i : ℕ) (start : Option (List ℕ)) (old new : SerialInput R) (given more : List Stamped)
+    → HasGiven remaining p i start old given → ReadsOn remaining p old new more → new.origin ≡ old.origin → HasGiven remaining p i start new (given ++ more)
+given_on remaining p i start old new given more has reads origin =
+    let b = has.read in
+    let on = reads b.0 given b.2 in
+    let P : OriginValue → Type 0 = IsOrigin p i in
+    record {
+      origin = subst P (sym origin) has.origin;
+      read = (b.0 ++ on.0, consumes_on start (remaining old.source) (remaining new.source) b.0 on.0 b.1 on.1, on.2);
+    }
+
+-- what was given isn't too much
+inside_given : {R : Type 0} (remaining : R → Option (List ℕ)) (p : PlanValue) (i : ℕ) (start : Option (List ℕ)) (x : SerialInput R) (given : List Stamped)
+    → HasGiven remaining p i start x given → IsInside p x.origin given
+inside_given remaining p i start x given has =
+    let b = has.read in
+    given_inside p x.origin x.reader x.held x.report (IsAtEnd (remaining x.source)) b.0 given b.2.0 b.2.1
+
+or_false : (a b : Bool) → a || b ≡ false → (a ≡ false) × (b ≡ false)
+or_false true b e = cc
+or_false false b e = (refl, e)
+
+-- an input for which the multiplex waits is opened, and no full queue of it was noted
+pub record IsWaitedFor (i : ℕ) (h : List Event) : Type 0 where
+  pub open_ : is_closed i h ≡ false
+  pub noted : full_noted i h ≡ false
+
+pub waited_for : (p : PlanValue) (i : ℕ) (h : List Event) → is_ready p i h ≡ false → IsWaitedFor i h
+waited_for p i h e =
+    let parts = or_false (is_closed i h || nat_lt (slot_time p (slots h)) (last_stamp i h)) (full_noted i h) e in
+    let two = or_false (is_closed i h) (nat_lt (slot_time p (slots h)) (last_stamp i h)) parts.0 in
+    record { open_ = two.0; noted = parts.1 }
+
+pub next_may_be_taken : {R : Type 0} (remaining : R → Option (List ℕ)) (p : PlanValue) (h : List Event) (i : ℕ) (start : Option (List ℕ)) (x : SerialInput R) (item : Stamped)
+    → is_closed i h ≡ false → HasGiven remaining p i start x (taken i h ++ item ∷ []) → MayBeTaken p h i item
+next_may_be_taken remaining p h i start x item opened has =
+    let o = has.origin in
+    let number : x.origin.number ≡ i = ap (λ (v : OriginValue). v.number) o.3 in
+    let rate : x.origin.rate ≡ o.0.rate = ap (λ (v : OriginValue). v.rate) o.3 in
+    let least = o.2.rate.0 in
+    may_be_taken p h i x.origin item number (omega (arith, rate, least)) opened (inside_given remaining p i start x (taken i h ++ item ∷ []) has)
+
+-- it is closed in the multiplex, where nothing is left of it
+pub feeds_closed : {R : Type 0} (remaining : R → Option (List ℕ)) (p : PlanValue) (h : List Event) (i : ℕ) (start : Option (List ℕ)) (x : SerialInput R)
+    → HasGiven remaining p i start x (taken i h) → IsDone x → (x.report.stopped ≡ Some Gate → ⊥) → Feeds remaining p (Close i ∷ h) i start (record x { is_closed = true })
+feeds_closed remaining p h i start x has done unleft = record {
+  given = record { origin = has.origin; read = has.read };
+  closed = sym (ap (λ b. b || is_closed i h) (eq-eqb i i refl));
+  over = λ e. record { framer = done.framer; ahead = done.ahead; held = done.held };
+  unleft = unleft;
+}
+
+-- its next packet is taken
+feeds_taken : {R : Type 0} (remaining : R → Option (List ℕ)) (p : PlanValue) (h : List Event) (i : ℕ) (start : Option (List ℕ)) (x : SerialInput R) (item : Stamped)
+    → HasGiven remaining p i start x (taken i h ++ item ∷ []) → is_closed i h ≡ false → x.is_closed ≡ is_closed i h → (x.report.stopped ≡ Some Gate → ⊥) → Feeds remaining p (Took i item ∷ h) i start x
+feeds_taken remaining p h i start x item has opened closed unleft =
+    let P : List Stamped → Type 0 = HasGiven remaining p i start x in
+    let now : taken i (Took i item ∷ h) ≡ taken i h ++ item ∷ [] = ap (λ b. if b then taken i h ++ item ∷ [] else taken i h) (eq-eqb i i refl) in
+    record {
+      given = subst P (sym now) has;
+      closed = closed;
+      over = λ e. absurd (false≢true (sym opened ∙ sym closed ∙ e));
+      unleft = unleft;
+    }
+
+hold_read : (plan : PlanValue) (o : OriginValue) (reader : ReaderValue) (held : Option Stamped) (report : Report) (at_end : Type 0) (bytes : List ℕ) (given : List Stamped) (item : Stamped) (looked : List Item)
+    → held ≡ None → HasLooked plan o reader held report at_end bytes (given ++ item ∷ []) looked → HasLooked plan o reader (Some item) report at_end bytes given looked
+hold_read plan o reader held report at_end bytes given item looked none has = record {
+  told = has.told;
+  given_is = has.given_is ∙ ap (λ v. (given ++ item ∷ []) ++ option_to_list v) none ∙ append-nil (given ++ item ∷ []);
+  counts = has.counts;
+}
+
+-- its next packet is held
+feeds_held : {R : Type 0} (remaining : R → Option (List ℕ)) (p : PlanValue) (h : List Event) (i : ℕ) (start : Option (List ℕ)) (x : SerialInput R) (item : Stamped) (st : Stream)
+    → x.held ≡ None → HasGiven remaining p i start x (taken i h ++ item ∷ []) → is_closed i h ≡ false → x.is_closed ≡ is_closed i h → (x.report.stopped ≡ Some Gate → ⊥)
+    → Feeds remaining p (Full i st ∷ h) i start (record x { held = Some item })
+feeds_held remaining p h i start x item st none has opened closed unleft =
+    let b = has.read in
+    record {
+      given = record {
+        origin = has.origin;
+        read = (b.0, b.1, (b.2.0, hold_read p x.origin x.reader x.held x.report (IsAtEnd (remaining x.source)) b.0 (taken i h) item b.2.0 none b.2.1));
+      };
+      closed = closed;
+      over = λ e. absurd (false≢true (sym opened ∙ sym closed ∙ e));
+      unleft = unleft;
+    }
+
+pub feeds_given : {R : Type 0} (remaining : R → Option (List ℕ)) (p : PlanValue) (before after : History) (i : ℕ) (start : Option (List ℕ)) (x y : SerialInput R) (item : Stamped)
+    → IsGivenOrHeld before after i x y item → x.held ≡ None → HasGiven remaining p i start x (taken i before.events ++ item ∷ []) → is_closed i before.events ≡ false
+    → x.is_closed ≡ is_closed i before.events → (x.report.stopped ≡ Some Gate → ⊥) → Feeds remaining p after.events i start y
+feeds_given remaining p before after i start x y item (inl is) none has opened closed unleft =
+    let P : History → Type 0 = λ v. Feeds remaining p v.events i start y in
+    let Q : SerialInput _ → Type 0 = Feeds remaining p (Took i item ∷ before.events) i start in
+    subst P (sym is.0) (subst Q (sym is.1) (feeds_taken remaining p before.events i start x item has opened closed unleft))
+feeds_given remaining p before after i start x y item (inr is) none has opened closed unleft =
+    let P : History → Type 0 = λ v. Feeds remaining p v.events i start y in
+    let Q : SerialInput _ → Type 0 = Feeds remaining p (Full i is.0 ∷ before.events) i start in
+    subst P (sym is.1) (subst Q (sym is.2) (feeds_held remaining p before.events i start x item is.0 none has opened closed unleft))
+
+-- there is a turn less
+
+fewer_taken : (i : ℕ) (item : Stamped) (h : List Event) → length (taken i h ++ item ∷ []) ≤ 16777216 → turns_left i (Took i item ∷ h) < turns_left i h
+fewer_taken i item h within = rw (eq-eqb i i refl) (let l = length-append (taken i h) (item ∷ []) in omega (arith, within, l))
+
+fewer_noted : (i : ℕ) (st : Stream) (h : List Event) → full_noted i h ≡ false → turns_left i (Full i st ∷ h) < turns_left i h
+fewer_noted i st h none = rw (eq-eqb i i refl, none) (omega arith)
+
+pub fewer : {R : Type 0} (before after : History) (i : ℕ) (x y : SerialInput R) (item : Stamped) → IsGivenOrHeld before after i x y item
+    → length (taken i before.events ++ item ∷ []) ≤ 16777216 → full_noted i before.events ≡ false → turns_left i after.events < turns_left i before.events
+fewer before after i x y item (inl is) within none =
+    let P : History → Type 0 = λ v. turns_left i v.events < turns_left i before.events in
+    subst P (sym is.0) (fewer_taken i item before.events within)
+fewer before after i x y item (inr is) within none =
+    let P : History → Type 0 = λ v. turns_left i v.events < turns_left i before.events in
+    subst P (sym is.1) (fewer_noted i is.0 before.events none)
+
+pub few_given : {R : Type 0} (remaining : R → Option (List ℕ)) (p : PlanValue) (i : ℕ) (start : Option (List ℕ)) (x : SerialInput R) (given : List Stamped)
+    → HasGiven remaining p i start x given → length given ≤ 16777216
+few_given remaining p i start x given has = few p x.origin given (inside_given remaining p i start x given has)
+
+-- from two clauses of a result
+pub on_ok_two : {T E P Q S : Type 0} (r : Result T E) → OnOk r P → OnOk r Q → (P → Q → S) → OnOk r S
+on_ok_two (Ok x) p q f = f p q
+on_ok_two (Err e) p q f = tt

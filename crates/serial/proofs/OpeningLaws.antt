@@ -1,0 +1,120 @@
+-- The inputs of a run before anything is read.
+use Rattle.std.proofs.Common.{ℕ, zero, suc, ◌<◌, ◌≡◌, ◌⊎◌, List, [], ◌∷◌, ◌++◌, length, map, Option, Some, false, refl, ap, ◌∙◌, sym, subst, arith, inl, inr}
+use Rattle.std.specs.List.{slice_get}
+use Rattle.std.proofs.lemmas.List.{length-append}
+use Rattle.std.proofs.lemmas.Option.{same_Some, slice_get_within, slice_get_cases, slice_get-map}
+use Rattle.std.specs.Option.{option_map}
+use Rattle.std.specs.Io.KnownBytes.{Consumes}
+use Rattle.std.proofs.KnownBytes.{Consumes-nil}
+use Rattle.request.specs.Request.{InputValue, IsInput, input_value}
+use Rattle.request.specs.declared.input.Input.{Input}
+use Rattle.plan.specs.Build.{PlanValue}
+use Rattle.serial.specs.Counting.{nothing_counted}
+use Rattle.serial.specs.Takeable.{origin_of}
+use Rattle.serial.specs.InputReading.{HasRead}
+use Rattle.serial.specs.InputReading.{TellsFailures, AllTellFailures}
+use Rattle.mux.specs.declared.event.Event.{Event}
+use Rattle.mux.specs.History.{History, opened, emitted}
+use Rattle.mux.specs.Faithful.{IsFaithful}
+use Rattle.serial.specs.Feeding.{packet_lists}
+use Rattle.serial.specs.Sending.{HasAnalysed}
+use Rattle.serial.specs.Opening.{IsOpened, AreOpened}
+use Rattle.serial.specs.Running.{AreFed, IsRunning}
+use Rattle.serial.specs.declared.serial_run.SerialRun.{SerialRun}
+use Rattle.serial.specs.declared.serial_input.SerialInput.{SerialInput}
+
+-- an element of a list with one more stands in the list, or is the last
+pub push_cases : {X : Type 0} (xs : List X) (y : X) (i : ℕ) (x : X) → slice_get (xs ++ y ∷ []) i ≡ Some x → (slice_get xs i ≡ Some x) ⊎ ((i ≡ length xs) × (x ≡ y))
+push_cases [] y zero x at = inr (refl, sym (same_Some y x at))
+push_cases [] y (suc i) x at = cc
+push_cases (z ∷ xs) y zero x at = inl at
+push_cases (z ∷ xs) y (suc i) x at = elim (push_cases xs y i x at) [ inl h ↦ inl h | inr h ↦ inr (ap suc h.0, h.1) ]
+
+-- what an element of a list with each element's image is of
+pub from_map : {X Y : Type 0} (f : X → Y) (xs : List X) (i : ℕ) (y : Y) → slice_get (map f xs) i ≡ Some y → (x : X) × (slice_get xs i ≡ Some x) × (f x ≡ y)
+from_map f [] i y at = cc
+from_map f (x ∷ xs) zero y at = (x, refl, same_Some (f x) y at)
+from_map f (x ∷ xs) (suc i) y at = from_map f xs i y at
+
+pub opened_push : {R : Type 0} (remaining : R → Option (List ℕ)) (failures : R → ℕ) (p : PlanValue) (readers : List R) (inputs : List (SerialInput R)) (reader : R) (x : SerialInput R)
+    → AreOpened remaining failures p readers inputs → IsOpened remaining failures p (length inputs) reader x
+    → AreOpened remaining failures p (readers ++ reader ∷ []) (inputs ++ x ∷ [])
+opened_push {R} remaining failures p readers inputs reader x are is = record {
+  count = omega (arith, are.count, length-append readers (reader ∷ []), length-append inputs (x ∷ []));
+  each = λ i r y atr aty.
+      elim (push_cases inputs x i y aty) [
+        | inl there ↦ elim (push_cases readers reader i r atr) [
+          | inl here ↦ are.each i r y here there
+          | inr end ↦ absurd (omega (arith, slice_get_within inputs i y there, end.0, are.count))
+        ]
+        | inr last ↦ elim (push_cases readers reader i r atr) [
+          | inl here ↦ absurd (omega (arith, slice_get_within readers i r here, last.0, are.count))
+          | inr end ↦
+              (let P : ℕ → Type 0 = λ n. IsOpened remaining failures p n r y in
+              let Q : R → Type 0 = λ v. IsOpened remaining failures p (length inputs) v y in
+              let S : SerialInput R → Type 0 = λ v. IsOpened remaining failures p (length inputs) reader v in
+              subst P (sym last.0) (subst Q (sym end.1) (subst S (sym last.1) is)))
+        ]
+      ];
+}
+
+pub fed_of_opened : {R : Type 0} (remaining : R → Option (List ℕ)) (failures : R → ℕ) (p : PlanValue) (readers : List R) (inputs : List (SerialInput R)) → length readers ≡ length p.request.inputs
+    → AreOpened remaining failures p readers inputs → AreFed remaining p [] (map remaining readers) inputs
+fed_of_opened remaining failures p readers inputs count are = record {
+  count = are.count ∙ count;
+  each = λ i x at.
+      elim (slice_get_cases readers i).1 [
+        | inl found ↦ (remaining found.0, slice_get-map remaining readers i ∙ ap (option_map remaining) found.2, (are.each i found.0 x found.2 at).feeds)
+        | inr past ↦ absurd (omega (arith, slice_get_within inputs i x at, past.0, are.count))
+      ];
+}
+
+pub told_of_opened : {R : Type 0} (remaining : R → Option (List ℕ)) (failures : R → ℕ) (p : PlanValue) (readers : List R) (inputs : List (SerialInput R))
+    → AreOpened remaining failures p readers inputs → AllTellFailures failures (map failures readers) inputs
+told_of_opened remaining failures p readers inputs are i x before at from =
+    let r = from_map failures readers i before from in
+    let P : ℕ → Type 0 = λ n. TellsFailures failures n x in
+    subst P r.2 ((are.each i r.0 x r.1 at).told)
+
+-- an input of a plan, as its number and its parts give it
+pub input_at : (p : PlanValue) (inputs : List Input) (i : ℕ) (x : Input) → map input_value inputs ≡ p.request.inputs → slice_get inputs i ≡ Some x
+    → slice_get p.request.inputs i ≡ Some (input_value x)
+input_at p inputs i x same at =
+    let P : List InputValue → Type 0 = λ v. slice_get v i ≡ Some (input_value x) in
+    subst P same (slice_get-map input_value inputs i ∙ ap (option_map input_value) at)
+
+pub opened_input : {R : Type 0} (remaining : R → Option (List ℕ)) (failures : R → ℕ) (p : PlanValue) (i : ℕ) (input : InputValue) (reader : R) (x : SerialInput R)
+    → slice_get p.request.inputs i ≡ Some input → IsInput input → x.origin ≡ origin_of i input → x.source ≡ reader → x.report ≡ nothing_counted → x.is_closed ≡ false
+    → HasRead remaining p x [] [] → TellsFailures failures (failures reader) x → IsOpened remaining failures p i reader x
+opened_input {R} remaining failures p i input reader x at is origin source report opened read tells =
+    let C : R → Type 0 = λ v. Consumes (remaining reader) (remaining v) [] in
+    record {
+      feeds = record {
+        given = record {
+          origin = (input, at, is, origin);
+          read = ([], subst C (sym source) (Consumes-nil (remaining reader)), read);
+        };
+        closed = opened;
+        over = λ e. (let bad = sym opened ∙ e in cc);
+        unleft = λ e. (let bad = sym (ap (λ v. v.stopped) report) ∙ e in cc);
+      };
+      told = tells;
+    }
+
+-- a run of which nothing was read or sent
+pub runs_opened : {R : Type 0} (remaining : R → Option (List ℕ)) (failures : R → ℕ) (p : PlanValue) (limit : ℕ) (readers : List R) (r : SerialRun R)
+    → r.plan ≡ p → r.mux ≡ opened p limit → length readers ≡ length p.request.inputs → AreOpened remaining failures p readers r.inputs.items → 0 < length r.piece.items
+    → HasAnalysed r.output p.request.rate p.request.watch [] → IsRunning remaining (record { plan = p; limit = limit }) (map remaining readers) r
+runs_opened remaining failures p limit readers r plan mux count are piece analysed =
+    let none : [] ≡ r.mux.events = sym (ap (λ (v : History). v.events) mux) in
+    let F : List Event → Type 0 = λ h. AreFed remaining p h (map remaining readers) r.inputs.items in
+    let G : List Event → Type 0 = IsFaithful (packet_lists p (map remaining readers)) in
+    let H : List Event → Type 0 = λ h. HasAnalysed r.output p.request.rate p.request.watch (emitted p h) in
+    record {
+      plan_is = plan;
+      run_is = ap (λ (v : History). v.run) mux;
+      fed = subst F none (fed_of_opened remaining failures p readers r.inputs.items count are);
+      piece = piece;
+      faithful = λ known unstopped. subst G none tt;
+      analysed = subst H none analysed;
+    }

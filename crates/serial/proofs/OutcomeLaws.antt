@@ -1,0 +1,295 @@
+-- What comes of a run.
+use Rattle.std.proofs.Common.{ℕ, ◌≤◌, ◌≡◌, ◌⊎◌, List, [], ◌∷◌, ◌++◌, length, map, Option, None, Some, true, false, refl, ap, ◌∙◌, sym, subst, arith, inl, inr}
+use Rattle.std.specs.Prelude.{IsSome}
+use Rattle.std.specs.List.{slice_get}
+use Rattle.std.specs.Io.KnownBytes.{Consumes, IsAtEnd, Appends}
+use Rattle.std.proofs.lemmas.Bool.{cases_eq, cases_Bool}
+use Rattle.std.proofs.Math.Nat.{min-eq_left}
+use Rattle.std.proofs.lemmas.List.{length-append, append-nil, map-append}
+use Rattle.std.proofs.lemmas.Option.{same_Some, slice_get_within, slice_get_cases, slice_get-map}
+use Rattle.std.specs.Option.{option_map, option_to_list}
+use Rattle.tspkt.specs.Framed.{FramerState, framed}
+use Rattle.tspkt.specs.declared.item.Item.{Item}
+use Rattle.tspkt.specs.declared.stamped.Stamped.{Stamped}
+use Rattle.request.specs.Request.{InputValue}
+use Rattle.plan.specs.Build.{PlanValue}
+use Rattle.mux.specs.declared.event.Event.{Event}
+use Rattle.mux.specs.History.{Run, taken, slots, emitted}
+use Rattle.std.proofs.KnownBytes.{Appends-nil}
+use Rattle.mux.specs.Lawful.{IsLawfulRun}
+use Rattle.mux.specs.Faithful.{IsFinished}
+use Rattle.mux.specs.Totals.{IsTotals, IsCounts}
+use Rattle.mux.specs.Headline.{IsSound}
+use Rattle.mux.proofs.Emitted.{length-emitted}
+use Rattle.analyse.specs.Faults.{faults}
+use Rattle.serial.specs.Failures.{FailsOnce}
+use Rattle.serial.specs.Takeable.{OriginValue, takeable, origin_of, CountsItems}
+use Rattle.serial.specs.Reading.{ReaderValue}
+use Rattle.serial.specs.InputReading.{HasTold, HasLooked, AllTellFailures}
+use Rattle.serial.specs.Feeding.{Feeds, AreUnstopped}
+use Rattle.serial.specs.Written.{Sends}
+use Rattle.serial.specs.Sending.{bytes_of, fault_count}
+use Rattle.serial.specs.Running.{AreFed, IsRunning, IsOver}
+use Rattle.serial.specs.Ending.{IsLast, AreReported}
+use Rattle.serial.specs.Outcome.{HasEnded, IsInputSummary, AreUnfailed, FailuresAreTold, HasRun, HasBegun}
+use Rattle.serial.specs.declared.report.Report.{Report}
+use Rattle.serial.specs.declared.report.Stop.{Stop}
+use Rattle.serial.specs.declared.report.Stop.TheVariants.{Gate, ReadFailed, TooMuch}
+use Rattle.serial.specs.declared.serial_input.SerialInput.{SerialInput}
+use Rattle.serial.specs.declared.summary.InputSummary.{InputSummary}
+use Rattle.serial.specs.declared.summary.Summary.{Summary}
+use Rattle.serial.specs.declared.serial_run.SerialRun.{SerialRun}
+use Rattle.serial.proofs.InputLaws.{told_too_much}
+use Rattle.serial.proofs.RunningLaws.{begun}
+use Rattle.serial.proofs.FaultBounds.{few_faults}
+use Rattle.serial.proofs.OpeningLaws.{push_cases, from_map}
+
+-- ---- the reports
+
+pub reported_push : {R : Type 0} (p : PlanValue) (h : List Event) (inputs : List (SerialInput R)) (summaries : List InputSummary) (sources : List R) (x : SerialInput R) (s : InputSummary) (source : R)
+    → AreReported p h inputs summaries sources → source ≡ x.source → IsTotals p (length summaries) h s.totals → IsLast x s.report
+    → AreReported p h (inputs ++ x ∷ []) (summaries ++ s ∷ []) (sources ++ source ∷ [])
+reported_push {R} p h inputs summaries sources x s source are same totals last = record {
+  length_is = omega (arith, are.length_is, length-append summaries (s ∷ []), length-append inputs (x ∷ []));
+  sources_are = ap (λ v. v ++ source ∷ []) are.sources_are ∙ ap (λ v. map (λ y. y.source) inputs ++ v ∷ []) same ∙ sym (map-append (λ (y : SerialInput R). y.source) inputs (x ∷ []));
+  totals = λ i t at.
+      elim (push_cases summaries s i t at) [
+        | inl there ↦ are.totals i t there
+        | inr end ↦
+            (let P : ℕ → Type 0 = λ n. IsTotals p n h t.totals in
+            let Q : InputSummary → Type 0 = λ v. IsTotals p (length summaries) h v.totals in
+            subst P (sym end.0) (subst Q (sym end.1) totals))
+      ];
+  reports = λ i y t aty att.
+      elim (push_cases summaries s i t att) [
+        | inl there ↦ elim (push_cases inputs x i y aty) [
+          | inl here ↦ are.reports i y t here there
+          | inr end ↦ absurd (omega (arith, slice_get_within summaries i t there, end.0, are.length_is))
+        ]
+        | inr end ↦ elim (push_cases inputs x i y aty) [
+          | inl here ↦ absurd (omega (arith, slice_get_within inputs i y here, end.0, are.length_is))
+          | inr ends ↦
+              (let P : InputSummary → Type 0 = λ v. IsLast y v.report in
+              let Q : SerialInput R → Type 0 = λ v. IsLast v s.report in
+              subst P (sym end.1) (subst Q (sym ends.1) last))
+        ]
+      ];
+}
+
+open_stopped : {R : Type 0} (x : SerialInput R) (report : Report) (cause : Stop) (stopped : Option Stop) → x.report.stopped ≡ stopped → x.is_closed ≡ false → IsLast x report → report.stopped ≡ Some cause → (cause ≡ Gate → ⊥) → report ≡ x.report
+open_stopped x report cause None is opened last e other =
+    absurd (other (same_Some cause Gate (sym e ∙ ap (λ v. v.stopped) (last.left opened is))))
+open_stopped x report cause (Some s) is opened last e other =
+    let P : Option Stop → Type 0 = IsSome in
+    last.stopped (subst P (sym is) refl)
+
+-- what stopped the input stands in its last report, but for the end of the run
+pub stopped_before : {R : Type 0} (x : SerialInput R) (report : Report) (cause : Stop) → IsLast x report → report.stopped ≡ Some cause → (cause ≡ Gate → ⊥) → report ≡ x.report
+stopped_before x report cause last e other =
+    elim (cases_Bool x.is_closed) [
+      | inl closed ↦ last.closed closed
+      | inr opened ↦ open_stopped x report cause x.report.stopped refl opened last e other
+    ]
+
+-- an input that nothing stopped is closed, and its report is the last one
+pub unstopped : {R : Type 0} (x : SerialInput R) (report : Report) (stopped : Option Stop) → x.report.stopped ≡ stopped → IsLast x report → report.stopped ≡ None → (x.is_closed ≡ true) × (report ≡ x.report)
+unstopped x report None is last e =
+    elim (cases_Bool x.is_closed) [
+      | inl closed ↦ (closed, last.closed closed)
+      | inr opened ↦ (let bad = sym e ∙ ap (λ v. v.stopped) (last.left opened is) in cc)
+    ]
+unstopped x report (Some s) is last e =
+    let P : Option Stop → Type 0 = IsSome in
+    let same = last.stopped (subst P (sym is) refl) in
+    let bad = sym e ∙ ap (λ v. v.stopped) same ∙ is in cc
+
+-- ---- an input that ended
+
+whole_of : (plan : PlanValue) (o : OriginValue) (framer : Option FramerState) (told : List Item) (bytes : List ℕ) (stopped : Option Stop) (at_end : Type 0)
+    → framer ≡ None → stopped ≡ None → HasTold plan o framer told bytes stopped at_end → (told ≡ framed 188 bytes) × at_end
+whole_of plan o None told bytes stopped at_end e s h = h.ended s
+whole_of plan o (Some f) told bytes stopped at_end e s h = cc
+
+pub whole_input : (plan : PlanValue) (o : OriginValue) (reader : ReaderValue) (held : Option Stamped) (report : Report) (at_end : Type 0) (bytes : List ℕ) (given : List Stamped) (looked : List Item)
+    → HasLooked plan o reader held report at_end bytes given looked → reader.framer ≡ None → reader.ahead ≡ [] → held ≡ None → report.stopped ≡ None
+    → (given ≡ takeable plan o (framed 188 bytes)) × CountsItems plan o (framed 188 bytes) report × at_end
+whole_input plan o reader held report at_end bytes given looked has framer ahead free stopped =
+    let w = whole_of plan o reader.framer (looked ++ reader.ahead) bytes report.stopped at_end framer stopped has.told in
+    let all : looked ≡ framed 188 bytes = sym (append-nil looked) ∙ ap (λ xs. looked ++ xs) (sym ahead) ∙ w.0 in
+    let C : List Item → Type 0 = λ xs. CountsItems plan o xs report in (
+      sym (append-nil given) ∙ ap (λ v. given ++ option_to_list v) (sym free) ∙ sym has.given_is ∙ ap (takeable plan o) all,
+      subst C all has.counts,
+      w.1,
+    )
+
+-- all bytes were read where the source is at its end
+pub all_read : (start rest : Option (List ℕ)) (bytes all : List ℕ) → start ≡ Some all → Consumes start rest bytes → IsAtEnd rest → all ≡ bytes
+all_read None rest bytes all e used end = cc
+all_read (Some first) None bytes all e used end = absurd used
+all_read (Some first) (Some more) bytes all e used end = sym (same_Some first all e) ∙ used ∙ ap (λ v. bytes ++ v) end ∙ append-nil bytes
+
+pub some_read : (start rest : Option (List ℕ)) (bytes all : List ℕ) → start ≡ Some all → Consumes start rest bytes → length bytes ≤ length all
+some_read None rest bytes all e used = cc
+some_read (Some first) None bytes all e used = absurd used
+some_read (Some first) (Some more) bytes all e used =
+    omega (arith, ap length (sym (same_Some first all e) ∙ used), length-append bytes more)
+
+pub ended : {R : Type 0} (remaining : R → Option (List ℕ)) (p : PlanValue) (h : List Event) (i : ℕ) (input : InputValue) (start : Option (List ℕ)) (x : SerialInput R) (s : InputSummary) (all : List ℕ)
+    → slice_get p.request.inputs i ≡ Some input → Feeds remaining p h i start x → x.is_closed ≡ true → s.report ≡ x.report → s.report.stopped ≡ None → start ≡ Some all
+    → HasEnded p h i input all s
+ended remaining p h i input start x s all at f closed same unstopped known =
+    let o = f.given.origin in
+    let origin : x.origin ≡ origin_of i input = o.3 ∙ ap (origin_of i) (same_Some o.0 input (sym o.1 ∙ at)) in
+    let r = f.given.read in
+    let done = f.over closed in
+    let w = whole_input p x.origin x.reader x.held x.report (IsAtEnd (remaining x.source)) r.0 (taken i h) r.2.0 r.2.1 done.framer done.ahead done.held (ap (λ v. v.stopped) (sym same) ∙ unstopped) in
+    let bytes : all ≡ r.0 = all_read start (remaining x.source) r.0 all known r.1 w.2 in
+    let P : List ℕ → Type 0 = λ v. taken i h ≡ takeable p (origin_of i input) (framed 188 v) in
+    let Q : OriginValue → Type 0 = λ v. taken i h ≡ takeable p v (framed 188 r.0) in
+    let C : List ℕ → Type 0 = λ v. CountsItems p (origin_of i input) (framed 188 v) s.report in
+    let D : OriginValue → Type 0 = λ v. CountsItems p v (framed 188 r.0) s.report in
+    let E : Report → Type 0 = λ v. CountsItems p x.origin (framed 188 r.0) v in
+    record { taken_is = subst P (sym bytes) (subst Q origin w.0); counts = subst C (sym bytes) (subst D origin (subst E (sym same) w.1)) }
+
+pub input_summary : {R : Type 0} (remaining : R → Option (List ℕ)) (p : PlanValue) (h : List Event) (i : ℕ) (input : InputValue) (start : Option (List ℕ)) (x : SerialInput R) (s : InputSummary)
+    → slice_get p.request.inputs i ≡ Some input → Feeds remaining p h i start x → IsTotals p i h s.totals → IsLast x s.report
+    → IsInputSummary p h i input start s
+input_summary remaining p h i input start x s at f totals last = record {
+  totals = totals;
+  closed = λ e. sym f.closed ∙ (unstopped x s.report x.report.stopped refl last e).0;
+  ended = λ e all known.
+      let u = unstopped x s.report x.report.stopped refl last e in
+      ended remaining p h i input start x s all at f u.0 u.1 e known;
+  left = λ e.
+      elim (cases_Bool x.is_closed) [
+        | inl closed ↦ absurd (f.unleft (ap (λ v. v.stopped) (sym (last.closed closed)) ∙ e))
+        | inr opened ↦ sym f.closed ∙ opened
+      ];
+  too_much = λ e all known.
+      let same = stopped_before x s.report TooMuch last e (λ bad. cc) in
+      let r = f.given.read in
+      let much = told_too_much p x.origin x.reader.framer (r.2.0 ++ x.reader.ahead) r.0 x.report.stopped (IsAtEnd (remaining x.source)) r.2.1.told (ap (λ v. v.stopped) (sym same) ∙ e) in
+      let some = some_read start (remaining x.source) r.0 all known r.1 in
+      omega (arith, much, some);
+}
+
+unstopped_one : {R : Type 0} (x : SerialInput R) (report : Report) (stopped : Option Stop) → x.report.stopped ≡ stopped → IsLast x report → (x.report.stopped ≡ Some Gate → ⊥)
+    → (report.stopped ≡ None) ⊎ (report.stopped ≡ Some Gate) → x.report.stopped ≡ None
+unstopped_one x report None is last unleft cause = is
+unstopped_one x report (Some s) is last unleft cause =
+    let P : Option Stop → Type 0 = IsSome in
+    let same = last.stopped (subst P (sym is) refl) in
+    elim cause [
+      | inl e ↦ (let bad = sym e ∙ ap (λ v. v.stopped) same ∙ is in cc)
+      | inr e ↦ absurd (unleft (ap (λ v. v.stopped) (sym same) ∙ e))
+    ]
+
+-- nothing stopped an input of a run whose end is its only cause
+pub unstopped_all : {R : Type 0} (remaining : R → Option (List ℕ)) (p : PlanValue) (h : List Event) (starts : List (Option (List ℕ))) (inputs : List (SerialInput R)) (summaries : List InputSummary) (sources : List R)
+    → AreFed remaining p h starts inputs → AreReported p h inputs summaries sources → AreUnfailed summaries → AreUnstopped inputs
+unstopped_all remaining p h starts inputs summaries sources fed are unfailed i x at =
+    elim (slice_get_cases summaries i).1 [
+      | inl found ↦
+          (let last = are.reports i x found.0 at found.2 in
+          unstopped_one x found.0.report x.report.stopped refl last (fed.each i x at).2.unleft (unfailed i found.0 found.2))
+      | inr past ↦ absurd (omega (arith, slice_get_within inputs i x at, past.0, are.length_is))
+    ]
+
+-- ---- failures of sources
+
+pub failures_told : {R : Type 0} (failures : R → ℕ) (p : PlanValue) (h : List Event) (inputs : List (SerialInput R)) (summaries : List InputSummary) (before after : List R)
+    → AllTellFailures failures (map failures before) inputs → AreReported p h inputs summaries after → FailuresAreTold failures before after summaries
+failures_told {R} failures p h inputs summaries before after tell are i s old new ats atb ata e =
+    let M : List R → Type 0 = λ v. slice_get v i ≡ Some new in
+    let m = from_map (λ (y : SerialInput R). y.source) inputs i new (subst M are.sources_are ata) in
+    let x = m.0 in
+    let same = stopped_before x s.report ReadFailed (are.reports i x s m.1 ats) e (λ bad. cc) in
+    let told = (tell i x (failures old) m.1 (slice_get-map failures before i ∙ ap (option_map failures) atb)).told (ap (λ v. v.stopped) (sym same) ∙ e) in
+    let P : R → Type 0 = λ v. FailsOnce (failures old) (failures v) in
+    subst P m.2 told
+
+-- ---- the end
+
+pub finished : (run : Run) (h : List Event) → slots h ≤ run.limit → IsOver run h → IsFinished run.plan run.limit h
+finished run h within over =
+    elim (cases_eq (slots h) run.limit) [
+      | inl e ↦ inl e
+      | inr ne ↦ elim over [
+        | inl full ↦ absurd (ne (omega (arith, within, full)))
+        | inr done ↦ inr (omega (arith, within, ne), done)
+      ]
+    ]
+
+faults_exact : (run : Run) (h : List Event) (told : ℕ) → slots h ≤ run.limit → run.limit ≤ 1000000 → told ≡ fault_count run.plan.request.rate run.plan.request.watch (emitted run.plan h)
+    → told ≡ length (faults run.plan.request.rate run.plan.request.watch (emitted run.plan h))
+faults_exact run h told within few is =
+    let bound = few_faults run.plan.request.rate run.plan.request.watch (emitted run.plan h) in
+    let count = length-emitted run.plan h in
+    let all = length (faults run.plan.request.rate run.plan.request.watch (emitted run.plan h)) in
+    let fits : all ≤ 18446744073709551615 = omega (arith, bound, count, within, few) in
+    is ∙ min-eq_left fits
+
+summary_input : {R : Type 0} (remaining : R → Option (List ℕ)) (p : PlanValue) (h : List Event) (starts : List (Option (List ℕ))) (inputs : List (SerialInput R)) (summaries : List InputSummary) (sources : List R)
+    → AreFed remaining p h starts inputs → AreReported p h inputs summaries sources
+    → (i : ℕ) (input : InputValue) (start : Option (List ℕ)) (s : InputSummary) → slice_get p.request.inputs i ≡ Some input → slice_get starts i ≡ Some start → slice_get summaries i ≡ Some s
+    → IsInputSummary p h i input start s
+summary_input remaining p h starts inputs summaries sources fed are i input start s at from told =
+    elim (slice_get_cases inputs i).1 [
+      | inl found ↦
+          (let x = found.0 in
+          let f = fed.each i x found.2 in
+          let P : Option (List ℕ) → Type 0 = λ v. Feeds remaining p h i v x in
+          input_summary remaining p h i input start x s at (subst P (same_Some f.0 start (sym f.1 ∙ from)) f.2) (are.totals i s told) (are.reports i x s found.2 told))
+      | inr past ↦ absurd (omega (arith, slice_get_within summaries i s told, past.0, are.length_is))
+    ]
+
+pub has_run : {R : Type 0} (remaining : R → Option (List ℕ)) (run : Run) (starts : List (Option (List ℕ))) (r : SerialRun R) (before after : Option (List ℕ)) (s : Summary) (sources : List R)
+    → run.limit ≤ 1000000 → IsRunning remaining run starts r → IsOver run r.mux.events → IsSound r.mux → Appends before after (bytes_of (emitted run.plan r.mux.events))
+    → AreReported r.mux.run.plan r.mux.events r.inputs.items s.inputs.items sources → IsCounts r.mux.events s.counts → s.faults ≡ r.output.faults
+    → HasRun (record { run = run; events = r.mux.events }) starts before after s
+has_run remaining run starts r before after s sources few is over sound written reported counts told =
+    let h = r.mux.events in
+    let S : Run → Type 0 = λ v. IsSound (record { run = v; events = h }) in
+    let A : Run → Type 0 = λ v. AreReported v.plan h r.inputs.items s.inputs.items sources in
+    let sound_run = subst S is.run_is sound in
+    let are = subst A is.run_is reported in
+    record {
+      sound = sound_run;
+      finished = finished run h sound_run.run.within over;
+      written = written;
+      begun = begun remaining run.plan h starts r.inputs.items is.fed;
+      faithful = λ known unfailed. is.faithful known (unstopped_all remaining run.plan h starts r.inputs.items s.inputs.items sources is.fed are unfailed);
+      summary = record {
+        length_is = are.length_is ∙ is.fed.count;
+        inputs = summary_input remaining run.plan h starts r.inputs.items s.inputs.items sources is.fed are;
+        counts = counts;
+        faults = faults_exact run h s.faults sound_run.run.within few (told ∙ is.analysed.faults_are);
+      };
+    }
+
+-- ---- what was written
+
+pub nothing_sent : (p : PlanValue) (h : List Event) (before : Option (List ℕ)) (waiting : List ℕ) → h ≡ [] → waiting ≡ [] → Sends before before (bytes_of (emitted p h)) waiting
+nothing_sent p h before waiting none empty =
+    let P : List Event → Type 0 = λ v. Sends before before (bytes_of (emitted p v)) waiting in
+    subst P (sym none) ([], Appends-nil before, sym empty)
+
+-- a run that could not be opened
+pub has_begun_nothing : (run : Run) (starts : List (Option (List ℕ))) (before : Option (List ℕ)) → HasBegun (record { run = run; events = [] }) starts before before
+has_begun_nothing run starts before = record {
+  lawful = record { lawful = tt; within = omega arith };
+  begun = λ i input all at start. (takeable run.plan (origin_of i input) (framed 188 all), refl);
+  written = ([], nothing_sent run.plan [] before [] refl refl);
+}
+
+-- a run that wrote all, and could not be told of
+pub has_begun_all : {R : Type 0} (remaining : R → Option (List ℕ)) (run : Run) (starts : List (Option (List ℕ))) (r : SerialRun R) (before after : Option (List ℕ))
+    → IsRunning remaining run starts r → IsSound r.mux → Appends before after (bytes_of (emitted run.plan r.mux.events)) → HasBegun (record { run = run; events = r.mux.events }) starts before after
+has_begun_all remaining run starts r before after is sound written =
+    let L : Run → Type 0 = λ v. IsLawfulRun v r.mux.events in
+    let bytes = bytes_of (emitted run.plan r.mux.events) in
+    record {
+      lawful = subst L is.run_is sound.run;
+      begun = begun remaining run.plan r.mux.events starts r.inputs.items is.fed;
+      written = ([], (bytes, written, sym (append-nil bytes)));
+    }

@@ -1,0 +1,349 @@
+-- A run, step by step.
+use Rattle.std.proofs.Common.{ℕ, zero, suc, ◌+◌, ◌-◌, ◌*◌, ◌<◌, ◌≤◌, ◌≡◌, if◌then◌else◌, ◌||◌, List, [], ◌∷◌, ◌++◌, length, set, get_or, Option, None, Some, refl, ap, ◌∙◌, sym, subst, arith, inl, inr, append_assoc}
+use Rattle.std.specs.List.{slice_get, range_with_len, sum_by}
+use Rattle.std.specs.Io.KnownBytes.{Consumes, IsAtEnd, Appends}
+use Rattle.std.proofs.lemmas.Bool.{cases_eq, cases_Bool, ne_eqb}
+use Rattle.std.proofs.lemmas.List.{length-set, append-nil}
+use Rattle.std.proofs.lemmas.Grind.{flat_map-append}
+use Rattle.std.proofs.Math.Nat.{suc-mul}
+use Rattle.std.proofs.lemmas.Option.{same_Some, slice_get-get_or, slice_get_within, slice_get_cases}
+use Rattle.std.proofs.lemmas.List.Sums.{sum_by-cons}
+use Rattle.plan.specs.Build.{PlanValue}
+use Rattle.mux.specs.declared.event.Event.{Event}
+use Rattle.mux.specs.declared.event.Event.TheVariants.{Took, Full, Close, Slot}
+use Rattle.mux.specs.declared.content.Content.{Content}
+use Rattle.mux.specs.History.{Run, History, with_event, slots, emitted, packet_behind, taken, is_closed, full_noted}
+use Rattle.mux.specs.declared.slot.Slot.TheVariants.{Sent}
+use Rattle.mux.specs.Answers.{SlotAnswers}
+use Rattle.mux.specs.Faithful.{IsFaithful}
+use Rattle.tspkt.specs.declared.stamped.Stamped.{Stamped}
+use Rattle.serial.specs.InputReading.{HasRead}
+use Rattle.serial.specs.Feeding.{Feeds, AreKnown, AreUnstopped, packet_lists, IsOfInput, turns_left}
+use Rattle.serial.specs.Running.{AreFed, AreBegun, IsRunning, steps_left}
+use Rattle.serial.specs.Sending.{bytes_of, HasAnalysed}
+use Rattle.serial.specs.Written.{Sends, SendsBeginning}
+use Rattle.serial.specs.Takeable.{takeable, origin_of}
+use Rattle.serial.proofs.InputLaws.{given_begins}
+use Rattle.tspkt.specs.Framed.{framed}
+use Rattle.serial.specs.declared.slot_writer.SlotWriter.{SlotWriter}
+use Rattle.serial.specs.declared.serial_run.SerialRun.{SerialRun}
+use Rattle.serial.proofs.KnownLaws.{appends_on}
+use Rattle.serial.specs.declared.serial_input.SerialInput.{SerialInput}
+use Rattle.serial.proofs.FeedingLaws.{taken_other, closed_other}
+
+-- an event of an input sends nothing
+pub emitted_same : (p : PlanValue) (i : ℕ) (e : Event) (h : List Event) → IsOfInput i e → emitted p (e ∷ h) ≡ emitted p h
+emitted_same p i (Took j item) h is = refl
+emitted_same p i (Full j st) h is = refl
+emitted_same p i (Close j) h is = refl
+emitted_same p i (Slot c) h is = absurd is
+
+pub slots_same : (i : ℕ) (e : Event) (h : List Event) → IsOfInput i e → slots (e ∷ h) ≡ slots h
+slots_same i (Took j item) h is = refl
+slots_same i (Full j st) h is = refl
+slots_same i (Close j) h is = refl
+slots_same i (Slot c) h is = absurd is
+
+-- a slot takes nothing of an input
+pub fed_slot : {R : Type 0} (remaining : R → Option (List ℕ)) (p : PlanValue) (h : List Event) (c : Content) (starts : List (Option (List ℕ))) (inputs : List (SerialInput R))
+    → AreFed remaining p h starts inputs → AreFed remaining p (Slot c ∷ h) starts inputs
+fed_slot remaining p h c starts inputs fed = record {
+  count = fed.count;
+  each = λ i x at.
+      let f = fed.each i x at in
+      (f.0, f.1, record { given = record { origin = f.2.given.origin; read = f.2.given.read }; closed = f.2.closed; over = f.2.over; unleft = f.2.unleft });
+}
+
+-- an input goes on, and the others stay
+pub feeds_other : {R : Type 0} (remaining : R → Option (List ℕ)) (p : PlanValue) (i j : ℕ) (e : Event) (h : List Event) (start : Option (List ℕ)) (x : SerialInput R)
+    → IsOfInput i e → (i ≡ j → ⊥) → Feeds remaining p h j start x → Feeds remaining p (e ∷ h) j start x
+feeds_other {R} remaining p i j e h start x is ne f =
+    let P : List Stamped → Type 0 = λ (xs : List Stamped). (bytes : List ℕ) × Consumes start (remaining x.source) bytes × HasRead remaining p x bytes xs in
+    record {
+      given = record { origin = f.given.origin; read = subst P (sym (taken_other i j e h is ne)) f.given.read };
+      closed = f.closed ∙ sym (closed_other i j e h is ne);
+      over = f.over;
+      unleft = f.unleft;
+    }
+
+-- Sums over the inputs.
+
+sum_outside : (f g : ℕ → ℕ) (i start n : ℕ) → ((j : ℕ) → (i ≡ j → ⊥) → g j ≡ f j) → i < start → sum_by g (range_with_len start n) ≡ sum_by f (range_with_len start n)
+sum_outside f g i start zero same l = refl
+sum_outside f g i start (suc n) same l =
+    let rest = sum_outside f g i (start + 1) n same (omega (arith, l)) in
+    let here = same start (λ e. absurd (omega (arith, l, e))) in
+    omega (arith, rest, here, sum_by-cons f start (range_with_len (start + 1) n), sum_by-cons g start (range_with_len (start + 1) n))
+
+pub sum_less : (f g : ℕ → ℕ) (i start n : ℕ) → ((j : ℕ) → (i ≡ j → ⊥) → g j ≡ f j) → g i < f i → start ≤ i → i < start + n → sum_by g (range_with_len start n) < sum_by f (range_with_len start n)
+sum_less f g i start zero same less from to = absurd (omega (arith, from, to))
+sum_less f g i start (suc n) same less from to =
+    let cf = sum_by-cons f start (range_with_len (start + 1) n) in
+    let cg = sum_by-cons g start (range_with_len (start + 1) n) in
+    elim (cases_eq i start) [
+      | inl e ↦
+          (let rest = sum_outside f g i (start + 1) n same (omega (arith, e)) in
+          let P : ℕ → Type 0 = λ k. g k < f k in
+          let here = subst P e less in
+          omega (arith, rest, here, cf, cg))
+      | inr ne ↦
+          (let rest = sum_less f g i (start + 1) n same less (omega (arith, from, ne)) (omega (arith, to)) in
+          let here = same start ne in
+          omega (arith, rest, here, cf, cg))
+    ]
+
+pub sum_more : (f g : ℕ → ℕ) (start n : ℕ) → ((j : ℕ) → g j ≤ f j + 1) → sum_by g (range_with_len start n) ≤ sum_by f (range_with_len start n) + n
+sum_more f g start zero each = omega arith
+sum_more f g start (suc n) each =
+    let rest = sum_more f g (start + 1) n each in
+    let here = each start in
+    omega (arith, rest, here, sum_by-cons f start (range_with_len (start + 1) n), sum_by-cons g start (range_with_len (start + 1) n))
+
+-- An input in its list.
+
+pub set_here : {X : Type 0} (xs : List X) (i : ℕ) (y : X) → i < length xs → slice_get (set xs i y) i ≡ Some y
+set_here [] i y l = absurd (omega (arith, l))
+set_here (x ∷ xs) zero y l = refl
+set_here (x ∷ xs) (suc i) y l = set_here xs i y (omega (arith, l))
+
+pub set_there : {X : Type 0} (xs : List X) (i j : ℕ) (y : X) → (i ≡ j → ⊥) → slice_get (set xs i y) j ≡ slice_get xs j
+set_there [] i j y ne = refl
+set_there (x ∷ xs) zero zero y ne = absurd (ne refl)
+set_there (x ∷ xs) zero (suc j) y ne = refl
+set_there (x ∷ xs) (suc i) zero y ne = refl
+set_there (x ∷ xs) (suc i) (suc j) y ne = set_there xs i j y (λ e. ne (ap suc e))
+
+-- input i goes on by an event, and the others stay
+pub fed_input : {R : Type 0} (remaining : R → Option (List ℕ)) (p : PlanValue) (h : List Event) (e : Event) (i : ℕ) (starts : List (Option (List ℕ))) (inputs : List (SerialInput R)) (x y : SerialInput R)
+    → x ≡ get_or inputs i x → i < length p.request.inputs → IsOfInput i e → AreFed remaining p h starts inputs
+    → ((start : Option (List ℕ)) → Feeds remaining p h i start x → Feeds remaining p (e ∷ h) i start y) → AreFed remaining p (e ∷ h) starts (set inputs i y)
+fed_input remaining p h e i starts inputs x y at l is fed goes = record {
+  count = length-set inputs i y ∙ fed.count;
+  each = λ j z there.
+      elim (cases_eq i j) [
+        | inl same ↦
+            (let within : i < length inputs = omega (arith, l, fed.count) in
+            let here : slice_get inputs i ≡ Some x = slice_get-get_or inputs i x within ∙ ap Some (sym at) in
+            let f = fed.each i x here in
+            let new : y ≡ z = same_Some y z (sym (set_here inputs i y within) ∙ ap (slice_get (set inputs i y)) same ∙ there) in
+            let P : ℕ → Type 0 = λ k. (start : Option (List ℕ)) × (slice_get starts k ≡ Some start) × Feeds remaining p (e ∷ h) k start z in
+            let Q : SerialInput _ → Type 0 = Feeds remaining p (e ∷ h) i f.0 in
+            subst P same (f.0, f.1, subst Q new (goes f.0 f.2)))
+        | inr ne ↦
+            (let f = fed.each j z (sym (set_there inputs i j y ne) ∙ there) in
+            (f.0, f.1, feeds_other remaining p i j e h f.0 z is ne f.2))
+      ];
+}
+
+-- The steps that are left.
+
+other_turns : (i j : ℕ) (e : Event) (h : List Event) → IsOfInput i e → (i ≡ j → ⊥) → turns_left j (e ∷ h) ≡ turns_left j h
+other_turns i j (Took k item) h is ne =
+    ap (λ n. 16777216 - length n + (if is_closed j h then 0 else 1) + (if full_noted j h then 0 else 1)) (taken_other i j (Took k item) h is ne)
+other_turns i j (Full k st) h is ne =
+    ap (λ b. 16777216 - length (taken j h) + (if is_closed j h then 0 else 1) + (if b || full_noted j h then 0 else 1)) (ne_eqb k j (λ same. ne (sym is ∙ same)))
+other_turns i j (Close k) h is ne =
+    ap (λ b. 16777216 - length (taken j h) + (if b || is_closed j h then 0 else 1) + (if full_noted j h then 0 else 1)) (ne_eqb k j (λ same. ne (sym is ∙ same)))
+other_turns i j (Slot c) h is ne = absurd is
+
+pub fewer_by_input : (run : Run) (h : List Event) (e : Event) (i : ℕ) → i < length run.plan.request.inputs → IsOfInput i e → turns_left i (e ∷ h) < turns_left i h
+    → steps_left run (e ∷ h) < steps_left run h
+fewer_by_input run h e i l is less =
+    let n = length run.plan.request.inputs in
+    let sums = sum_less (λ j. turns_left j h) (λ j. turns_left j (e ∷ h)) i 0 n (λ j ne. other_turns i j e h is ne) less (omega arith) (omega (arith, l)) in
+    let P : ℕ → Type 0 = λ m. (run.limit - m) * (n + 1) + sum_by (λ j. turns_left j (e ∷ h)) (range_with_len 0 n) < steps_left run h in
+    subst P (sym (slots_same i e h is)) (omega (arith, sums))
+
+slot_turns : (c : Content) (h : List Event) (j : ℕ) → turns_left j (Slot c ∷ h) ≤ turns_left j h + 1
+slot_turns c h j = elim (cases_Bool (full_noted j h)) [ inl e ↦ rw e (omega arith) | inr e ↦ rw e (omega arith) ]
+
+one_row : (m n : ℕ) → 0 < m → (m - 1) * (n + 1) + (n + 1) ≡ m * (n + 1)
+one_row zero n l = absurd (omega (arith, l))
+one_row (suc m) n l =
+    let less : suc m - 1 ≡ m = omega arith in
+    ap (λ k. k * (n + 1) + (n + 1)) less ∙ sym (suc-mul m (n + 1))
+
+pub fewer_by_slot : (run : Run) (h : List Event) (c : Content) → slots h < run.limit → steps_left run (Slot c ∷ h) < steps_left run h
+fewer_by_slot run h c within =
+    let n = length run.plan.request.inputs in
+    let sums = sum_more (λ j. turns_left j h) (λ j. turns_left j (Slot c ∷ h)) 0 n (slot_turns c h) in
+    let row = one_row (run.limit - slots h) n (omega (arith, within)) in
+    let less : run.limit - (slots h + 1) ≡ run.limit - slots h - 1 = omega arith in
+    let P : ℕ → Type 0 = λ m. m * (n + 1) + sum_by (λ j. turns_left j (Slot c ∷ h)) (range_with_len 0 n) < steps_left run h in
+    subst P (sym less) (omega (arith, sums, row))
+
+-- A slot is sent.
+
+-- what it leaves: the event, and the packet that went out
+record IsSent (p : PlanValue) (old new : History) (packet : List ℕ) : Type 0 where
+  content : Content
+  events : new.events ≡ Slot content ∷ old.events
+  out : emitted p new.events ≡ emitted p old.events ++ packet ∷ []
+
+is_sent : (p : PlanValue) (old new : History) (packet : List ℕ) → old.run.plan ≡ p → SlotAnswers old (Sent packet) new → IsSent p old new packet
+is_sent p old new packet plan answer =
+    let sent = answer.1 in
+    let c = sent.0 in
+    let h = old.events in
+    let events : new.events ≡ Slot c ∷ h = ap (λ (v : History). v.events) sent.2.0 in
+    let packet_is : packet ≡ packet_behind p h (emitted p h) c = sent.2.1 ∙ ap (λ q. packet_behind q h (emitted q h) c) plan in
+    record {
+      content = c;
+      events = events;
+      out = ap (emitted p) events ∙ ap (λ q. emitted p h ++ q ∷ []) (sym packet_is);
+    }
+
+pub runs_sent : {R : Type 0} (remaining : R → Option (List ℕ)) (run : Run) (starts : List (Option (List ℕ))) (old : SerialRun R) (mux : History) (output : SlotWriter) (packet : List ℕ)
+    → IsRunning remaining run starts old → SlotAnswers old.mux (Sent packet) mux → mux.run ≡ old.mux.run
+    → ((rate period : ℕ) (sent : List (List ℕ)) → HasAnalysed old.output rate period sent → HasAnalysed output rate period (sent ++ packet ∷ []))
+    → IsRunning remaining run starts (record old { mux = mux; output = output })
+runs_sent remaining run starts old mux output packet is answer same analysed =
+    let p = run.plan in
+    let sent = is_sent p old.mux mux packet (ap (λ (v : Run). v.plan) is.run_is) answer in
+    let F : List Event → Type 0 = λ h. AreFed remaining p h starts old.inputs.items in
+    let A : List (List ℕ) → Type 0 = HasAnalysed output p.request.rate p.request.watch in
+    let T : List Event → Type 0 = IsFaithful (packet_lists p starts) in
+    record {
+      plan_is = is.plan_is;
+      run_is = same ∙ is.run_is;
+      fed = subst F (sym sent.events) (fed_slot remaining p old.mux.events sent.content starts old.inputs.items is.fed);
+      piece = is.piece;
+      faithful = λ known going. subst T (sym sent.events) (is.faithful known going);
+      analysed = subst A (sym sent.out) (analysed p.request.rate p.request.watch (emitted p old.mux.events) is.analysed);
+    }
+
+pub fewer_sent : (old new : History) (packet : List ℕ) → SlotAnswers old (Sent packet) new → steps_left old.run new.events < steps_left old.run old.events
+fewer_sent old new packet answer =
+    let sent = is_sent old.run.plan old new packet refl answer in
+    let P : List Event → Type 0 = λ h. steps_left old.run h < steps_left old.run old.events in
+    subst P (sym sent.events) (fewer_by_slot old.run old.events sent.content answer.0.within)
+
+-- what waited and the packet went on
+sends_on : (a b c : Option (List ℕ)) (given waiting packet now : List ℕ) → Sends a b given waiting → Sends b c (waiting ++ packet) now → Sends a c (given ++ packet) now
+sends_on a b c given waiting packet now first second = (
+  first.0 ++ second.0,
+  appends_on a b c first.0 second.0 first.1 second.1,
+  ap (λ v. v ++ packet) first.2 ∙ append_assoc first.0 waiting packet ∙ ap (λ v. first.0 ++ v) second.2 ∙ sym (append_assoc first.0 second.0 now),
+)
+
+bytes_push : (packets : List (List ℕ)) (packet : List ℕ) → bytes_of (packets ++ packet ∷ []) ≡ bytes_of packets ++ packet
+bytes_push packets packet =
+    flat_map-append (λ (q : List ℕ). q) packets (packet ∷ []) ∙ ap (λ v. bytes_of packets ++ v) (append-nil packet)
+
+pub written_sent : (p : PlanValue) (old new : History) (packet : List ℕ) (before a b : Option (List ℕ)) (waiting now : List ℕ) → old.run.plan ≡ p → SlotAnswers old (Sent packet) new
+    → Sends before a (bytes_of (emitted p old.events)) waiting → Sends a b (waiting ++ packet) now → Sends before b (bytes_of (emitted p new.events)) now
+written_sent p old new packet before a b waiting now plan answer first second =
+    let sent = is_sent p old new packet plan answer in
+    let P : List ℕ → Type 0 = λ v. Sends before b v now in
+    subst P (sym (ap bytes_of sent.out ∙ bytes_push (emitted p old.events) packet))
+    (sends_on before a b (bytes_of (emitted p old.events)) waiting packet now first second)
+
+-- An input had its turn.
+
+pub runs_pulled : {R : Type 0} (remaining : R → Option (List ℕ)) (run : Run) (starts : List (Option (List ℕ))) (old new : SerialRun R) (between : History) (i : ℕ)
+    → IsRunning remaining run starts old → between ≡ old.mux → new.plan ≡ old.plan → 0 < length new.piece.items → new.output ≡ old.output
+    → ((e : Event) × (new.mux ≡ with_event between e) × IsOfInput i e)
+    → ((s : List (Option (List ℕ))) → AreFed remaining old.plan between.events s old.inputs.items → AreFed remaining old.plan new.mux.events s new.inputs.items)
+    → (AreUnstopped new.inputs.items → AreUnstopped old.inputs.items)
+    → ((s : List (Option (List ℕ))) → AreFed remaining old.plan between.events s old.inputs.items → AreKnown s → AreUnstopped new.inputs.items
+    → IsFaithful (packet_lists old.plan s) between.events → IsFaithful (packet_lists old.plan s) new.mux.events)
+    → IsRunning remaining run starts new
+runs_pulled remaining run starts old new between i is same plan piece output event fed going faithful =
+    let p = run.plan in
+    let e = event.0 in
+    let mux : new.mux ≡ with_event old.mux e = event.1 ∙ ap (λ v. with_event v e) same in
+    let events : new.mux.events ≡ e ∷ old.mux.events = ap (λ (v : History). v.events) mux in
+    let B : List Event → Type 0 = λ h. AreFed remaining old.plan h starts old.inputs.items in
+    let Q : PlanValue → Type 0 = λ q. AreFed remaining q old.mux.events starts old.inputs.items in
+    let N : PlanValue → Type 0 = λ q. AreFed remaining q new.mux.events starts new.inputs.items in
+    let before : AreFed remaining old.plan between.events starts old.inputs.items =
+    subst B (sym (ap (λ (v : History). v.events) same)) (subst Q (sym is.plan_is) is.fed) in
+    let T : PlanValue → Type 0 = λ q. IsFaithful (packet_lists q starts) old.mux.events in
+    let U : PlanValue → Type 0 = λ q. IsFaithful (packet_lists q starts) new.mux.events in
+    let V : List Event → Type 0 = IsFaithful (packet_lists old.plan starts) in
+    let A : List (List ℕ) → Type 0 = HasAnalysed old.output p.request.rate p.request.watch in
+    let O : SlotWriter → Type 0 = λ w. HasAnalysed w p.request.rate p.request.watch (emitted p new.mux.events) in
+    record {
+      plan_is = plan ∙ is.plan_is;
+      run_is = ap (λ (v : History). v.run) mux ∙ is.run_is;
+      fed = subst N is.plan_is (fed starts before);
+      piece = piece;
+      faithful = λ known goes.
+          subst U is.plan_is
+          (faithful starts before known goes
+          (subst V (sym (ap (λ (v : History). v.events) same)) (subst T (sym is.plan_is) (is.faithful known (going goes)))));
+      analysed = subst O (sym output) (subst A (sym (ap (emitted p) events ∙ emitted_same p i e old.mux.events event.2)) is.analysed);
+    }
+
+pub fewer_pulled : (old between new : History) (i : ℕ) → between ≡ old → i < length old.run.plan.request.inputs → ((e : Event) × (new ≡ with_event between e) × IsOfInput i e)
+    → turns_left i new.events < turns_left i between.events → steps_left old.run new.events < steps_left old.run old.events
+fewer_pulled old between new i same l event less =
+    let e = event.0 in
+    let events : new.events ≡ e ∷ old.events = ap (λ (v : History). v.events) (event.1 ∙ ap (λ v. with_event v e) same) in
+    let P : List Event → Type 0 = λ h. steps_left old.run h < steps_left old.run old.events in
+    let T : List Event → Type 0 = λ h. turns_left i h < turns_left i old.events in
+    let U : List Event → Type 0 = λ h. turns_left i new.events < turns_left i h in
+    subst P (sym events) (fewer_by_input old.run old.events e i l event.2 (subst T events (subst U (ap (λ (v : History). v.events) same) less)))
+
+-- A run that ends with a fault.
+
+consumed : (start rest : Option (List ℕ)) (bytes all : List ℕ) → start ≡ Some all → Consumes start rest bytes → (more : List ℕ) × (all ≡ bytes ++ more)
+consumed None rest bytes all e used = cc
+consumed (Some first) None bytes all e used = absurd used
+consumed (Some first) (Some more) bytes all e used = (more, sym (same_Some first all e) ∙ used)
+
+pub begun : {R : Type 0} (remaining : R → Option (List ℕ)) (p : PlanValue) (h : List Event) (starts : List (Option (List ℕ))) (inputs : List (SerialInput R)) → AreFed remaining p h starts inputs → AreBegun p h starts
+begun remaining p h starts inputs fed i input all at start =
+    let within = slice_get_within p.request.inputs i input at in
+    elim (slice_get_cases inputs i).1 [
+      | inl found ↦
+          (let x = found.0 in
+          let f = fed.each i x found.2 in
+          let o = f.2.given.origin in
+          let known : f.0 ≡ Some all = same_Some f.0 (Some all) (sym f.1 ∙ start) in
+          let b = f.2.given.read in
+          let more = consumed f.0 (remaining x.source) b.0 all known b.1 in
+          let later = given_begins p x.origin x.reader x.held x.report (IsAtEnd (remaining x.source)) b.0 (taken i h) b.2.0 b.2.1 more.0 in
+          let same : o.0 ≡ input = same_Some o.0 input (sym o.1 ∙ at) in
+          (later.0, later.1 ∙ ap (λ v. takeable p v (framed 188 (b.0 ++ more.0))) (o.3 ∙ ap (origin_of i) same) ∙ ap (λ v. takeable p (origin_of i input) (framed 188 v)) (sym more.1)))
+      | inr past ↦ absurd (omega (arith, within, past.0, fed.count))
+    ]
+
+-- a slot takes nothing
+pub begun_sent : (p : PlanValue) (old new : History) (packet : List ℕ) (starts : List (Option (List ℕ))) → SlotAnswers old (Sent packet) new → AreBegun p old.events starts → AreBegun p new.events starts
+begun_sent p old new packet starts answer are =
+    let sent = is_sent old.run.plan old new packet refl answer in
+    let P : List Event → Type 0 = λ h. AreBegun p h starts in
+    subst P (sym sent.events) (λ i input all at start. are i input all at start)
+
+-- what went out is a beginning
+pub sent_begun : (p : PlanValue) (old new : History) (packet : List ℕ) (before a b : Option (List ℕ)) (waiting : List ℕ) → old.run.plan ≡ p → SlotAnswers old (Sent packet) new
+    → Sends before a (bytes_of (emitted p old.events)) waiting → SendsBeginning a b (waiting ++ packet) → SendsBeginning before b (bytes_of (emitted p new.events))
+sent_begun p old new packet before a b waiting plan answer first second = (second.0, written_sent p old new packet before a b waiting second.0 plan answer first second.1)
+
+-- The buffer is written at the end.
+
+pub runs_flushed : {R : Type 0} (remaining : R → Option (List ℕ)) (run : Run) (starts : List (Option (List ℕ))) (old : SerialRun R) (output : SlotWriter)
+    → IsRunning remaining run starts old → output ≡ record old.output { writer = [] } → IsRunning remaining run starts (record old { output = output })
+runs_flushed remaining run starts old output is same =
+    let p = run.plan in
+    let O : SlotWriter → Type 0 = λ w. HasAnalysed w p.request.rate p.request.watch (emitted p old.mux.events) in
+    let a = is.analysed in
+    record {
+      plan_is = is.plan_is;
+      run_is = is.run_is;
+      fed = is.fed;
+      piece = is.piece;
+      faithful = is.faithful;
+      analysed = subst O (sym same) (record { seen = a.seen; rate_is = a.rate_is; period_is = a.period_is; faults_are = a.faults_are });
+    }
+
+pub all_sent : (before a b : Option (List ℕ)) (given waiting : List ℕ) → Sends before a given waiting → Appends a b waiting → Appends before b given
+all_sent before a b given waiting first second =
+    let P : List ℕ → Type 0 = Appends before b in
+    subst P (sym first.2) (appends_on before a b first.0 waiting first.1 second)
+
+pub part_sent : (before a b : Option (List ℕ)) (given waiting : List ℕ) → Sends before a given waiting → SendsBeginning a b waiting → SendsBeginning before b given
+part_sent before a b given waiting first second =
+    let last = second.1 in
+    (second.0, (first.0 ++ last.0, appends_on before a b first.0 last.0 first.1 last.1, first.2 ∙ ap (λ v. first.0 ++ v) last.2 ∙ sym (append_assoc first.0 last.0 second.0)))

@@ -1,0 +1,95 @@
+use Rattle.std.proofs.Common.{[], map, length, ap, ◌∙◌, sym, subst, arith}
+use Rattle.std.proofs.lemmas.List.{length-map}
+use Rattle.std.specs.Io.KnownBytes.{Appends}
+use Rattle.plan.specs.Build.{PlanValue}
+use Rattle.mux.specs.History.{Run, emitted}
+use Rattle.mux.specs.Lawful.{IsLawfulRun}
+use Rattle.serial.specs.Written.{SendsBeginning}
+use Rattle.serial.specs.Sending.{bytes_of}
+use Rattle.serial.specs.Running.{IsOver}
+use Rattle.serial.specs.declared.serial_input.SerialInput.{SerialInput}
+use Rattle.serial.proofs.SendingLaws.{on_err_always}
+use Rattle.serial.proofs.OutcomeLaws.{has_run, has_begun_nothing, has_begun_all, nothing_sent, failures_told}
+use Rattle.serial.proofs.run.run_to.Goals as goal
+
+pub finish-requires : goal.finish-requires
+finish-requires g c =
+    let run : Run = record { plan = c.args.plan; limit = c.args.slots } in
+    let starts = map g.R.Source.remaining c.args.readers.items in
+    let is = c.in_ok-driven.ensures.runs run starts c.in_ok-run.ensures.running in
+    is.fed.count ∙ ap (λ (v : Run). length v.plan.request.inputs) (sym is.run_is)
+
+pub returns-clause-runs : goal.returns-clause-runs
+returns-clause-runs g c =
+    let run : Run = record { plan = c.args.plan; limit = c.args.slots } in
+    let starts = map g.R.Source.remaining c.args.readers.items in
+    let opened = c.in_ok-run.ensures in
+    let old = c.in_ok-run.run' in
+    let driven = c.in_ok-driven.ensures in
+    let r = c.drive-driven.new.self in
+    let before = g.W.Sink.contents c.args.sink.now in
+    let after = g.W.Sink.contents c.drive-driven.new.sink in
+    let O : Run → Type 0 = λ v. IsOver v r.mux.events in
+    let A : PlanValue → Type 0 = λ p. Appends before after (bytes_of (emitted p r.mux.events)) in
+    let written = subst A opened.running.plan_is (driven.written before (nothing_sent old.plan old.mux.events before old.output.writer opened.new opened.waiting)) in
+    let told = c.in_ok-finish.ensures in (
+      r.mux.events,
+      has_run g.R.Source.remaining run starts r before after c.in_ok-finish.field-0.0 c.in_ok-finish.field-0.1.items c.requires.slots (driven.runs run starts opened.running)
+          (subst O opened.running.run_is driven.over) c.slots.ensures written told.inputs told.counts told.faults,
+    )
+
+pub returns-clause-readers : goal.returns-clause-readers
+returns-clause-readers g c =
+    let run : Run = record { plan = c.args.plan; limit = c.args.slots } in
+    let starts = map g.R.Source.remaining c.args.readers.items in
+    let is = c.in_ok-driven.ensures.runs run starts c.in_ok-run.ensures.running in
+    let inputs = c.drive-driven.new.self.inputs.items in
+    let source : SerialInput g.row.R.Denot → g.row.R.Denot = λ x. x.source in
+    omega (arith, ap length c.in_ok-finish.ensures.inputs.sources_are, length-map inputs source, is.fed.count, c.requires.readers)
+
+pub returns-clause-read_failed : goal.returns-clause-read_failed
+returns-clause-read_failed g c =
+    let r = c.drive-driven.new.self in
+    let failures = g.R.Source.failures in
+    failures_told failures r.mux.run.plan r.mux.events r.inputs.items c.in_ok-finish.field-0.0.inputs.items c.args.readers.items c.in_ok-finish.field-0.1.items
+    (c.in_ok-driven.ensures.failures_told (map failures c.args.readers.items) c.in_ok-run.ensures.failures) c.in_ok-finish.ensures.inputs
+
+pub returns-in_err-run-clause-begins : goal.returns-in_err-run-clause-begins
+returns-in_err-run-clause-begins g c =
+    let run : Run = record { plan = c.args.plan; limit = c.args.slots } in
+    on_err_always c.from_residual.result ([], has_begun_nothing run (map g.R.Source.remaining c.args.readers.items) (g.W.Sink.contents c.args.sink.now))
+
+pub returns-in_err-driven-clause-begins : goal.returns-in_err-driven-clause-begins
+returns-in_err-driven-clause-begins g c =
+    let run : Run = record { plan = c.args.plan; limit = c.args.slots } in
+    let starts = map g.R.Source.remaining c.args.readers.items in
+    let opened = c.in_ok-run.ensures in
+    let old = c.in_ok-run.run' in
+    let r = c.drive-driven.new.self in
+    let before = g.W.Sink.contents c.args.sink.now in
+    let after = g.W.Sink.contents c.drive-driven.new.sink in
+    let L : Run → Type 0 = λ v. IsLawfulRun v r.mux.events in
+    let S : PlanValue → Type 0 = λ p. SendsBeginning before after (bytes_of (emitted p r.mux.events)) in
+    on_err_always c.from_residual-in_err-driven.result (
+      r.mux.events,
+      record {
+        lawful = subst L (c.drive-driven.ensures.run ∙ opened.running.run_is) c.slots.ensures.run;
+        begun = c.in_err-driven.ensures.begun run starts opened.running;
+        written = subst S opened.running.plan_is (c.in_err-driven.ensures.sent_begun before (nothing_sent old.plan old.mux.events before old.output.writer opened.new opened.waiting));
+      },
+    )
+
+pub returns-in_err-finish-clause-begins : goal.returns-in_err-finish-clause-begins
+returns-in_err-finish-clause-begins g c =
+    let run : Run = record { plan = c.args.plan; limit = c.args.slots } in
+    let starts = map g.R.Source.remaining c.args.readers.items in
+    let opened = c.in_ok-run.ensures in
+    let old = c.in_ok-run.run' in
+    let driven = c.in_ok-driven.ensures in
+    let r = c.drive-driven.new.self in
+    let before = g.W.Sink.contents c.args.sink.now in
+    let after = g.W.Sink.contents c.drive-driven.new.sink in
+    let A : PlanValue → Type 0 = λ p. Appends before after (bytes_of (emitted p r.mux.events)) in
+    let written = subst A opened.running.plan_is (driven.written before (nothing_sent old.plan old.mux.events before old.output.writer opened.new opened.waiting)) in
+    on_err_always c.from_residual-in_err-finish.result
+    (r.mux.events, has_begun_all g.R.Source.remaining run starts r before after (driven.runs run starts opened.running) c.slots.ensures written)

@@ -1,0 +1,37 @@
+-- What a run writes follows from its plan and the bytes of its inputs, not from how these are read in turn (profile).
+use Rattle.std.specs.Prelude.{◌≡◌, ℕ, List, Option}
+use Rattle.std.specs.Io.KnownBytes.{Appends}
+use Rattle.mux.specs.declared.event.Event.{Event}
+use Rattle.mux.specs.History.{History, emitted}
+use Rattle.mux.specs.Faithful.{IsRunOf, IsFinished}
+use Rattle.serial.specs.Feeding.{AreKnown, packet_lists}
+use Rattle.serial.specs.Sending.{bytes_of}
+use Rattle.serial.specs.Outcome.{HasRun, AreUnfailed}
+use Rattle.serial.specs.declared.summary.Summary.{Summary}
+
+-- A run of sources whose bytes are known ended by itself, and nothing but its end stopped an input.
+pub record HasRunUnfailed (h : History) (starts : List (Option (List ℕ))) (before after : Option (List ℕ)) (s : Summary) : Type 0 where
+  pub runs : HasRun h starts before after s
+  pub known : AreKnown starts
+  pub unfailed : AreUnfailed s.inputs.items
+
+-- two writers got the same bytes
+abbrev pub GotTheSame : Option (List ℕ) → Option (List ℕ) → Option (List ℕ) → Option (List ℕ) → Type 0
+GotTheSame before after old new = (bytes : List ℕ) × Appends before after bytes × Appends old new bytes
+
+-- Equal inputs give equal bytes: two such runs of one plan, for as many slots, over the same bytes send the same packets, and
+-- their writers get the same bytes.
+abbrev pub EqualInputsGiveEqualBytes : Type 0
+EqualInputsGiveEqualBytes =
+    (h g : History) (starts : List (Option (List ℕ))) (before after old new : Option (List ℕ)) (s t : Summary)
+    → h.run ≡ g.run → HasRunUnfailed h starts before after s → HasRunUnfailed g starts old new t
+    → (emitted h.run.plan h.events ≡ emitted g.run.plan g.events) × GotTheSame before after old new
+
+-- What such a run writes are the packets of every lawful history over its plan that takes the inputs' packets in their order
+-- and is finished at the run's slots.
+abbrev pub BytesAreOfEveryHistory : Type 0
+BytesAreOfEveryHistory =
+    (h : History) (starts : List (Option (List ℕ))) (before after : Option (List ℕ)) (s : Summary) (other : List Event)
+    → HasRunUnfailed h starts before after s
+    → IsRunOf h.run.plan (packet_lists h.run.plan starts) other → IsFinished h.run.plan h.run.limit other
+    → Appends before after (bytes_of (emitted h.run.plan other))

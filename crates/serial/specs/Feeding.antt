@@ -1,0 +1,82 @@
+-- How the packets of an input come into a multiplex (profile).
+use Rattle.std.specs.Prelude.{◌≡◌, ◌⊎◌, ℕ, ◌+◌, ◌-◌, true, if◌then◌else◌, List, [], length, Option, Some, None, IsSome}
+use Rattle.std.specs.List.{slice_get}
+use Rattle.std.specs.Io.KnownBytes.{Consumes}
+use Rattle.tspkt.specs.Framed.{framed}
+use Rattle.tspkt.specs.declared.stamped.Stamped.{Stamped}
+use Rattle.request.specs.Request.{InputValue, IsInput}
+use Rattle.request.specs.declared.stream.Stream.{Stream}
+use Rattle.plan.specs.Build.{PlanValue}
+use Rattle.mux.specs.declared.event.Event.{Event}
+use Rattle.mux.specs.declared.event.Event.TheVariants.{Took, Full, Close, Slot}
+use Rattle.mux.specs.History.{History, with_event, is_mapped_to, taken, is_closed, full_noted}
+use Rattle.mux.specs.Lawful.{Refusal, refusal_of}
+use Rattle.mux.specs.Lawful as refusals
+use Rattle.mux.specs.Faithful.{PacketLists}
+use Rattle.serial.specs.Takeable.{OriginValue, origin_of, takeable}
+use Rattle.serial.specs.InputReading.{HasRead, IsDone}
+use Rattle.serial.specs.declared.report.Stop.TheVariants.{Gate}
+use Rattle.serial.specs.declared.serial_input.SerialInput.{SerialInput}
+
+-- where the packets of the plan's input i come from
+abbrev pub IsOrigin : PlanValue → ℕ → OriginValue → Type 0
+IsOrigin p i origin =
+    (input : InputValue) × (slice_get p.request.inputs i ≡ Some input) × IsInput input × (origin ≡ origin_of i input)
+
+-- The input gave these packets, of a source that had these bytes to give at first.
+pub record HasGiven {R : Type 0} (remaining : R → Option (List ℕ)) (p : PlanValue) (i : ℕ) (start : Option (List ℕ)) (x : SerialInput R) (given : List Stamped) : Type 0 where
+  pub origin : IsOrigin p i x.origin
+  pub read : (bytes : List ℕ) × Consumes start (remaining x.source) bytes × HasRead remaining p x bytes given
+
+-- The multiplex took just the packets that the input gave; it was closed in the multiplex where the input says so, which is
+-- where nothing is left of it; and the run didn't leave it.
+pub record Feeds {R : Type 0} (remaining : R → Option (List ℕ)) (p : PlanValue) (h : List Event) (i : ℕ) (start : Option (List ℕ)) (x : SerialInput R) : Type 0 where
+  pub given : HasGiven remaining p i start x (taken i h)
+  pub closed : x.is_closed ≡ is_closed i h
+  pub over : x.is_closed ≡ true → IsDone x
+  pub unleft : x.report.stopped ≡ Some Gate → ⊥
+
+-- the packets that an input gives, as far as the bytes of its source are known
+abbrev pub packet_list : PlanValue → ℕ → Option InputValue → Option (Option (List ℕ)) → List Stamped
+packet_list p i (Some input) (Some (Some all)) = takeable p (origin_of i input) (framed 188 all)
+packet_list p i (Some input) (Some None) = []
+packet_list p i (Some input) None = []
+packet_list p i None start = []
+
+abbrev pub packet_lists : PlanValue → List (Option (List ℕ)) → PacketLists
+packet_lists p starts i = packet_list p i (slice_get p.request.inputs i) (slice_get starts i)
+
+-- the bytes of all sources are known
+abbrev pub AreKnown : List (Option (List ℕ)) → Type 0
+AreKnown starts = (i : ℕ) (start : Option (List ℕ)) → slice_get starts i ≡ Some start → IsSome start
+
+-- nothing stopped the inputs so far
+abbrev pub AreUnstopped : {R : Type 0} → List (SerialInput R) → Type 0
+AreUnstopped {R} inputs = (i : ℕ) (x : SerialInput R) → slice_get inputs i ≡ Some x → x.report.stopped ≡ None
+
+-- the event is one of the input
+abbrev pub IsOfInput : ℕ → Event → Type 0
+IsOfInput i (Took j item) = j ≡ i
+IsOfInput i (Full j st) = j ≡ i
+IsOfInput i (Close j) = j ≡ i
+IsOfInput i (Slot c) = ⊥
+
+-- nothing is against the item, but that the queue of its stream may be full
+abbrev pub MayBeTaken : PlanValue → List Event → ℕ → Stamped → Type 0
+MayBeTaken p h i item = (refusal_of p h i item ≡ None) ⊎ (refusal_of p h i item ≡ Some refusals.Full)
+
+-- how often the multiplex may still turn to the input before a slot is sent, at most: an input has at most 16,777,216
+-- packets
+abbrev pub turns_left : ℕ → List Event → ℕ
+turns_left i h =
+    (16777216 - length (taken i h)) + (if is_closed i h then 0 else 1) + (if full_noted i h then 0 else 1)
+
+-- the input holds a packet of the stream
+abbrev pub Holds : {R : Type 0} → ℕ → Stream → SerialInput R → Type 0
+Holds i st x = (item : Stamped) × (x.held ≡ Some item) × (is_mapped_to st i item ≡ true)
+
+-- The item was taken of the input, or is held by it, where the queue of its stream was found full.
+abbrev pub IsGivenOrHeld : {R : Type 0} → History → History → ℕ → SerialInput R → SerialInput R → Stamped → Type 0
+IsGivenOrHeld before after i old new item =
+    ((after ≡ with_event before (Took i item)) × (new ≡ old))
+    ⊎ ((st : Stream) × (after ≡ with_event before (Full i st)) × (new ≡ record old { held = Some item }) × (is_mapped_to st i item ≡ true))

@@ -1,0 +1,81 @@
+-- What comes of a run (profile).
+use Rattle.std.specs.Prelude.{◌≡◌, ◌⊎◌, ℕ, ◌<◌, List, length, Option, Some, None, true, false}
+use Rattle.std.specs.List.{slice_get}
+use Rattle.std.specs.Io.KnownBytes.{Appends}
+use Rattle.tspkt.specs.Framed.{framed}
+use Rattle.request.specs.Request.{InputValue}
+use Rattle.analyse.specs.Faults.{faults}
+use Rattle.plan.specs.Build.{PlanValue}
+use Rattle.mux.specs.declared.event.Event.{Event}
+use Rattle.mux.specs.History.{History, taken, is_closed, emitted}
+use Rattle.mux.specs.Totals.{IsTotals, IsCounts}
+use Rattle.mux.specs.Lawful.{IsLawfulRun}
+use Rattle.mux.specs.Headline.{IsSound}
+use Rattle.mux.specs.Faithful.{IsFaithful, IsFinished}
+use Rattle.serial.specs.Failures.{FailsOnce}
+use Rattle.serial.specs.Takeable.{takeable, origin_of, CountsItems}
+use Rattle.serial.specs.Feeding.{AreKnown, packet_lists}
+use Rattle.serial.specs.Running.{AreBegun}
+use Rattle.serial.specs.Written.{SendsBeginning}
+use Rattle.serial.specs.Sending.{bytes_of}
+use Rattle.serial.specs.declared.report.Stop.TheVariants.{Gate, ReadFailed, TooMuch}
+use Rattle.serial.specs.declared.summary.InputSummary.{InputSummary}
+use Rattle.serial.specs.declared.summary.Summary.{Summary}
+
+-- The input ended by itself: all that can be taken of its bytes was taken before it was closed, and the report counts all of
+-- their framing.
+pub record HasEnded (p : PlanValue) (h : List Event) (i : ℕ) (input : InputValue) (all : List ℕ) (s : InputSummary) : Type 0 where
+  pub taken_is : taken i h ≡ takeable p (origin_of i input) (framed 188 all)
+  pub counts : CountsItems p (origin_of i input) (framed 188 all) s.report
+
+-- What is said of an input whose source had these bytes to give at first, where they are known.
+pub record IsInputSummary (p : PlanValue) (h : List Event) (i : ℕ) (input : InputValue) (start : Option (List ℕ)) (s : InputSummary) : Type 0 where
+  pub totals : IsTotals p i h s.totals
+  -- an input that nothing stopped ended, and was closed; one that the run left before its end wasn't closed
+  pub closed : s.report.stopped ≡ None → is_closed i h ≡ true
+  pub ended : s.report.stopped ≡ None → (all : List ℕ) → start ≡ Some all → HasEnded p h i input all s
+  pub left : s.report.stopped ≡ Some Gate → is_closed i h ≡ false
+  pub too_much : s.report.stopped ≡ Some TooMuch → (all : List ℕ) → start ≡ Some all → 3154116608 < length all
+
+-- Nothing but the end of the run stopped the inputs.
+abbrev pub AreUnfailed : List InputSummary → Type 0
+AreUnfailed inputs =
+    (i : ℕ) (s : InputSummary) → slice_get inputs i ≡ Some s
+    → (s.report.stopped ≡ None) ⊎ (s.report.stopped ≡ Some Gate)
+
+-- What is said of a run is so.
+pub record IsSummary (p : PlanValue) (h : List Event) (starts : List (Option (List ℕ))) (s : Summary) : Type 0 where
+  pub length_is : length s.inputs.items ≡ length p.request.inputs
+  pub inputs : (i : ℕ) (input : InputValue) (start : Option (List ℕ)) (x : InputSummary)
+      → slice_get p.request.inputs i ≡ Some input → slice_get starts i ≡ Some start → slice_get s.inputs.items i ≡ Some x
+      → IsInputSummary p h i input start x
+  pub counts : IsCounts h s.counts
+  pub faults : s.faults ≡ length (faults p.request.rate p.request.watch (emitted p h))
+
+-- What a run of these sources makes, where it ends by itself: a history.
+pub record HasRun (h : History) (starts : List (Option (List ℕ))) (before after : Option (List ℕ)) (s : Summary) : Type 0 where
+  -- it is lawful, and sound
+  pub sound : IsSound h
+  -- it has all slots of the run, or with fewer nothing is left to send
+  pub finished : IsFinished h.run.plan h.run.limit h.events
+  -- its packets were written, and nothing else
+  pub written : Appends before after (bytes_of (emitted h.run.plan h.events))
+  -- what was taken of each input begins what can be taken of its bytes
+  pub begun : AreBegun h.run.plan h.events starts
+  -- it takes the inputs' packets in their order, where nothing but the end of the run stopped them
+  pub faithful : AreKnown starts → AreUnfailed s.inputs.items → IsFaithful (packet_lists h.run.plan starts) h.events
+  pub summary : IsSummary h.run.plan h.events starts s
+
+-- What a run of these sources makes, where it doesn't end by itself: a beginning of the packets of a lawful history was
+-- written.
+pub record HasBegun (h : History) (starts : List (Option (List ℕ))) (before after : Option (List ℕ)) : Type 0 where
+  pub lawful : IsLawfulRun h.run h.events
+  pub begun : AreBegun h.run.plan h.events starts
+  pub written : SendsBeginning before after (bytes_of (emitted h.run.plan h.events))
+
+-- A failed read is told of an input only where its source failed in the run.
+abbrev pub FailuresAreTold : {R : Type 0} → (R → ℕ) → List R → List R → List InputSummary → Type 0
+FailuresAreTold {R} failures before after inputs =
+    (i : ℕ) (s : InputSummary) (old new : R)
+    → slice_get inputs i ≡ Some s → slice_get before i ≡ Some old → slice_get after i ≡ Some new
+    → s.report.stopped ≡ Some ReadFailed → FailsOnce (failures old) (failures new)

@@ -1,0 +1,48 @@
+-- A run: its inputs, its multiplex and what went out (profile).
+use Rattle.std.specs.Prelude.{◌≡◌, ◌⊎◌, ℕ, ◌+◌, ◌*◌, ◌-◌, ◌<◌, ◌≤◌, List, ◌++◌, length, sum_by, Option, Some}
+use Rattle.std.specs.List.{slice_get, range_with_len}
+use Rattle.tspkt.specs.Framed.{framed}
+use Rattle.tspkt.specs.declared.stamped.Stamped.{Stamped}
+use Rattle.request.specs.Request.{InputValue}
+use Rattle.plan.specs.Build.{PlanValue}
+use Rattle.mux.specs.declared.event.Event.{Event}
+use Rattle.mux.specs.History.{Run, slots, taken, emitted}
+use Rattle.mux.specs.Lawful.{IsDone}
+use Rattle.serial.specs.Takeable.{takeable, origin_of}
+use Rattle.mux.specs.Faithful.{IsFaithful}
+use Rattle.serial.specs.Feeding.{Feeds, AreKnown, AreUnstopped, packet_lists, turns_left}
+use Rattle.serial.specs.Sending.{HasAnalysed}
+use Rattle.serial.specs.declared.serial_input.SerialInput.{SerialInput}
+use Rattle.serial.specs.declared.serial_run.SerialRun.{SerialRun}
+
+-- each input's source had these bytes to give at first, and the multiplex took what the inputs gave of them
+pub record AreFed {R : Type 0} (remaining : R → Option (List ℕ)) (p : PlanValue) (h : List Event) (starts : List (Option (List ℕ))) (inputs : List (SerialInput R)) : Type 0 where
+  pub count : length inputs ≡ length p.request.inputs
+  pub each : (i : ℕ) (x : SerialInput R) → slice_get inputs i ≡ Some x
+      → (start : Option (List ℕ)) × (slice_get starts i ≡ Some start) × Feeds remaining p h i start x
+
+-- The run goes on over these sources: it takes the inputs' packets in their order, while nothing stops them, and its packets
+-- were analysed.
+pub record IsRunning {R : Type 0} (remaining : R → Option (List ℕ)) (run : Run) (starts : List (Option (List ℕ))) (r : SerialRun R) : Type 0 where
+  pub plan_is : r.plan ≡ run.plan
+  pub run_is : r.mux.run ≡ run
+  pub fed : AreFed remaining run.plan r.mux.events starts r.inputs.items
+  pub piece : 0 < length r.piece.items
+  pub faithful : AreKnown starts → AreUnstopped r.inputs.items → IsFaithful (packet_lists run.plan starts) r.mux.events
+  pub analysed : HasAnalysed r.output run.plan.request.rate run.plan.request.watch (emitted run.plan r.mux.events)
+
+-- What was taken of each input begins what can be taken of its source's bytes, where they are known.
+abbrev pub AreBegun : PlanValue → List Event → List (Option (List ℕ)) → Type 0
+AreBegun p h starts =
+    (i : ℕ) (input : InputValue) (all : List ℕ) → slice_get p.request.inputs i ≡ Some input → slice_get starts i ≡ Some (Some all)
+    → (later : List Stamped) × (taken i h ++ later ≡ takeable p (origin_of i input) (framed 188 all))
+
+-- it has all its slots, or all inputs are closed and nothing waits
+abbrev pub IsOver : Run → List Event → Type 0
+IsOver run h = (run.limit ≤ slots h) ⊎ IsDone run.plan h
+
+-- how many steps are left, at most: slots that may still be sent, and turns to inputs before each of them
+abbrev pub steps_left : Run → List Event → ℕ
+steps_left run h =
+    (run.limit - slots h) * (length run.plan.request.inputs + 1)
+    + sum_by (λ i. turns_left i h) (range_with_len 0 (length run.plan.request.inputs))

@@ -1,0 +1,122 @@
+//! How the packets of an input come into a multiplex.
+
+ghost use Rattle.std.specs.Prelude.{◌≡◌, ◌<◌, ℕ, List, Option, None, true, false, length, OnOk, OnErr};
+ghost use Rattle.mux.specs.declared.event.Event.{Event};
+ghost use Rattle.mux.specs.declared.event.Event.TheVariants as events;
+ghost use Rattle.mux.specs.History.{with_event, is_closed, full_noted};
+ghost use Rattle.mux.specs.Answers.{IsLeastUnready};
+ghost use Rattle.mux.specs.Faithful.{IsFaithful};
+ghost use Rattle.request.specs.declared.stream.Stream.{Stream};
+ghost use Rattle.serial.specs.Feeding.{Feeds, AreKnown, AreUnstopped, packet_lists, IsOfInput, MayBeTaken, Holds, IsGivenOrHeld, turns_left};
+ghost use Rattle.serial.specs.Running.{AreFed};
+ghost use Rattle.serial.specs.InputReading.{TellsFailures, AllTellFailures};
+
+use crate::serial_input::SerialInput;
+use crate::source::Source;
+use mux::{Mux, Taken};
+use plan::Plan;
+use std::alloc::AllocError;
+use tspkt::Stamped;
+
+/// Gives the multiplex the next packet of an input that it waits for, or closes the input where there is none. A packet
+/// whose queue is full is held.
+pub(crate) fn pull<R: Source>(
+    plan: &Plan,
+    mux: &mut Mux,
+    number: usize,
+    input: &mut SerialInput<R>,
+    piece: &mut [u8],
+) -> Result<(), AllocError>
+    requires plan { mux.old.run.plan ≡ plan.now }
+    requires unready { IsLeastUnready mux.old number }
+    requires piece { 0 < length piece.old }
+    requires feeds { (start : Option (List ℕ)) × Feeds R.remaining plan.now mux.old.events number start input.old }
+    ensures feeds { OnOk result ((start : Option (List ℕ)) → Feeds R.remaining plan.now mux.old.events number start input.old
+        → Feeds R.remaining plan.now mux.new.events number start input.new) }
+    ensures going { OnOk result (input.new.report.stopped ≡ None → input.old.report.stopped ≡ None) }
+    ensures noted { OnOk result ((st : Stream) → mux.new ≡ with_event mux.old (Event.Full number st)
+        → Holds number st input.new) }
+    ensures event { OnOk result ((e : Event) × (mux.new ≡ with_event mux.old e) × IsOfInput number e) }
+    ensures fewer { OnOk result (turns_left number mux.new.events < turns_left number mux.old.events) }
+    ensures failures { OnOk result ((before : ℕ) → TellsFailures R.failures before input.old
+        → TellsFailures R.failures before input.new) }
+    ensures err { OnErr result (mux.new ≡ mux.old) }
+{
+    match input.next(plan, piece)? {
+        None => close(mux, number, input),
+        Some(stamped) => give(mux, number, input, stamped),
+    }
+}
+
+/// The same of the input at this place.
+pub(crate) fn pull_at<R: Source>(
+    plan: &Plan,
+    mux: &mut Mux,
+    number: usize,
+    inputs: &mut Vec<SerialInput<R>>,
+    piece: &mut [u8],
+) -> Result<(), AllocError>
+    requires plan { mux.old.run.plan ≡ plan.now }
+    requires unready { IsLeastUnready mux.old number }
+    requires piece { 0 < length piece.old }
+    requires fed { (starts : List (Option (List ℕ))) × AreFed R.remaining plan.now mux.old.events starts inputs.old.items }
+    ensures fed { OnOk result ((starts : List (Option (List ℕ)))
+        → AreFed R.remaining plan.now mux.old.events starts inputs.old.items
+        → AreFed R.remaining plan.now mux.new.events starts inputs.new.items) }
+    ensures going { OnOk result (AreUnstopped inputs.new.items → AreUnstopped inputs.old.items) }
+    ensures faithful { OnOk result ((starts : List (Option (List ℕ)))
+        → AreFed R.remaining plan.now mux.old.events starts inputs.old.items
+        → AreKnown starts → AreUnstopped inputs.new.items
+        → IsFaithful (packet_lists plan.now starts) mux.old.events
+        → IsFaithful (packet_lists plan.now starts) mux.new.events) }
+    ensures event { OnOk result ((e : Event) × (mux.new ≡ with_event mux.old e) × IsOfInput number e) }
+    ensures fewer { OnOk result (turns_left number mux.new.events < turns_left number mux.old.events) }
+    ensures failures { OnOk result ((befores : List ℕ)
+        → AllTellFailures R.failures befores inputs.old.items
+        → AllTellFailures R.failures befores inputs.new.items) }
+    ensures err { OnErr result (mux.new ≡ mux.old) }
+{
+    pull(plan, mux, number, &mut inputs[number], piece)
+}
+
+/// Closes an input of which nothing is left.
+fn close<R: Source>(
+    mux: &mut Mux,
+    number: usize,
+    input: &mut SerialInput<R>,
+) -> Result<(), AllocError>
+    requires number { number < length mux.old.run.plan.request.inputs }
+    requires open { is_closed number mux.old.events ≡ false }
+    ensures ok { OnOk result (mux.new ≡ with_event mux.old (Event.Close number)) }
+    ensures input { OnOk result (input.new ≡ record input.old { is_closed = true }) }
+    ensures err { OnErr result (mux.new ≡ mux.old) }
+{
+    mux.close(number)?;
+    input.close();
+    Ok(())
+}
+
+/// Gives the multiplex a packet of an input, or holds it where its queue is full.
+fn give<R: Source>(
+    mux: &mut Mux,
+    number: usize,
+    input: &mut SerialInput<R>,
+    stamped: Stamped,
+) -> Result<(), AllocError>
+    requires number { number < length mux.old.run.plan.request.inputs }
+    requires may { MayBeTaken mux.old.run.plan mux.old.events number stamped }
+    requires noted { full_noted number mux.old.events ≡ false }
+    requires held { input.old.held ≡ None }
+    ensures ok { OnOk result (IsGivenOrHeld mux.old mux.new number input.old input.new stamped) }
+    ensures err { OnErr result (mux.new ≡ mux.old) }
+{
+    match mux.take(number, stamped) {
+        Taken::Ok => Ok(()),
+        Taken::Full(back) => {
+            input.hold(back);
+            Ok(())
+        }
+        Taken::Memory(_) => Err(AllocError),
+        Taken::Closed(_) | Taken::Stranger(_) | Taken::Backward(_) => unreachable!(),
+    }
+}

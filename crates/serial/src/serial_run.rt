@@ -1,0 +1,171 @@
+//! The serial run.
+
+use crate::ending::end_inputs;
+use crate::feeding::pull_at;
+use crate::opening::open_inputs;
+use crate::run_fault::RunFault;
+use crate::serial_input::SerialInput;
+use crate::sink::Sink;
+use crate::slot_writer::SlotWriter;
+use crate::source::Source;
+use crate::summary::Summary;
+use mux::{Mux, Slot};
+use plan::Plan;
+use std::alloc::{AllocError, Global};
+
+/// How many bytes are read at once, at most.
+const PIECE: usize = 65_536;
+
+/// A run in one thread: the multiplex, its inputs, and what the output goes through.
+#[derive(Drop)]
+pub(crate) struct SerialRun<R> {
+    plan: Plan,
+    mux: Mux,
+    inputs: Vec<SerialInput<R>>,
+    piece: Vec<u8>,
+    output: SlotWriter,
+}
+
+impl<R: Source + Drop> SerialRun<R> {
+    ghost use Rattle.std.specs.Prelude.{◌≡◌, ◌<◌, ◌≤◌, ◌++◌, ℕ, List, [], Option, Ok, Err, true, false, length, map, IfOk, OnOk, OnErr};
+    ghost use Rattle.mux.specs.History.{Run, emitted};
+    ghost use Rattle.std.specs.Io.KnownBytes.{Appends};
+    ghost use Rattle.serial.specs.Failures.{FailsOnce};
+    ghost use Rattle.serial.specs.InputReading.{AllTellFailures};
+    ghost use Rattle.serial.specs.Written.{Sends, SendsBeginning};
+    ghost use Rattle.serial.specs.Sending.{bytes_of};
+    ghost use Rattle.mux.specs.Headline.{IsSound};
+    ghost use Rattle.mux.specs.Totals.{IsCounts};
+    ghost use Rattle.serial.specs.InputReading.{AllTellFailures};
+    ghost use Rattle.serial.specs.Ending.{AreReported};
+    ghost use Rattle.serial.specs.Running.{IsRunning, IsOver, AreBegun, steps_left};
+
+    /// A run of a plan for at most this many slots, of which nothing was read or sent.
+    pub fn open(
+        alloc: Global,
+        plan: Plan,
+        slots: u64,
+        readers: Vec<R>,
+    ) -> Result<SerialRun<R>, AllocError>
+        requires slots { slots ≤ 1000000 }
+        requires readers { length readers.items ≡ length plan.request.inputs }
+        ensures running { IfOk result (λ r. IsRunning R.remaining (record { plan = plan; limit = slots }) (map R.remaining readers.items) r) }
+        ensures new { IfOk result (λ r. r.mux.events ≡ []) }
+        ensures waiting { IfOk result (λ r. r.output.writer ≡ []) }
+        ensures failures { IfOk result (λ r. AllTellFailures R.failures (map R.failures readers.items) r.inputs.items) }
+    {
+        let inputs = open_inputs(alloc, &plan, readers)?;
+        let output = SlotWriter::new(alloc, plan.rate(), plan.request().watch())?;
+        let mux = Mux::open(alloc, plan.copy(alloc)?, slots)?;
+        Ok(SerialRun {
+            plan,
+            mux,
+            inputs,
+            piece: vec![in alloc; 0; PIECE]?,
+            output,
+        })
+    }
+
+    /// How many slots were sent. What every multiplex keeps is known with it.
+    pub fn slots(&self) -> u64
+        ensures { IsSound self.now.mux }
+    {
+        self.mux.slots()
+    }
+
+    /// What became of the run, and its readers.
+    pub fn finish(self, alloc: Global) -> Result<(Summary, Vec<R>), AllocError>
+        requires { length self.inputs.items ≡ length self.mux.run.plan.request.inputs }
+        ensures inputs { IfOk result (λ done. AreReported self.mux.run.plan self.mux.events self.inputs.items done.0.inputs.items done.1.items) }
+        ensures counts { IfOk result (λ done. IsCounts self.mux.events done.0.counts) }
+        ensures faults { IfOk result (λ done. done.0.faults ≡ self.output.faults) }
+    {
+        let SerialRun {
+            mux,
+            inputs,
+            output,
+            ..
+        } = self;
+        let (inputs, readers) = end_inputs(alloc, &mux, inputs)?;
+        let summary = Summary {
+            inputs,
+            counts: mux.counts(),
+            faults: output.faults(),
+        };
+        Ok((summary, readers))
+    }
+
+    /// Sends slots until nothing is left to send or the run has all its slots, and writes what is in the buffer.
+    pub fn drive<W: Sink>(&mut self, sink: &mut W) -> Result<(), RunFault>
+        requires { (run : Run) × (starts : List (Option (List ℕ))) × IsRunning R.remaining run starts self.old }
+        ensures runs { OnOk result ((run : Run) (starts : List (Option (List ℕ)))
+            → IsRunning R.remaining run starts self.old → IsRunning R.remaining run starts self.new) }
+        ensures over { OnOk result (IsOver self.old.mux.run self.new.mux.events) }
+        ensures failures { OnOk result (W.failures sink.new ≡ W.failures sink.old) }
+        ensures written { OnOk result ((before : Option (List ℕ))
+            → Sends before (W.contents sink.old) (bytes_of (emitted self.old.plan self.old.mux.events)) self.old.output.writer
+            → Appends before (W.contents sink.new) (bytes_of (emitted self.old.plan self.new.mux.events))) }
+        ensures begun { OnErr result ((run : Run) (starts : List (Option (List ℕ)))
+            → IsRunning R.remaining run starts self.old → AreBegun run.plan self.new.mux.events starts) }
+        ensures failures_told { OnOk result ((befores : List ℕ)
+            → AllTellFailures R.failures befores self.old.inputs.items
+            → AllTellFailures R.failures befores self.new.inputs.items) }
+        ensures run { self.new.mux.run ≡ self.old.mux.run }
+        ensures plan { self.new.plan ≡ self.old.plan }
+        ensures sent_begun { OnErr result ((before : Option (List ℕ))
+            → Sends before (W.contents sink.old) (bytes_of (emitted self.old.plan self.old.mux.events)) self.old.output.writer
+            → SendsBeginning before (W.contents sink.new) (bytes_of (emitted self.old.plan self.new.mux.events))) }
+        ensures memory { result ≡ Err RunFault.Memory → W.failures sink.new ≡ W.failures sink.old }
+        ensures failed { result ≡ Err RunFault.Write
+            → FailsOnce (W.failures sink.old) (W.failures sink.new) }
+    {
+        loop {
+            if self.step(sink)? {
+                break;
+            }
+        }
+        self.output.flush(sink)
+    }
+
+    /// One step: the next slot is sent, or the input for which the multiplex waits gives a packet or is closed. True is
+    /// answered where the run is over, and nothing changed.
+    fn step<W: Sink>(&mut self, sink: &mut W) -> Result<bool, RunFault>
+        requires { (run : Run) × (starts : List (Option (List ℕ))) × IsRunning R.remaining run starts self.old }
+        ensures runs { OnOk result ((run : Run) (starts : List (Option (List ℕ)))
+            → IsRunning R.remaining run starts self.old → IsRunning R.remaining run starts self.new) }
+        ensures fewer { result ≡ Ok false
+            → steps_left self.old.mux.run self.new.mux.events < steps_left self.old.mux.run self.old.mux.events }
+        ensures over { result ≡ Ok true → IsOver self.old.mux.run self.new.mux.events }
+        ensures written { OnOk result ((before : Option (List ℕ))
+            → Sends before (W.contents sink.old) (bytes_of (emitted self.old.plan self.old.mux.events)) self.old.output.writer
+            → Sends before (W.contents sink.new) (bytes_of (emitted self.old.plan self.new.mux.events)) self.new.output.writer) }
+        ensures begun { OnErr result ((run : Run) (starts : List (Option (List ℕ)))
+            → IsRunning R.remaining run starts self.old → AreBegun run.plan self.new.mux.events starts) }
+        ensures failures_told { OnOk result ((befores : List ℕ)
+            → AllTellFailures R.failures befores self.old.inputs.items
+            → AllTellFailures R.failures befores self.new.inputs.items) }
+        ensures run { self.new.mux.run ≡ self.old.mux.run }
+        ensures plan { self.new.plan ≡ self.old.plan }
+        ensures sent_begun { OnErr result ((before : Option (List ℕ))
+            → Sends before (W.contents sink.old) (bytes_of (emitted self.old.plan self.old.mux.events)) self.old.output.writer
+            → SendsBeginning before (W.contents sink.new) (bytes_of (emitted self.old.plan self.new.mux.events))) }
+        ensures failures { OnOk result (W.failures sink.new ≡ W.failures sink.old) }
+        ensures memory { result ≡ Err RunFault.Memory → W.failures sink.new ≡ W.failures sink.old }
+        ensures failed { result ≡ Err RunFault.Write
+            → FailsOnce (W.failures sink.old) (W.failures sink.new) }
+    {
+        match self.mux.slot() {
+            Slot::Sent(packet) => {
+                self.output.put(&packet, sink)?;
+                Ok(false)
+            }
+            Slot::NotReady(input) => {
+                let piece = self.piece.as_mut_slice();
+                pull_at(&self.plan, &mut self.mux, input, &mut self.inputs, piece)?;
+                Ok(false)
+            }
+            Slot::Done | Slot::RunFull => Ok(true),
+            Slot::Memory => Err(RunFault::Memory),
+        }
+    }
+}

@@ -1,0 +1,98 @@
+//! What goes out of a run.
+
+use crate::packet_writer::PacketWriter;
+use crate::run_fault::RunFault;
+use crate::sink::Sink;
+use analyse::{Analyser, Fault};
+use std::alloc::{AllocError, Global};
+use tspkt::Packet;
+
+/// Packets on their way out: each is analysed, and written through a buffer.
+#[derive(Drop)]
+pub(crate) struct SlotWriter {
+    writer: PacketWriter,
+    analyser: Analyser,
+    /// The faults of the packet that was analysed last.
+    told: Vec<Fault>,
+    faults: u64,
+}
+
+impl SlotWriter {
+    ghost use Rattle.std.specs.Prelude.{◌≡◌, ◌∷◌, ◌++◌, ℕ, List, [], Err, IfOk, OnOk, OnErr};
+    ghost use Rattle.std.specs.Io.KnownBytes.{Appends};
+    ghost use Rattle.serial.specs.Failures.{FailsOnce};
+    ghost use Rattle.serial.specs.Written.{Sends, SendsBeginning};
+    ghost use Rattle.serial.specs.Sending.{HasAnalysed};
+
+    /// One that has sent nothing, for a multiplex of this rate (bits a second). Each PID that a PMT refers to has to come
+    /// within `period` slots.
+    pub fn new(alloc: Global, rate: u64, period: u64) -> Result<SlotWriter, AllocError>
+        ensures analysed { IfOk result (λ s. HasAnalysed s rate period []) }
+        ensures waiting { IfOk result (λ s. s.writer ≡ []) }
+    {
+        Ok(SlotWriter {
+            writer: PacketWriter::new(alloc)?,
+            analyser: Analyser::new(alloc, rate, period),
+            told: Vec::new(alloc),
+            faults: 0,
+        })
+    }
+
+    /// How many faults were told.
+    pub fn faults(&self) -> u64
+        ensures { result ≡ self.now.faults }
+    {
+        self.faults
+    }
+
+    /// Analyses a packet and writes it.
+    pub fn put<W: Sink>(&mut self, packet: &Packet, sink: &mut W) -> Result<(), RunFault>
+        ensures analysed { OnOk result ((rate period : ℕ) (slots : List (List ℕ))
+            → HasAnalysed self.old rate period slots
+            → HasAnalysed self.new rate period (slots ++ packet.now ∷ [])) }
+        ensures written { OnOk result
+            (Sends (W.contents sink.old) (W.contents sink.new) (self.old.writer ++ packet.now) self.new.writer) }
+        ensures begun { OnErr result
+            (SendsBeginning (W.contents sink.old) (W.contents sink.new) (self.old.writer ++ packet.now)) }
+        ensures failures { OnOk result (W.failures sink.new ≡ W.failures sink.old) }
+        ensures memory { result ≡ Err RunFault.Memory → W.failures sink.new ≡ W.failures sink.old }
+        ensures failed { result ≡ Err RunFault.Write
+            → FailsOnce (W.failures sink.old) (W.failures sink.new) }
+    {
+        self.analyse(packet)?;
+        match self.writer.put(packet, sink) {
+            Ok(()) => Ok(()),
+            Err(_) => Err(RunFault::Write),
+        }
+    }
+
+    /// Analyses a packet.
+    fn analyse(&mut self, packet: &Packet) -> Result<(), AllocError>
+        ensures analysed { OnOk result ((rate period : ℕ) (slots : List (List ℕ))
+            → HasAnalysed self.old rate period slots
+            → HasAnalysed self.new rate period (slots ++ packet.now ∷ [])) }
+        ensures writer { self.new.writer ≡ self.old.writer }
+    {
+        self.told.clear();
+        self.analyser.push(packet.bytes(), &mut self.told)?;
+        let told = self.told.as_slice().len() as u64;
+        self.faults = self.faults.saturating_add(told);
+        Ok(())
+    }
+
+    /// Writes what is in the buffer.
+    pub fn flush<W: Sink>(&mut self, sink: &mut W) -> Result<(), RunFault>
+        ensures stays { self.new ≡ record self.old { writer = [] } }
+        ensures ok { OnOk result (Appends (W.contents sink.old) (W.contents sink.new) self.old.writer) }
+        ensures begun { OnErr result
+            (SendsBeginning (W.contents sink.old) (W.contents sink.new) self.old.writer) }
+        ensures failures { OnOk result (W.failures sink.new ≡ W.failures sink.old) }
+        ensures failed { OnErr result ((result ≡ Err RunFault.Write)
+            × FailsOnce (W.failures sink.old) (W.failures sink.new)) }
+    {
+        match self.writer.flush(sink) {
+            Ok(()) => Ok(()),
+            Err(_) => Err(RunFault::Write),
+        }
+    }
+}

@@ -1,0 +1,24 @@
+//! What became of a run.
+
+use crate::report::Report;
+use mux::{Counts, Totals};
+
+/// What became of one input of a run.
+#[derive(Clone, Copy, Debug, PartialEq, Eq)]
+pub struct InputSummary {
+    /// What was found in it.
+    pub report: Report,
+    /// What became of its packets that the plan names.
+    pub totals: Totals,
+}
+
+/// What became of a run.
+#[derive(Drop)]
+pub struct Summary {
+    /// The inputs, in the order of the plan.
+    pub inputs: Vec<InputSummary>,
+    /// What the slots carried.
+    pub counts: Counts,
+    /// How many faults the analyser told of the output.
+    pub faults: u64,
+}
