@@ -1,0 +1,237 @@
+//! Whole commands.
+
+ghost use Rattle.std.specs.Prelude.{◌≡◌, ◌≤◌, length, IfOk};
+
+use crate::command_fault::CommandFault;
+use crate::command_line::{Command, LineFault, line};
+use crate::files::Files;
+use crate::first_run;
+use crate::plan_files::{open_inputs, read_plan};
+use crate::printing::{has_failed, print_plan, print_summary};
+use crate::stream_analysis::StreamAnalysis;
+use plan::Plan;
+use serial::{RunFault, Sink, Source, Summary, run_serial};
+use std::alloc::Global;
+use std::convert::AsStr;
+use std::io::Write;
+
+/// The status of a refused command line.
+const REFUSED: u8 = 2;
+/// The status of an analysis that told a fault.
+const TOLD: u8 = 1;
+
+/// What a run needs: a plan, what its inputs are read from, and what its output is written to.
+struct Prepared<R, W> {
+    plan: Plan,
+    /// An equal plan, for the names of the inputs.
+    kept: Plan,
+    readers: Vec<R>,
+    writer: W,
+}
+
+/// Does a whole command, with files by their names, and prints its lines to `out` and its fault to `err`. The answer is the
+/// status with which the program ends, and the output's writer, where one was made.
+///
+/// The status is 0 for success, 1 where an analysis told a fault, 2 for refused words, 3 for a refused plan, 4 for a file
+/// that failed and 5 for want of memory. Without words it does the stored first run.
+pub fn command<F: Files, O: Write, E: Write, S: AsStr>(
+    alloc: Global,
+    words: &[S],
+    files: &mut F,
+    out: &mut O,
+    err: &mut E,
+) -> (u8, Option<F::Writer>) {
+    if words.is_empty() {
+        let ended = print_first(alloc, out);
+        return (end(ended, out, err), None);
+    }
+    match line(alloc, words) {
+        Err(fault) => (print_line_fault(fault, out, err), None),
+        Ok(Command::Check { plan }) => {
+            let ended = check(alloc, files, plan, out);
+            (end(ended, out, err), None)
+        }
+        Ok(Command::Analyse { rate, period, file }) => {
+            let ended = analyse(alloc, files, rate, period, file, out);
+            (end(ended, out, err), None)
+        }
+        Ok(
+            Command::Run {
+                plan,
+                out: name,
+                slots,
+                serial: _,
+            },
+        ) => {
+            let (writer, ended) = run(alloc, files, plan, name, slots, out);
+            (end(ended, out, err), writer)
+        }
+    }
+}
+
+/// What became of a command, once what it printed went out too.
+fn sent<O: Write>(ended: Result<u8, CommandFault>, out: &mut O) -> Result<u8, CommandFault> {
+    let flushed = out.flush();
+    let status = ended?;
+    flushed?;
+    Ok(status)
+}
+
+/// The status of a command that has ended; its fault is printed.
+fn end<O: Write, E: Write>(ended: Result<u8, CommandFault>, out: &mut O, err: &mut E) -> u8 {
+    match sent(ended, out) {
+        Ok(status) => status,
+        Err(fault) => {
+            let _ = fault.print(err);
+            fault.status()
+        }
+    }
+}
+
+/// Prints why words are no command, or the help that they ask for.
+fn print_line_fault<O: Write, E: Write>(fault: LineFault, out: &mut O, err: &mut E) -> u8 {
+    match fault {
+        LineFault::Memory => end(Err(CommandFault::Memory), out, err),
+        LineFault::Refused(text) => {
+            let _ = write!(err, "{text}");
+            REFUSED
+        }
+        LineFault::Help(text) => {
+            let ended = print_help(&text, out);
+            end(ended, out, err)
+        }
+    }
+}
+
+/// Prints the help that was asked for.
+fn print_help<O: Write>(text: &str, out: &mut O) -> Result<u8, CommandFault> {
+    write!(out, "{text}")?;
+    Ok(0)
+}
+
+/// Prints the packets of the stored first run.
+fn print_first<O: Write>(alloc: Global, out: &mut O) -> Result<u8, CommandFault> {
+    let Ok(packets) = first_run::first_slots(alloc) else {
+        return Err(CommandFault::Memory);
+    };
+    for packet in &packets {
+        let line = hex::encode(alloc, packet.bytes())?;
+        writeln!(out, "{line}")?;
+    }
+    Ok(0)
+}
+
+/// Shows a plan.
+fn check<F: Files, O: Write>(
+    alloc: Global,
+    files: &mut F,
+    plan: &str,
+    out: &mut O,
+) -> Result<u8, CommandFault> {
+    let plan = read_plan(alloc, files, plan)?;
+    print_plan(&plan, out)?;
+    Ok(0)
+}
+
+/// Tells the faults of a stream.
+fn analyse<F: Files, O: Write>(
+    alloc: Global,
+    files: &mut F,
+    rate: u64,
+    period: u64,
+    name: &str,
+    out: &mut O,
+) -> Result<u8, CommandFault> {
+    let Some(mut source) = files.reader(name) else {
+        return Err(CommandFault::file(alloc, name));
+    };
+    let mut analysis = StreamAnalysis::new(alloc, rate, period);
+    match analysis.read(alloc, &mut source, out)? {
+        Some(0) => Ok(0),
+        Some(_) => Ok(TOLD),
+        None => Err(CommandFault::file(alloc, name)),
+    }
+}
+
+/// What a run needs. The output is made last, so that a refused run leaves none.
+fn prepare<F: Files>(
+    alloc: Global,
+    files: &mut F,
+    plan: &str,
+    out: &str,
+) -> Result<Prepared<F::Reader, F::Writer>, CommandFault>
+    ensures { IfOk result (λ p. length p.readers.items ≡ length p.plan.request.inputs) }
+{
+    let plan = read_plan(alloc, files, plan)?;
+    let kept = plan.copy(alloc)?;
+    let readers = open_inputs(alloc, files, &plan)?;
+    match files.writer(out) {
+        Some(writer) => Ok(Prepared {
+            plan,
+            kept,
+            readers,
+            writer,
+        }),
+        None => Err(CommandFault::file(alloc, out)),
+    }
+}
+
+/// Makes the multiplex of a plan.
+fn run<F: Files, O: Write>(
+    alloc: Global,
+    files: &mut F,
+    plan: &str,
+    name: &str,
+    slots: u64,
+    out: &mut O,
+) -> (Option<F::Writer>, Result<u8, CommandFault>)
+    requires { slots ≤ 1000000 }
+{
+    match prepare(alloc, files, plan, name) {
+        Err(fault) => (None, Err(fault)),
+        Ok(prepared) => {
+            let (writer, ended) = run_prepared(alloc, prepared, name, slots, out);
+            (Some(writer), ended)
+        }
+    }
+}
+
+/// Makes the multiplex of a plan, whose output has this name, and prints what became of it.
+fn run_prepared<R: Source + Drop, W: Sink, O: Write>(
+    alloc: Global,
+    prepared: Prepared<R, W>,
+    name: &str,
+    slots: u64,
+    out: &mut O,
+) -> (W, Result<u8, CommandFault>)
+    requires readers { length prepared.readers.items ≡ length prepared.plan.request.inputs }
+    requires slots { slots ≤ 1000000 }
+{
+    let Prepared {
+        plan,
+        kept,
+        readers,
+        writer,
+    } = prepared;
+    match run_serial(alloc, plan, slots, readers, writer) {
+        (writer, Ok((summary, _))) => (writer, tell(alloc, &kept, &summary, out)),
+        (writer, Err(RunFault::Write)) => (writer, Err(CommandFault::file(alloc, name))),
+        (writer, Err(RunFault::Memory)) => (writer, Err(CommandFault::Memory)),
+    }
+}
+
+/// Prints what became of a run. The first input that failed is told behind it.
+fn tell<O: Write>(
+    alloc: Global,
+    plan: &Plan,
+    summary: &Summary,
+    out: &mut O,
+) -> Result<u8, CommandFault> {
+    print_summary(summary, out)?;
+    for (input, summary) in plan.inputs().iter().zip(summary.inputs.iter()) {
+        if has_failed(&summary.report) {
+            return Err(CommandFault::file(alloc, input.file.as_str()));
+        }
+    }
+    Ok(0)
+}

@@ -1,0 +1,69 @@
+//! The lines that commands print.
+
+use mux::Counts;
+use plan::Plan;
+use serial::{InputSummary, Report, Stop, Summary};
+use std::io;
+use std::io::Write;
+
+/// Prints what a plan makes: the rhythm of its tables, its services, and its streams by their numbers.
+pub(crate) fn print_plan<O: Write>(plan: &Plan, out: &mut O) -> io::Result<()> {
+    let (rate, gap, period) = (plan.rate(), plan.gap(), plan.period());
+    let (fast, slow) = (plan.fast_len(), plan.slow_len());
+    writeln!(
+        out,
+        "rate {rate} gap {gap} period {period} fast {fast} slow {slow}"
+    )?;
+    for service in plan.services() {
+        let (number, pmt) = (service.service, service.pmt);
+        writeln!(out, "service {number} pmt 0x{pmt:04X}")?;
+    }
+    for stream in plan.streams() {
+        let (output_pid, input) = (stream.output_pid, stream.input);
+        let (pid, leak) = (stream.pid, stream.leak);
+        writeln!(
+            out,
+            "stream 0x{output_pid:04X} input {input} pid 0x{pid:04X} leak {leak}"
+        )?;
+    }
+    Ok(())
+}
+
+/// Prints what became of an input.
+fn print_input<O: Write>(number: usize, input: &InputSummary, out: &mut O) -> io::Result<()> {
+    let report = input.report;
+    let (framed, malformed, unmapped) = (report.framed, report.malformed, report.unmapped);
+    let (bad, losses, lost) = (report.bad, report.losses, report.lost);
+    write!(
+        out,
+        "input {number} framed {framed} malformed {malformed} unmapped {unmapped} "
+    )?;
+    write!(out, "bad {bad} losses {losses} lost {lost} ")?;
+    let totals = input.totals;
+    let (taken, sent, queued) = (totals.taken, totals.sent, totals.queued);
+    writeln!(out, "taken {taken} sent {sent} queued {queued}")
+}
+
+/// Prints what became of a run: a line for each input, and one for the output.
+pub(crate) fn print_summary<O: Write>(summary: &Summary, out: &mut O) -> io::Result<()> {
+    for (number, input) in summary.inputs.iter().enumerate() {
+        print_input(number, input, out)?;
+    }
+    let Counts {
+        tables,
+        elementary,
+        null,
+    } = summary.counts;
+    let slots = tables.saturating_add(elementary).saturating_add(null);
+    let faults = summary.faults;
+    write!(
+        out,
+        "slots {slots} tables {tables} elementary {elementary} null {null} "
+    )?;
+    writeln!(out, "faults {faults}")
+}
+
+/// Whether an input failed, or has more bytes than it may.
+pub(crate) fn has_failed(report: &Report) -> bool {
+    matches!(report.stopped, Some(Stop::ReadFailed) | Some(Stop::TooMuch))
+}

@@ -1,0 +1,431 @@
+//! Whole commands: what they print, what they write, and how they end.
+
+use crate::command_fault::CommandFault;
+use crate::tests::devices::TestReader;
+use crate::tests::memory_files::{Done, MemoryFiles, does};
+use crate::tests::runs::{eight_packets, marks_of};
+use crate::{example, first_run};
+use anyhow::Result;
+use request::PlanFault;
+use std::alloc::{AllocError, Global};
+use std::process::Abort;
+use std::test::Fail;
+
+const RUN: [&str; 5] = ["run", "--plan", "x.toml", "--out", "out.ts"];
+
+const RUN_SERIAL: [&str; 6] = ["run", "--plan", "x.toml", "--out", "out.ts", "--serial"];
+
+const RUN_THREE_SLOTS: [&str; 7] = ["run", "--plan", "x.toml", "--out", "out.ts", "--slots", "3"];
+
+const CHECK: [&str; 3] = ["check", "--plan", "x.toml"];
+
+const ANALYSE: [&str; 6] = ["analyse", "--rate", "1504000", "--period", "1000", "x.ts"];
+
+/// The example plan and its input, cut to so many bytes.
+fn cut_files(alloc: Global, cut: usize) -> Result<MemoryFiles, AllocError> {
+    let mut files = MemoryFiles::new(alloc)?;
+    files.add("x.toml", example::PLAN.as_bytes())?;
+    let bytes = eight_packets(alloc)?;
+    files.add("x.ts", bytes.get(..cut).unwrap_or(&bytes))?;
+    Ok(files)
+}
+
+/// The example plan and its input.
+fn files(alloc: Global) -> Result<MemoryFiles, AllocError> {
+    cut_files(alloc, 1_504)
+}
+
+/// A command ends with this status, text and fault.
+fn ends(rt: &impl Abort, done: &Done, status: u8, out: &str, err: &str) {
+    assert_eq!(rt; done.texts().1, err);
+    assert_eq!(rt; done.texts().0, out);
+    assert_eq!(rt; done.status, status);
+}
+
+const LINES: &str =
+    "input 0 framed 8 malformed 0 unmapped 3 bad 0 losses 0 lost 0 taken 5 sent 5 queued 0
+slots 9 tables 3 elementary 5 null 1 faults 0
+";
+
+/// The run of the example ends well, and prints its lines.
+fn prints_its_lines(rt: &impl Abort, alloc: Global, words: &[&str]) -> Result<(), AllocError> {
+    let done = does(alloc, words, &mut files(alloc)?)?;
+    ends(rt, &done, 0, LINES, "");
+    assert_eq!(rt; done.written_len(), Some(1_692));
+    Ok(())
+}
+
+#[test]
+fn a_run_prints_its_lines(rt: HostRuntime) -> Result<(), Fail> {
+    prints_its_lines(&rt, rt.alloc(), &RUN)?;
+    prints_its_lines(&rt, rt.alloc(), &RUN_SERIAL)?;
+    Ok(())
+}
+
+#[test]
+fn a_run_has_the_slots_that_are_asked_for(rt: HostRuntime) -> Result<(), Fail> {
+    let alloc = rt.alloc();
+    let done = does(alloc, &RUN_THREE_SLOTS, &mut files(alloc)?)?;
+    let lines =
+        "input 0 framed 4 malformed 0 unmapped 3 bad 0 losses 0 lost 0 taken 1 sent 0 queued 1
+slots 3 tables 2 elementary 0 null 1 faults 0
+";
+    ends(&rt, &done, 0, lines, "");
+    assert_eq!(rt; done.written_len(), Some(564));
+    Ok(())
+}
+
+#[test]
+fn a_plan_is_shown(rt: HostRuntime) -> Result<(), Fail> {
+    let done = does(rt.alloc(), &CHECK, &mut files(rt.alloc())?)?;
+    let lines = "rate 1504000 gap 2 period 100 fast 2 slow 2
+service 500 pmt 0x0100
+stream 0x0200 input 0 pid 0x0101 leak 2000000
+";
+    ends(&rt, &done, 0, lines, "");
+    assert_eq!(rt; done.written_len(), None);
+    Ok(())
+}
+
+/// Analyses the example's PAT and so many null packets, and some bytes behind them.
+fn analyses(alloc: Global, nulls: u32, rest: &[u8]) -> Result<Done> {
+    let mut bytes = Vec::new(alloc);
+    if let Some(pat) = first_run::first_slots(alloc)?.first() {
+        bytes.extend_from_slice(pat.bytes())?;
+    }
+    for _ in 0..nulls {
+        bytes.extend_from_slice(tspkt::null().bytes())?;
+    }
+    bytes.extend_from_slice(rest)?;
+    let mut files = MemoryFiles::new(alloc)?;
+    files.add("x.ts", &bytes)?;
+    Ok(does(alloc, &ANALYSE, &mut files)?)
+}
+
+#[test]
+fn faults_are_told(rt: HostRuntime) -> Result<(), Fail> {
+    let told = "slot 501 1.3.a 0x0000\nslot 501 1.5.a 0x0100\nslots 502 faults 2 rest 0\n";
+    ends(&rt, &analyses(rt.alloc(), 501, &[])?, 1, told, "");
+    let none = "slots 501 faults 0 rest 7\n";
+    ends(&rt, &analyses(rt.alloc(), 500, &[0x47; 7])?, 0, none, "");
+    let bad = "slot 1 1.2 -\nslots 2 faults 1 rest 187\n";
+    ends(&rt, &analyses(rt.alloc(), 0, &[0xAA; 375])?, 1, bad, "");
+    Ok(())
+}
+
+#[test]
+fn words_are_judged_first(rt: HostRuntime) -> Result<(), Fail> {
+    let alloc = rt.alloc();
+    let refused: [&[&str]; 12] = [
+        &["walk"],
+        &["--serial"],
+        &["run"],
+        &["run", "--plan", "x.toml"],
+        &["run", "--plan", "x.toml", "--out", "o", "--slots", "0"],
+        &[
+            "run", "--plan", "x.toml", "--out", "o", "--slots", "1000001",
+        ],
+        &["run", "--plan", "x.toml", "--out", "o", "more"],
+        &["check"],
+        &["analyse", "--rate", "499999", "--period", "1", "x.ts"],
+        &["analyse", "--rate", "100000001", "--period", "1", "x.ts"],
+        &["analyse", "--rate", "500000", "--period", "0", "x.ts"],
+        &["analyse", "--rate", "500000", "--period", "1"],
+    ];
+    for words in refused {
+        let done = does(alloc, words, &mut MemoryFiles::new(alloc)?)?;
+        assert_eq!(rt; done.status, 2);
+        assert_eq!(rt; done.texts().0, "");
+        assert!(rt; done.texts().1.contains("--help"), "no advice");
+    }
+    Ok(())
+}
+
+#[test]
+fn help_is_given(rt: HostRuntime) -> Result<(), Fail> {
+    let alloc = rt.alloc();
+    let asked: [&[&str]; 4] = [
+        &["--help"],
+        &["run", "--help"],
+        &["check", "-h"],
+        &["help", "analyse"],
+    ];
+    for words in asked {
+        let done = does(alloc, words, &mut MemoryFiles::new(alloc)?)?;
+        assert_eq!(rt; done.status, 0);
+        assert!(rt; done.texts().0.contains("Example"), "no example");
+    }
+    let done = does(alloc, &["--version"], &mut MemoryFiles::new(alloc)?)?;
+    ends(&rt, &done, 0, "remux 0.1.0\n", "");
+    Ok(())
+}
+
+#[test]
+fn without_words_the_stored_run_is_made(rt: HostRuntime) -> Result<(), Fail> {
+    let none: [&str; 0] = [];
+    let done = does(rt.alloc(), &none, &mut MemoryFiles::new(rt.alloc())?)?;
+    assert_eq!(rt; done.status, 0);
+    assert_eq!(rt; done.out.len(), 2 * 377);
+    Ok(())
+}
+
+const PLAN_FAULTS: [(PlanFault, &str); 12] = [
+    (PlanFault::BadText, "fault 1 BadText\n"),
+    (PlanFault::OutOfRange, "fault 2 OutOfRange\n"),
+    (PlanFault::ServiceTaken, "fault 3 ServiceTaken\n"),
+    (PlanFault::PidTaken, "fault 4 PidTaken\n"),
+    (PlanFault::NoProgram, "fault 5 NoProgram\n"),
+    (PlanFault::NoSdtRow, "fault 6 NoSdtRow\n"),
+    (PlanFault::CaFound, "fault 7 CaFound\n"),
+    (PlanFault::RateMissing, "fault 8 RateMissing\n"),
+    (PlanFault::StreamUnknown, "fault 9 StreamUnknown\n"),
+    (PlanFault::TooLarge, "fault 10 TooLarge\n"),
+    (PlanFault::RoundTooLong, "fault 11 RoundTooLong\n"),
+    (PlanFault::PeriodTooLong, "fault 12 PeriodTooLong\n"),
+];
+
+/// A fault has this status and line.
+fn tells(rt: &impl Abort, alloc: Global, fault: CommandFault, status: u8, line: &str) {
+    let mut told = Vec::new(alloc);
+    assert!(rt; fault.print(&mut told).is_ok());
+    assert_eq!(rt; told.as_slice(), line.as_bytes());
+    assert_eq!(rt; fault.status(), status);
+}
+
+#[test]
+fn each_fault_has_its_status_and_line(rt: HostRuntime) -> Result<(), Fail> {
+    let alloc = rt.alloc();
+    for (fault, line) in PLAN_FAULTS {
+        tells(&rt, alloc, CommandFault::from(fault), 3, line);
+    }
+    let file = CommandFault::file(alloc, "a b.ts");
+    tells(&rt, alloc, file, 4, "fault file a b.ts\n");
+    let memory = CommandFault::from(PlanFault::Memory);
+    tells(&rt, alloc, memory, 5, "fault memory\n");
+    Ok(())
+}
+
+/// What a plan's text is refused for, over these files besides.
+fn refuses(
+    rt: &impl Abort,
+    text: &[u8],
+    mut files: MemoryFiles,
+    fault: &str,
+) -> Result<(), AllocError> {
+    files.add("p.toml", text)?;
+    let words = ["check", "--plan", "p.toml"];
+    ends(rt, &does(files.alloc, &words, &mut files)?, 3, "", fault);
+    Ok(())
+}
+
+/// A text is refused before the input is looked for, which isn't there.
+#[test]
+fn a_plan_is_refused_by_the_number_of_its_fault(rt: HostRuntime) -> Result<(), Fail> {
+    let alloc = rt.alloc();
+    let low = example::PLAN.replacen(alloc, "rate = 1504000", "rate = 499999", 1)?;
+    for (text, fault) in [
+        (b"rate = ".as_slice(), "fault 1 BadText\n"),
+        ([0xFF, 0x0A].as_slice(), "fault 1 BadText\n"),
+        (low.as_bytes(), "fault 2 OutOfRange\n"),
+    ] {
+        refuses(&rt, text, MemoryFiles::new(alloc)?, fault)?;
+    }
+    for (old, new, fault) in [
+        ("program = 100", "program = 101", "fault 5 NoProgram\n"),
+        ("pid = 257", "pid = 258", "fault 8 RateMissing\n"),
+        ("period = 100", "period = 5", "fault 11 RoundTooLong\n"),
+        ("period = 100", "period = 501", "fault 12 PeriodTooLong\n"),
+    ] {
+        let text = example::PLAN.replacen(alloc, old, new, 1)?;
+        refuses(&rt, text.as_bytes(), files(alloc)?, fault)?;
+    }
+    Ok(())
+}
+
+/// The example's files, where the input's first reader and the one behind it fail at their ends; with none it can't be
+/// opened.
+fn with_readers(alloc: Global, fail: &[bool]) -> Result<MemoryFiles, AllocError> {
+    let mut files = files(alloc)?;
+    if let Some(file) = files.files.get_mut(1) {
+        file.readers.clear();
+        for fails in fail {
+            let mut reader = TestReader::new(eight_packets(alloc)?);
+            reader.fails = *fails;
+            file.readers.push(reader)?;
+        }
+        file.readers.reverse();
+    }
+    Ok(files)
+}
+
+/// A command ends with status 4 and this line, and prints nothing.
+fn fails(
+    rt: &impl Abort,
+    words: &[&str],
+    mut files: MemoryFiles,
+    fault: &str,
+) -> Result<(), AllocError> {
+    let done = does(files.alloc, words, &mut files)?;
+    ends(rt, &done, 4, "", fault);
+    assert_eq!(rt; done.written_len(), None);
+    Ok(())
+}
+
+#[test]
+fn files_that_fail_are_named(rt: HostRuntime) -> Result<(), Fail> {
+    let alloc = rt.alloc();
+    fails(&rt, &CHECK, MemoryFiles::new(alloc)?, "fault file x.toml\n")?;
+    let mut unread = files(alloc)?;
+    for file in unread.files.iter_mut() {
+        for reader in file.readers.iter_mut() {
+            reader.fails = true;
+        }
+    }
+    fails(&rt, &CHECK, unread, "fault file x.toml\n")?;
+    fails(&rt, &CHECK, with_readers(alloc, &[])?, "fault file x.ts\n")?;
+    let mut full = files(alloc)?;
+    full.output = None;
+    fails(&rt, &RUN, full, "fault file out.ts\n")?;
+    let words = ["analyse", "--rate", "1504000", "--period", "1", "y.ts"];
+    fails(&rt, &words, files(alloc)?, "fault file y.ts\n")?;
+    fails(
+        &rt,
+        &ANALYSE,
+        with_readers(alloc, &[true])?,
+        "fault file x.ts\n",
+    )?;
+    Ok(())
+}
+
+/// The inputs are opened again before the output is made.
+#[test]
+fn an_input_is_opened_twice(rt: HostRuntime) -> Result<(), Fail> {
+    let mut once = with_readers(rt.alloc(), &[false])?;
+    once.output = None;
+    fails(&rt, &RUN, once, "fault file x.ts\n")?;
+    Ok(())
+}
+
+/// An input that fails while its tables are sought ends the command; one that fails in the run is told behind the lines. The
+/// tables stand before the end of the first reader, which then fails no more.
+#[test]
+fn an_input_that_fails_in_the_run_is_told_at_its_end(rt: HostRuntime) -> Result<(), Fail> {
+    let alloc = rt.alloc();
+    let mut both = with_readers(alloc, &[true, true])?;
+    let done = does(alloc, &RUN, &mut both)?;
+    ends(&rt, &done, 4, LINES, "fault file x.ts\n");
+    assert_eq!(rt; done.written_len(), Some(1_692));
+    let mut early = with_readers(alloc, &[true, true])?;
+    if let Some(reader) = early
+        .files
+        .get_mut(1)
+        .and_then(|file| file.readers.last_mut())
+    {
+        reader.bytes.truncate(564);
+    }
+    fails(&rt, &RUN, early, "fault file x.ts\n")?;
+    Ok(())
+}
+
+#[test]
+fn an_output_that_fails_leaves_its_beginning(rt: HostRuntime) -> Result<(), Fail> {
+    let alloc = rt.alloc();
+    for room in [0, 100, 1_691] {
+        let mut files = files(alloc)?;
+        if let Some(output) = &mut files.output {
+            output.room = room;
+        }
+        let done = does(alloc, &RUN, &mut files)?;
+        ends(&rt, &done, 4, "", "fault file out.ts\n");
+        assert_eq!(rt; done.written_len(), Some(room));
+    }
+    Ok(())
+}
+
+/// The run of the example.
+fn runs(alloc: Global) -> Result<Done, AllocError> {
+    does(alloc, &RUN, &mut files(alloc)?)
+}
+
+/// The run of the example, again where memory was refused before it began.
+fn runs_at_last(rt: &impl Abort, alloc: Global) -> Done {
+    match runs(alloc) {
+        Ok(done) => done,
+        Err(_) => runs(alloc).expect(rt, "a run"),
+    }
+}
+
+/// Each allocation may be refused once: `rt try --test --fail-alloc N` refuses allocation N. The run then ends with its fault
+/// and with a beginning of the output, and the next one as ever.
+#[test]
+fn want_of_memory_is_told(rt: HostRuntime) {
+    let first = runs_at_last(&rt, rt.alloc());
+    let whole = runs_at_last(&rt, rt.alloc());
+    ends(&rt, &whole, 0, LINES, "");
+    if first.status != 0 {
+        ends(&rt, &first, 5, "", "fault memory\n");
+    }
+    if let (Some(part), Some(whole)) = (&first.written, &whole.written) {
+        assert!(rt; whole.starts_with(part), "another output");
+    }
+}
+
+/// The lines of a run over the example's input, cut to so many bytes, where its tables are found: five good sync bytes.
+fn cut_lines(alloc: Global, cut: usize) -> Result<String, AllocError> {
+    let (framed, lost) = (cut / 188, cut % 188);
+    let taken = framed.saturating_sub(3);
+    let tables = if framed == 4 { 2 } else { 3 };
+    let slots = tables + taken + 1;
+    format!(in alloc;
+        "input 0 framed {framed} malformed 0 unmapped 3 bad 0 losses 0 lost {lost} taken {taken} sent {taken} queued 0
+slots {slots} tables {tables} elementary {taken} null 1 faults 0
+"
+    )
+}
+
+/// A run over the example's input, cut to so many bytes, in both ways of running.
+fn runs_cut(rt: &impl Abort, alloc: Global, cut: usize) -> Result<(), AllocError> {
+    let done = does(alloc, &RUN, &mut cut_files(alloc, cut)?)?;
+    if cut < 753 {
+        ends(rt, &done, 3, "", "fault 5 NoProgram\n");
+    } else {
+        ends(rt, &done, 0, cut_lines(alloc, cut)?.as_str(), "");
+    }
+    let serial = does(alloc, &RUN_SERIAL, &mut cut_files(alloc, cut)?)?;
+    assert_eq!(rt; serial.status, done.status);
+    assert!(rt; serial.written == done.written, "another output at {cut}");
+    Ok(())
+}
+
+#[test]
+fn an_input_may_end_anywhere(rt: HostRuntime) -> Result<(), Fail> {
+    let alloc = rt.alloc();
+    for whole in 0..8 {
+        for rest in [0, 1, 94, 187] {
+            runs_cut(&rt, alloc, 188 * whole + rest)?;
+        }
+    }
+    runs_cut(&rt, alloc, 1_504)?;
+    Ok(())
+}
+
+/// The output of the example's run is the slots in their order, with the counters of the input.
+#[test]
+fn the_output_is_the_slots(rt: HostRuntime) -> Result<(), Fail> {
+    let done = does(rt.alloc(), &RUN, &mut files(rt.alloc())?)?;
+    let written = done.written.ok_or("no output")?;
+    let marks = marks_of(rt.alloc(), &written)?;
+    let want = [
+        (0x0000, 0),
+        (0x1FFF, 0),
+        (0x0100, 0),
+        (0x0200, 0),
+        (0x0011, 0),
+        (0x0200, 1),
+        (0x0200, 2),
+        (0x0200, 3),
+        (0x0200, 4),
+    ];
+    assert_eq!(rt; marks.as_slice(), want.as_slice());
+    Ok(())
+}
