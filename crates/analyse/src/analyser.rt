@@ -1,13 +1,15 @@
 //! The analyser of a stream.
 
-ghost use Rattle.std.specs.Prelude.{◌≡◌, ◌∷◌, ◌++◌, [], ℕ, List, length, OnOk};
+ghost use Rattle.std.specs.Prelude.{◌≡◌, ◌∷◌, ◌++◌, [], ℕ, List, length, option_map, OnOk};
 ghost use Rattle.analyse.specs.Faults.{faults_at};
+ghost use Rattle.analyse.specs.SlotReading.{IsReadAs};
 ghost use Rattle.analyse.specs.Analysed.{IsWatching};
 
 use crate::fault::Fault;
-use crate::stream_watch::StreamWatch;
+use crate::stream_watch::{StreamWatch, read_slot};
 use std::alloc::{AllocError, Global};
 use std::marker::Model;
+use tspkt::Packet;
 
 /// Makes the watches, which see the first slot. They are large, and made here so that no other call keeps room for them.
 fn see_first(
@@ -16,13 +18,15 @@ fn see_first(
     period: u64,
     watch: &mut Option<StreamWatch>,
     slot: &[u8; 188],
+    packet: Option<&Packet>,
     out: &mut Vec<Fault>,
 ) -> Result<(), AllocError>
+    requires { IsReadAs slot.now (option_map (λ p. p.now) packet) }
     ensures seen { OnOk result (IsWatching rate period watch.new (slot.now ∷ [])) }
     ensures told { OnOk result (out.new.items ≡ out.old.items ++ faults_at rate period (slot.now ∷ []) 0) }
 {
     let mut first = StreamWatch::new(alloc, rate, period)?;
-    first.push(slot, out)?;
+    first.see(slot, packet, out)?;
     *watch = Some(first);
     Ok(())
 }
@@ -34,16 +38,18 @@ fn see_slot(
     period: u64,
     watch: &mut Option<StreamWatch>,
     slot: &[u8; 188],
+    packet: Option<&Packet>,
     out: &mut Vec<Fault>,
 ) -> Result<(), AllocError>
+    requires { IsReadAs slot.now (option_map (λ p. p.now) packet) }
     ensures seen { OnOk result ((slots : List (List ℕ)) → IsWatching rate period watch.old slots
         → IsWatching rate period watch.new (slots ++ slot.now ∷ [])) }
     ensures told { OnOk result ((slots : List (List ℕ)) → IsWatching rate period watch.old slots
         → out.new.items ≡ out.old.items ++ faults_at rate period (slots ++ slot.now ∷ []) (length slots)) }
 {
     match watch {
-        Some(watch) => watch.push(slot, out),
-        None => see_first(alloc, rate, period, watch, slot, out),
+        Some(watch) => watch.see(slot, packet, out),
+        None => see_first(alloc, rate, period, watch, slot, packet, out),
     }
 }
 
@@ -77,7 +83,8 @@ impl Model for Analyser {
 }
 
 impl Analyser {
-    ghost use Rattle.std.specs.Prelude.{◌≡◌, ◌∷◌, ◌++◌, [], ℕ, List, length, true, IsErr, OnOk, OnErr};
+    ghost use Rattle.std.specs.Prelude.{◌≡◌, ◌∷◌, ◌++◌, [], ℕ, List, length, true, option_map, IsErr, OnOk, OnErr};
+    ghost use Rattle.analyse.specs.SlotReading.{IsReadAs};
     ghost use Rattle.analyse.specs.Faults.{faults, faults_at};
     ghost use Rattle.analyse.specs.Analysed.{HasSeen};
     ghost use Rattle.analyse.specs.declared.fault.Fault.{Fault};
@@ -117,16 +124,65 @@ impl Analyser {
         ensures refused { OnErr result (self.new.is_refused ≡ true) }
         ensures stays { self.old.is_refused ≡ true → IsErr result }
     {
+        let packet = read_slot(slot);
+        self.see(slot, packet.as_ref(), out)
+    }
+
+    /// The same of a slot that carries this packet.
+    pub fn push_packet(&mut self, packet: &Packet, out: &mut Vec<Fault>) -> Result<(), AllocError>
+        ensures rate { self.new.rate ≡ self.old.rate }
+        ensures period { self.new.period ≡ self.old.period }
+        ensures seen { OnOk result ((slots : List (List ℕ)) → HasSeen self.old slots
+            → HasSeen self.new (slots ++ packet.now ∷ [])) }
+        ensures told { OnOk result ((slots : List (List ℕ)) → HasSeen self.old slots → out.new.items
+            ≡ out.old.items ++ faults_at self.old.rate self.old.period (slots ++ packet.now ∷ []) (length slots)) }
+        ensures whole { OnOk result ((slots : List (List ℕ)) (before : List Fault) → HasSeen self.old slots
+            → out.old.items ≡ before ++ faults self.old.rate self.old.period slots
+            → out.new.items ≡ before ++ faults self.old.rate self.old.period (slots ++ packet.now ∷ [])) }
+        ensures err { OnErr result (out.new.items ≡ out.old.items) }
+        ensures refused { OnErr result (self.new.is_refused ≡ true) }
+        ensures stays { self.old.is_refused ≡ true → IsErr result }
+    {
+        self.see(packet.bytes(), Some(packet), out)
+    }
+
+    /// Sees the next slot, which is read as this packet, or as none.
+    fn see(
+        &mut self,
+        slot: &[u8; 188],
+        packet: Option<&Packet>,
+        out: &mut Vec<Fault>,
+    ) -> Result<(), AllocError>
+        requires { IsReadAs slot.now (option_map (λ p. p.now) packet) }
+        ensures rate { self.new.rate ≡ self.old.rate }
+        ensures period { self.new.period ≡ self.old.period }
+        ensures seen { OnOk result ((slots : List (List ℕ)) → HasSeen self.old slots
+            → HasSeen self.new (slots ++ slot.now ∷ [])) }
+        ensures told { OnOk result ((slots : List (List ℕ)) → HasSeen self.old slots → out.new.items
+            ≡ out.old.items ++ faults_at self.old.rate self.old.period (slots ++ slot.now ∷ []) (length slots)) }
+        ensures whole { OnOk result ((slots : List (List ℕ)) (before : List Fault) → HasSeen self.old slots
+            → out.old.items ≡ before ++ faults self.old.rate self.old.period slots
+            → out.new.items ≡ before ++ faults self.old.rate self.old.period (slots ++ slot.now ∷ [])) }
+        ensures err { OnErr result (out.new.items ≡ out.old.items) }
+        ensures refused { OnErr result (self.new.is_refused ≡ true) }
+        ensures stays { self.old.is_refused ≡ true → IsErr result }
+    {
         if self.is_refused {
             return Err(AllocError);
         }
-        let result = self.push_slot(slot, out);
+        let result = self.see_accepted(slot, packet, out);
         self.is_refused = result.is_err();
         result
     }
 
     /// The same, where no push was refused.
-    fn push_slot(&mut self, slot: &[u8; 188], out: &mut Vec<Fault>) -> Result<(), AllocError>
+    fn see_accepted(
+        &mut self,
+        slot: &[u8; 188],
+        packet: Option<&Packet>,
+        out: &mut Vec<Fault>,
+    ) -> Result<(), AllocError>
+        requires { IsReadAs slot.now (option_map (λ p. p.now) packet) }
         ensures rate { self.new.rate ≡ self.old.rate }
         ensures period { self.new.period ≡ self.old.period }
         ensures seen { OnOk result ((slots : List (List ℕ)) → HasSeen self.old slots
@@ -142,6 +198,7 @@ impl Analyser {
             self.period,
             &mut self.watch,
             slot,
+            packet,
             &mut self.found,
         )?;
         out.extend_from_slice(&self.found)

@@ -45,7 +45,7 @@ fn next_count(count: u64) -> Result<u64, AllocError>
 }
 
 /// The slot as a packet, where it is one.
-fn read_slot(slot: &[u8; 188]) -> Option<Packet>
+pub(crate) fn read_slot(slot: &[u8; 188]) -> Option<Packet>
     ensures { IsReadAs slot.now result }
 {
     Packet::read(slot).ok()
@@ -113,10 +113,25 @@ impl StreamWatch {
         ensures told { OnOk result ((rate period : ℕ) (slots : List (List ℕ)) → HaveSeenStream rate period self.old slots
             → out.new.items ≡ out.old.items ++ faults_at rate period (slots ++ slot.now ∷ []) (length slots)) }
     {
+        let packet = read_slot(slot);
+        self.see(slot, packet.as_ref(), out)
+    }
+
+    /// The same of a slot that is read as this packet, or as none.
+    pub(crate) fn see(
+        &mut self,
+        slot: &[u8; 188],
+        packet: Option<&Packet>,
+        out: &mut Vec<Fault>,
+    ) -> Result<(), AllocError>
+        requires { IsReadAs slot.now (option_map (λ p. p.now) packet) }
+        ensures seen { OnOk result ((rate period : ℕ) (slots : List (List ℕ)) → HaveSeenStream rate period self.old slots
+            → HaveSeenStream rate period self.new (slots ++ slot.now ∷ [])) }
+        ensures told { OnOk result ((rate period : ℕ) (slots : List (List ℕ)) → HaveSeenStream rate period self.old slots
+            → out.new.items ≡ out.old.items ++ faults_at rate period (slots ++ slot.now ∷ []) (length slots)) }
+    {
         let count = self.count;
         let next = next_count(count)?;
-        let packet = read_slot(slot);
-        let packet = packet.as_ref();
         let sync = self.sync.push(slot);
         tell_if(sync.lost, FaultKind::TsSyncLoss, count, None, out)?;
         tell_if(sync.bad, FaultKind::SyncByteError, count, None, out)?;

@@ -7,10 +7,10 @@ use Rattle.analyse.proofs.analyser.see_slot.Goals as goal
 
 pub returns-in-Some-clause-seen : goal.returns-in-Some-clause-seen
 returns-in-Some-clause-seen c =
-    on_ok_weaker c.push.result
-    (λ (seen : (rate period : ℕ) (slots : List (List ℕ)) → HaveSeenStream rate period c.in-Some.watch slots → HaveSeenStream rate period c.push.new.self (slots ++ c.args.slot.now ∷ [])) slots s.
+    on_ok_weaker c.see.result
+    (λ (seen : (rate period : ℕ) (slots : List (List ℕ)) → HaveSeenStream rate period c.in-Some.watch slots → HaveSeenStream rate period c.see.new.self (slots ++ c.args.slot.now ∷ [])) slots s.
     seen c.args.rate c.args.period slots (rw c.in-Some.is at s))
-    c.push.ensures.seen
+    c.see.ensures.seen
 
 pub returns-in-None-clause-seen : goal.returns-in-None-clause-seen
 returns-in-None-clause-seen c =

@@ -7,15 +7,15 @@ use Rattle.analyse.specs.StreamWatching.{StreamState, HaveSeenStream}
 use Rattle.analyse.specs.TablesWatching.{table_faults_at}
 use Rattle.analyse.specs.declared.fault_kind.FaultKind.TheVariants.{ContinuityCountError}
 use Rattle.analyse.proofs.StreamLaws.{rows_kept, counter_told, all_told}
-use Rattle.analyse.proofs.stream_watch.StreamWatch.push.Goals as goal
+use Rattle.analyse.proofs.stream_watch.StreamWatch.see.Goals as goal
 
 pub returns-clause-seen : goal.returns-clause-seen
 returns-clause-seen c rate period slots s =
     let t = subst (λ (w : StreamState). HaveSeenStream rate period w slots) (sym c.self.view_is) s in
     let x = c.args.slot.now in
     let more = slots ++ x ∷ [] in
-    let packet = option_map (λ p. p.now) c.as_ref-packet.result in
-    let r = subst (IsReadAs x) (sym c.as_ref-packet.ensures.value) c.read_slot-packet.ensures in
+    let packet = option_map (λ p. p.now) c.args.packet in
+    let r = c.requires in
     let n = sym t.count in
     let pat = c.in_ok-pat.ensures.seen slots x t.pat n r in
     let next : length slots + 1 ≡ c.in_ok-next.next = ap (λ (k : ℕ). k + 1) n ∙ sym c.in_ok-next.ensures in
@@ -37,8 +37,8 @@ returns-clause-told c rate period slots s =
     let t = subst (λ (w : StreamState). HaveSeenStream rate period w slots) (sym c.self.view_is) s in
     let x = c.args.slot.now in
     let more = slots ++ x ∷ [] in
-    let packet = option_map (λ p. p.now) c.as_ref-packet.result in
-    let r = subst (IsReadAs x) (sym c.as_ref-packet.ensures.value) c.read_slot-packet.ensures in
+    let packet = option_map (λ p. p.now) c.args.packet in
+    let r = c.requires in
     let n = sym t.count in
     let m = c.self.inside.count in
     let counter = told_if c.push-is_bad.result ContinuityCountError m (Some c.pid_of.result) in
