@@ -18,6 +18,8 @@ pub mod Sound
 pub mod Heads
 pub mod TablePlaces
 pub mod Steps
+pub mod Peaks
+pub mod Noted
 pub mod Readiness
 pub mod Choices
 pub mod Opening

@@ -1,5 +1,5 @@
 -- For the code: what a multiplex keeps beside its history, each by an equation. No public clause cites it.
-use Rattle.std.specs.Prelude.{ℕ, List, ◌≡◌, ◌≤◌, ◌||◌, Bool, nat_lt, map, false, length, count_by}
+use Rattle.std.specs.Prelude.{ℕ, List, [], ◌∷◌, ◌≡◌, ◌≤◌, ◌||◌, Bool, nat_lt, map, false, length, count_by, max, All}
 use Rattle.std.specs.List.{range_with_len}
 use Rattle.mux.specs.declared.mux.TheConstants.{MAX_SLOTS}
 use Rattle.mux.specs.declared.event.Event.{Event}
@@ -15,6 +15,8 @@ use Rattle.mux.specs.History.{Run, taken, queue, slots, last_stamp, is_closed, f
 use Rattle.mux.specs.declared.counts.Counts.{Counts}
 use Rattle.mux.specs.Totals.{contents, is_of_input, is_elementary, is_table, is_null}
 use Rattle.mux.specs.Lawful.{IsLawful}
+use Rattle.mux.specs.declared.peak.Peak.{Peak}
+use Rattle.mux.specs.Peaks.{queue_lengths, delays}
 use Rattle.mux.specs.Buckets.{AreBuckets}
 
 -- what is kept of an input
@@ -70,3 +72,23 @@ pub record IsKept (r : Run) (h : List Event) (states : List InputState) (queues 
 -- the same state, with no full queue noted
 abbrev pub without_full : InputState → InputState
 without_full x = record x { full_noted = false }
+
+-- where it isn't marked that a full queue was noted, none was
+pub record KeepsNoted (is_noted : Bool) (states : List InputState) : Type 0 where
+  pub unnoted : is_noted ≡ false → All (λ x. x.full_noted ≡ false) states
+
+abbrev pub largest : List ℕ → ℕ
+largest [] = 0
+largest (n ∷ ns) = max (largest ns) n
+
+-- what is kept of how long the packets of a stream waited, and how many
+abbrev pub peak_of : PlanValue → List Event → Stream → Peak
+peak_of p h st = record { delay = largest (delays p st h); queued = largest (queue_lengths st h) }
+
+-- before the first event
+abbrev pub no_peak : Stream → Peak
+no_peak st = record { delay = 0; queued = 0 }
+
+-- there is one a stream, in the plan's order
+pub record KeepsPeaks (p : PlanValue) (h : List Event) (peaks : List Peak) : Type 0 where
+  pub peaks_are : peaks ≡ map (peak_of p h) p.request.streams

@@ -3,6 +3,7 @@ pub mod History
 pub mod Lawful
 pub mod Answers
 pub mod Totals
+pub mod Peaks
 pub mod Headline
 pub mod Faithful
 pub mod SlotClock

@@ -5,7 +5,7 @@ ghost use Rattle.std.specs.List.{slice_get};
 ghost use Rattle.tspkt.specs.declared.stamped.Stamped.{Stamped};
 ghost use Rattle.request.specs.declared.stream.Stream.{Stream};
 ghost use Rattle.mux.specs.declared.input_state.InputState.{InputState};
-ghost use Rattle.mux.specs.Keeping.{ready_at, without_full};
+ghost use Rattle.mux.specs.Keeping.{ready_at, without_full, KeepsNoted};
 ghost use Rattle.mux.specs.Choosing.{Leads, Follows, IsBetterHead, IsNoBetterHead, IsEligibleHead, IsFirstHead};
 
 use crate::candidate::Candidate;
@@ -44,12 +44,17 @@ pub(crate) fn first_unready(inputs: &[InputState], now: u64) -> Option<usize>
     None
 }
 
-/// Forgets the full queues that were noted.
-pub(crate) fn clear_full(inputs: &mut Vec<InputState>)
-    ensures { inputs.new.items ≡ map without_full inputs.old.items }
+/// Forgets the full queues that were noted, where the mark says that there is one.
+pub(crate) fn clear_full(inputs: &mut Vec<InputState>, is_noted: &mut bool)
+    requires { KeepsNoted is_noted.old inputs.old.items }
+    ensures inputs { inputs.new.items ≡ map without_full inputs.old.items }
+    ensures noted { is_noted.new ≡ false }
 {
-    for x in inputs.iter_mut() {
-        x.full_noted = false;
+    if *is_noted {
+        for x in inputs.iter_mut() {
+            x.full_noted = false;
+        }
+        *is_noted = false;
     }
 }
 

@@ -11,17 +11,21 @@ ghost use Rattle.mux.specs.declared.content.Content.{Content};
 ghost use Rattle.mux.specs.Plans.{IsMultiplexPlan};
 ghost use Rattle.mux.specs.History.{opened, with_event, is_mapped_to, is_closed, queue, slots, slot_time, emitted};
 ghost use Rattle.mux.specs.Lawful.{is_mapped, MayTake, MayNoteFull, IsDone, AllReady, IsContent, MaySend};
-ghost use Rattle.mux.specs.Answers.{TakeAnswers, SlotAnswers, IsLeastUnready};
+ghost use Rattle.mux.specs.Answers.{OfferAnswers, TakeAnswers, SendAnswers, SlotAnswers, IsLeastUnready};
 ghost use Rattle.mux.specs.Totals.{IsTotals, IsCounts};
 ghost use Rattle.mux.specs.Headline.{IsSound, IsLevelOf};
-ghost use Rattle.mux.specs.Keeping.{state_of, queue_of};
+ghost use Rattle.mux.specs.Peaks.{IsPeak};
+ghost use Rattle.mux.specs.Keeping.{state_of, queue_of, no_peak};
 
 use crate::candidate::Candidate;
 use crate::choice::{all_closed, all_empty, choose, clear_full, first_unready};
 use crate::counts::Counts;
 use crate::input_state::InputState;
+use crate::offered::Offered;
 use crate::output::Output;
+use crate::peak::Peak;
 use crate::progress::Progress;
+use crate::sending::Sending;
 use crate::slot::Slot;
 use crate::stored_event::StoredEvent;
 use crate::taken::Taken;
@@ -45,7 +49,10 @@ pub struct Mux {
     stored: Vec<StoredEvent>,
     taken: Vec<Stamped>,
     inputs: Vec<InputState>,
+    /// Whether a full queue of an input was noted since the last slot.
+    is_noted: bool,
     queues: Vec<PidQueue>,
+    peaks: Vec<Peak>,
     progress: Progress,
     output: Output,
     turn: TableTurn,
@@ -55,7 +62,7 @@ pub struct Mux {
 impl Model for Mux {
     ghost use Rattle.std.specs.Prelude.{reverse};
     ghost use Rattle.mux.specs.History.{Run, History};
-    ghost use Rattle.mux.specs.Keeping.{IsKept};
+    ghost use Rattle.mux.specs.Keeping.{IsKept, KeepsPeaks, KeepsNoted};
     ghost use Rattle.mux.specs.Stored.{history_of};
 
     ghost Value = { History };
@@ -68,7 +75,11 @@ impl Model for Mux {
     ghost invariant = { λ m. IsKept
         (record { plan = m.plan; limit = m.limit })
         (history_of m.plan.request.streams (reverse m.stored.items) (reverse m.taken.items))
-        m.inputs.items m.queues.items m.progress.buckets m.progress.clock m.turn m.output m.counts };
+        m.inputs.items m.queues.items m.progress.buckets m.progress.clock m.turn m.output m.counts
+        × KeepsPeaks m.plan
+        (history_of m.plan.request.streams (reverse m.stored.items) (reverse m.taken.items))
+        m.peaks.items
+        × KeepsNoted m.is_noted m.inputs.items };
 }
 
 /// What is kept of so many inputs before the first packet.
@@ -105,6 +116,20 @@ fn new_queues(
     Ok(queues)
 }
 
+/// The peak of a stream that took nothing, a stream.
+fn new_peaks(alloc: Global, streams: &[Stream]) -> Result<Vec<Peak>, AllocError>
+    ensures { IfOk result (λ v. v.items ≡ map no_peak streams.now) }
+{
+    let mut peaks = Vec::new(alloc);
+    for _ in streams {
+        peaks.push(Peak {
+            delay: 0,
+            queued: 0,
+        })?;
+    }
+    Ok(peaks)
+}
+
 impl Mux {
     /// A multiplex of this plan with nothing taken or sent, for at most this many slots (at most 1,000,000).
     pub fn open(alloc: Global, plan: Plan, slots: u64) -> Result<Mux, AllocError>
@@ -116,6 +141,7 @@ impl Mux {
         let turn = TableTurn::new(plan.rounds());
         let inputs = new_states(alloc, plan.inputs().len())?;
         let queues = new_queues(alloc, plan.streams(), plan.request().queue())?;
+        let peaks = new_peaks(alloc, plan.streams())?;
         let progress = Progress::new(alloc, plan.rate(), plan.streams())?;
         Ok(Mux {
             plan,
@@ -123,7 +149,9 @@ impl Mux {
             stored: Vec::new(alloc),
             taken: Vec::new(alloc),
             inputs,
+            is_noted: false,
             queues,
+            peaks,
             progress,
             output: Output::new(alloc)?,
             turn,
@@ -143,12 +171,20 @@ impl Mux {
         self.output.len() as u64
     }
 
+    /// The packet of a slot that was sent, lent.
+    pub fn packet(&self, slot: u64) -> &Packet
+        requires { slot < slots self.now.events }
+        ensures { slice_get (emitted self.now.run.plan self.now.events) slot ≡ Some result.now }
+    {
+        self.output.packet(slot)
+    }
+
     /// The packet of a slot that was sent.
     pub fn emitted(&self, slot: u64) -> Packet
         requires { slot < slots self.now.events }
         ensures { slice_get (emitted self.now.run.plan self.now.events) slot ≡ Some result }
     {
-        self.output.packet(slot)
+        *self.packet(slot)
     }
 
     /// What became of the packets of an input.
@@ -179,6 +215,16 @@ impl Mux {
             → IsLevelOf self.now.run.plan self.now.events st result }
     {
         self.progress.bucket(stream).level()
+    }
+
+    /// The largest delay of a stream's packets that were sent, and the most packets that ever waited in its queue. The stream
+    /// is named by its number.
+    pub fn peak(&self, stream: usize) -> Peak
+        requires { stream < length self.now.run.plan.request.streams }
+        ensures { (st : Stream) → slice_get self.now.run.plan.request.streams stream ≡ Some st
+            → IsPeak self.now.run.plan self.now.events st result }
+    {
+        self.peaks[stream]
     }
 
     /// What is kept of an input.
@@ -222,6 +268,7 @@ impl Mux {
     {
         self.stored.push(StoredEvent::Full(place as u8))?;
         self.inputs[stream.input].full_noted = true;
+        self.is_noted = true;
         Ok(())
     }
 
@@ -240,41 +287,60 @@ impl Mux {
         let state = &mut self.inputs[stream.input];
         state.last_stamp = item.stamp;
         state.taken += 1;
-        let _ = self.queues[place].offer(*item);
+        let queue = &mut self.queues[place];
+        let _ = queue.offer(*item);
+        let peak = &mut self.peaks[place];
+        peak.queued = peak.queued.max(queue.len() as u64);
         Ok(())
     }
 
     /// Takes a packet of an input, where nothing is against it: the input wasn't closed, the plan maps the packet's PID,
     /// its time isn't before that of the input's packet last taken, and the queue of its stream isn't full. The answer
-    /// is the first reason against it that applies, with the packet. Where the event that is due finds no memory it is
-    /// `Memory`, and nothing changed. The first `Full` of an input since the last slot adds an event.
+    /// is the first reason against it that applies. Where the event that is due finds no memory it is `Memory`, and
+    /// nothing changed. The first `Full` of an input since the last slot adds an event.
+    pub fn offer(&mut self, input: usize, item: &Stamped) -> Offered
+        requires { input < length self.old.run.plan.request.inputs }
+        ensures answer { OfferAnswers self.old input item.now result self.new }
+        ensures run { self.new.run ≡ self.old.run }
+    {
+        let state = self.state(input);
+        if state.closed {
+            return Offered::Closed;
+        }
+        let Some((place, stream)) = self.find(input, item) else {
+            return Offered::Stranger;
+        };
+        if item.stamp < state.last_stamp {
+            return Offered::Backward;
+        }
+        if self.is_full(place, stream) {
+            if state.full_noted {
+                return Offered::Full;
+            }
+            return match self.note_full(place, stream) {
+                Ok(()) => Offered::Full,
+                Err(_) => Offered::Memory,
+            };
+        }
+        match self.add(place, stream, item) {
+            Ok(()) => Offered::Taken,
+            Err(_) => Offered::Memory,
+        }
+    }
+
+    /// Takes a packet of an input as `offer` does, by value: each refusal hands it back.
     pub fn take(&mut self, input: usize, item: Stamped) -> Taken
         requires { input < length self.old.run.plan.request.inputs }
         ensures answer { TakeAnswers self.old input item result self.new }
         ensures run { self.new.run ≡ self.old.run }
     {
-        let state = self.state(input);
-        if state.closed {
-            return Taken::Closed(item);
-        }
-        let Some((place, stream)) = self.find(input, &item) else {
-            return Taken::Stranger(item);
-        };
-        if item.stamp < state.last_stamp {
-            return Taken::Backward(item);
-        }
-        if self.is_full(place, stream) {
-            if state.full_noted {
-                return Taken::Full(item);
-            }
-            return match self.note_full(place, stream) {
-                Ok(()) => Taken::Full(item),
-                Err(_) => Taken::Memory(item),
-            };
-        }
-        match self.add(place, stream, &item) {
-            Ok(()) => Taken::Ok,
-            Err(_) => Taken::Memory(item),
+        match self.offer(input, &item) {
+            Offered::Taken => Taken::Ok,
+            Offered::Closed => Taken::Closed(item),
+            Offered::Stranger => Taken::Stranger(item),
+            Offered::Backward => Taken::Backward(item),
+            Offered::Full => Taken::Full(item),
+            Offered::Memory => Taken::Memory(item),
         }
     }
 
@@ -376,7 +442,7 @@ impl Mux {
         let packet = self.table_packet(place);
         self.output.push(packet)?;
         self.stored.push_reserved(StoredEvent::table(place));
-        clear_full(&mut self.inputs);
+        clear_full(&mut self.inputs, &mut self.is_noted);
         self.progress.pass();
         self.turn.advance();
         self.counts.tables += 1;
@@ -393,7 +459,7 @@ impl Mux {
         self.stored.reserve(1)?;
         self.output.push(null())?;
         self.stored.push_reserved(StoredEvent::Null);
-        clear_full(&mut self.inputs);
+        clear_full(&mut self.inputs, &mut self.is_noted);
         self.progress.pass();
         self.turn.advance();
         self.counts.null += 1;
@@ -412,12 +478,15 @@ impl Mux {
     {
         self.stored.reserve(1)?;
         let item = self.queues[place].head().unwrap();
+        let delay = now - item.stamp;
         self.output
-            .push_rewritten(&item.packet, stream.output_pid, now - item.stamp)?;
+            .push_rewritten(&item.packet, stream.output_pid, delay)?;
         let _ = self.queues[place].take();
+        let peak = &mut self.peaks[place];
+        peak.delay = peak.delay.max(delay);
         self.stored
             .push_reserved(StoredEvent::Elementary(place as u8));
-        clear_full(&mut self.inputs);
+        clear_full(&mut self.inputs, &mut self.is_noted);
         self.progress.send(place);
         self.inputs[stream.input].sent += 1;
         self.turn.advance();
@@ -451,24 +520,38 @@ impl Mux {
     /// first in their streams' queues, are due, and leave no more than 512 bytes in their streams' transport buffers at
     /// each byte, the one of the least time, of equal times that with the least output PID; or a null packet where there
     /// is none. A packet that its buffer has no room for holds back no packet of another stream.
+    pub fn send_next(&mut self) -> Sending
+        ensures answer { SendAnswers self.old result self.new }
+        ensures run { self.new.run ≡ self.old.run }
+    {
+        if self.is_done() {
+            return Sending::Done;
+        }
+        if self.is_run_full() {
+            return Sending::RunFull;
+        }
+        let now = self.now();
+        if let Some(input) = self.unready(now) {
+            return Sending::NotReady(input);
+        }
+        match self.send(now) {
+            Ok(()) => Sending::Sent,
+            Err(_) => Sending::Memory,
+        }
+    }
+
+    /// Sends the next slot as `send_next` does, and answers its packet by value.
     pub fn slot(&mut self) -> Slot
         ensures answer { SlotAnswers self.old result self.new }
         ensures run { self.new.run ≡ self.old.run }
     {
-        if self.is_done() {
-            return Slot::Done;
-        }
-        if self.is_run_full() {
-            return Slot::RunFull;
-        }
-        let now = self.now();
-        if let Some(input) = self.unready(now) {
-            return Slot::NotReady(input);
-        }
         let slot = self.slots();
-        match self.send(now) {
-            Ok(()) => Slot::Sent(self.emitted(slot)),
-            Err(_) => Slot::Memory,
+        match self.send_next() {
+            Sending::Sent => Slot::Sent(self.emitted(slot)),
+            Sending::NotReady(input) => Slot::NotReady(input),
+            Sending::Done => Slot::Done,
+            Sending::RunFull => Slot::RunFull,
+            Sending::Memory => Slot::Memory,
         }
     }
 }

@@ -51,11 +51,11 @@ impl Output {
     }
 
     /// The packet of a slot.
-    pub fn packet(&self, slot: u64) -> Packet
+    pub fn packet(&self, slot: u64) -> &Packet
         requires { slot < length self.now }
-        ensures { slice_get self.now slot ≡ Some result }
+        ensures { slice_get self.now slot ≡ Some result.now }
     {
-        self.packets[slot as usize]
+        &self.packets[slot as usize]
     }
 
     /// The continuity counter that the next packet of a PID gets: how many it had, modulo 16.

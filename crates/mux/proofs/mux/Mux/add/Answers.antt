@@ -1,4 +1,4 @@
-use Rattle.std.proofs.Common.{◌≡◌, ◌<◌, sym, ap, ◌∙◌, arith, subst, length, Some, List, [], ◌∷◌, ◌++◌}
+use Rattle.std.proofs.Common.{◌≡◌, ◌<◌, refl, sym, ap, ◌∙◌, arith, subst, length, max, Some, List, [], ◌∷◌, ◌++◌}
 use Rattle.std.specs.List.{slice_get}
 use Rattle.std.proofs.lemmas.Option.{slice_get_within}
 use Rattle.tspkt.specs.declared.stamped.Stamped.{Stamped}
@@ -11,11 +11,13 @@ use Rattle.mux.proofs.Queues.{has_room}
 use Rattle.mux.proofs.Stored.{with_took, taken_within}
 use Rattle.mux.proofs.Steps.{length_states, length_queues, state_at, queue_at, taking}
 use Rattle.mux.proofs.Lists.{on_ok}
+use Rattle.mux.proofs.Noted.{noted_same}
+use Rattle.mux.proofs.Peaks.{length_peaks, peaks_taking}
 use Rattle.mux.proofs.mux.Mux.add.Goals as goal
 
 pub index_mut-state-requires : goal.index_mut-state-requires
 index_mut-state-requires c =
-    let n = length_states c.self.invariant.agrees in
+    let n = length_states c.self.invariant.0.agrees in
     let v = ap (λ (h : History). length h.run.plan.request.inputs) c.self.view_is in
     let l = c.requires.may.input in
     omega (arith, c.self.inside.inputs.ok.0)
@@ -24,13 +26,20 @@ pub overflow_add-state : goal.overflow_add-state
 overflow_add-state c =
     let v = ap (λ (h : History). length h.run.plan.request.inputs) c.self.view_is in
     let l = c.requires.may.input in
-    let is = state_at c.self.invariant.agrees c.args.stream.input c.index_mut-state.result.now (omega arith) c.index_mut-state.ensures.value in
+    let is = state_at c.self.invariant.0.agrees c.args.stream.input c.index_mut-state.result.now (omega arith) c.index_mut-state.ensures.value in
     let m = ap (λ (x : InputState). x.taken) is in
     omega (arith, taken_within c.self.inside.plan.request.streams c.self.inside.stored.items c.self.inside.taken.items c.args.stream.input, c.self.inside.taken.ok.0)
 
-pub index_mut-requires : goal.index_mut-requires
-index_mut-requires c =
-    let n = length_queues c.self.invariant.agrees in
+pub index_mut-peak-requires : goal.index_mut-peak-requires
+index_mut-peak-requires c =
+    let n = length_peaks c.self.invariant.1 in
+    let at : slice_get c.self.inside.plan.request.streams c.args.place ≡ Some c.args.stream = ap (λ (h : History). slice_get h.run.plan.request.streams c.args.place) c.self.view_is ∙ c.requires.place in
+    let l = slice_get_within c.self.inside.plan.request.streams c.args.place c.args.stream at in
+    omega (arith, c.self.inside.peaks.ok.0)
+
+pub index_mut-queue-requires : goal.index_mut-queue-requires
+index_mut-queue-requires c =
+    let n = length_queues c.self.invariant.0.agrees in
     let at : slice_get c.self.inside.plan.request.streams c.args.place ≡ Some c.args.stream = ap (λ (h : History). slice_get h.run.plan.request.streams c.args.place) c.self.view_is ∙ c.requires.place in
     let l = slice_get_within c.self.inside.plan.request.streams c.args.place c.args.stream at in
     omega (arith, c.self.inside.queues.ok.0)
@@ -44,8 +53,14 @@ invariant_of-self-2 c =
     let e = with_took c.self.inside.plan.request.streams c.self.inside.stored.items _ c.self.inside.taken.items _ c.args.stream.input c.args.item.now c.in_ok-push.ensures.items
     (c.push_reserved.ensures.items ∙ ap (λ (xs : List Stamped). xs ++ c.args.item.now ∷ []) c.in_ok-reserve.ensures.items) in
     let P : QueueValue → Type 0 = λ x. length x.items < x.capacity in
-    let k = c.self.invariant.agrees in
-    let q = queue_at k c.args.place c.args.stream c.index_mut.result.now at c.index_mut.ensures.value in
+    let k = c.self.invariant.0.agrees in
+    let q = queue_at k c.args.place c.args.stream c.index_mut-queue.result.now at c.index_mut-queue.ensures.value in
     let room = subst P (sym q) (has_room c.self.inside.plan _ c.args.stream.input c.args.item.now c.args.stream k.plan k.lawful taker) in
-    taking c.self.invariant _ c.args.stream.input c.args.item.now c.args.place c.args.stream c.index_mut-state.result.now c.index_mut.result.now c.offer.new.self e
-    c.index_mut-state.ensures.value at c.index_mut.ensures.value (on_ok c.offer.result c.offer.ensures.ok (c.offer.ensures.accepted.1 room)) may taker
+    let most = c.max-peak.ensures ∙ ap (max c.index_mut-peak.result.now.queued) c.len.ensures.value in
+    let w = on_ok c.offer.result c.offer.ensures.ok (c.offer.ensures.accepted.1 room) in (
+      taking c.self.invariant.0 _ c.args.stream.input c.args.item.now c.args.place c.args.stream c.index_mut-state.result.now c.index_mut-queue.result.now c.offer.new.self e
+          c.index_mut-state.ensures.value at c.index_mut-queue.ensures.value w may taker,
+      peaks_taking c.self.invariant.1 _ c.args.stream.input c.args.item.now c.args.place c.args.stream c.index_mut-peak.result.now c.index_mut-queue.result.now c.offer.new.self
+          c.max-peak.result k.plan k.lawful e c.index_mut-peak.ensures.value at q w taker most,
+      noted_same c.self.invariant.2 c.args.stream.input c.index_mut-state.result.now _ (omega (arith, length_states k, may.input)) c.index_mut-state.ensures.value refl,
+    )

@@ -9,4 +9,4 @@ pub returns : goal.returns
 returns c =
     let h = history_of c.self.inside.plan.request.streams (reverse c.self.inside.stored.items) (reverse c.self.inside.taken.items) in
     let R : History → Type 0 = λ x. IsCounts x.events c.self.inside.counts in
-    subst R c.self.view_is (are_counts h c.self.inside.counts c.self.invariant.counts_are)
+    subst R c.self.view_is (are_counts h c.self.inside.counts c.self.invariant.0.counts_are)

@@ -13,4 +13,4 @@ returns c st there =
     let at : slice_get p.request.streams c.args.stream ≡ Some st = ap (λ (x : History). slice_get x.run.plan.request.streams c.args.stream) c.self.view_is ∙ there in
     let P : ℕ → Type 0 = IsLevelOf p h st in
     let R : History → Type 0 = λ x. IsLevelOf x.run.plan x.events st c.level.result in
-    subst R c.self.view_is (subst P (sym c.level.ensures.value) (level_is p h c.self.inside.progress.buckets c.args.stream st c.bucket.result c.self.invariant.buckets_are at c.bucket.ensures))
+    subst R c.self.view_is (subst P (sym c.level.ensures.value) (level_is p h c.self.inside.progress.buckets c.args.stream st c.bucket.result c.self.invariant.0.buckets_are at c.bucket.ensures))

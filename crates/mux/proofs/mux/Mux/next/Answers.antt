@@ -19,7 +19,7 @@ returns-clause-none c =
     let Q : List Stream → Type 0 = λ xs. (k : ℕ) (st : Stream) (item : Stamped) → IsEligibleHead xs c.as_slice.result.now c.self.inside.progress.buckets c.args.now k st item → ⊥ in
     let S : List QueueValue → Type 0 = λ xs. (k : ℕ) (st : Stream) (item : Stamped) → IsEligibleHead c.self.inside.plan.request.streams xs c.self.inside.progress.buckets c.args.now k st item → ⊥ in
     let R : History → Type 0 = λ h. IsContent h.run.plan h.events Null in
-    when_none c.choose.result c.choose.ensures.none (λ none. subst R c.self.view_is (none_goes c.self.invariant.agrees c.self.invariant.buckets_are c.args.now t free (subst S c.as_slice.ensures.value (subst Q c.streams.ensures none))))
+    when_none c.choose.result c.choose.ensures.none (λ none. subst R c.self.view_is (none_goes c.self.invariant.0.agrees c.self.invariant.0.buckets_are c.args.now t free (subst S c.as_slice.ensures.value (subst Q c.streams.ensures none))))
 
 pub returns-clause-some : goal.returns-clause-some
 returns-clause-some c =
@@ -29,4 +29,4 @@ returns-clause-some c =
     let Q : List Stream → Type 0 = λ xs. IsFirstHead xs c.as_slice.result.now c.self.inside.progress.buckets c.args.now b in
     let S : List QueueValue → Type 0 = λ xs. IsFirstHead c.self.inside.plan.request.streams xs c.self.inside.progress.buckets c.args.now b in
     let R : History → Type 0 = λ h. (slice_get h.run.plan.request.streams b.place ≡ Some b.stream) × IsContent h.run.plan h.events (Elementary b.stream) in
-    subst R c.self.view_is (one_goes c.self.invariant.agrees c.self.invariant.buckets_are c.args.now t free b (subst S c.as_slice.ensures.value (subst Q c.streams.ensures first))))
+    subst R c.self.view_is (one_goes c.self.invariant.0.agrees c.self.invariant.0.buckets_are c.args.now t free b (subst S c.as_slice.ensures.value (subst Q c.streams.ensures first))))

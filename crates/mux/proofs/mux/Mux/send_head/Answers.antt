@@ -18,40 +18,49 @@ use Rattle.mux.proofs.Plans.{stream_in}
 use Rattle.mux.proofs.Stored.{with_elementary}
 use Rattle.mux.proofs.Counting.{count_within}
 use Rattle.mux.proofs.BucketSteps.{chosen_has_room}
-use Rattle.mux.proofs.Steps.{length_states, length_queues, cleared_at, sending_head, sent_packet_is}
+use Rattle.mux.proofs.Steps.{length_states, length_queues, queue_at, cleared_at, sending_head, sent_packet_is}
 use Rattle.tspkt.specs.declared.stamped.Stamped.{Stamped}
 use Rattle.std.proofs.lemmas.Option.{same_Some}
 use Rattle.mux.proofs.Heads.{some_of, copied_is, goes_next}
+use Rattle.mux.proofs.Noted.{noted_cleared, noted_same}
+use Rattle.mux.proofs.Peaks.{length_peaks, peaks_sending}
 use Rattle.mux.proofs.mux.Mux.send_head.Goals as goal
 
 pub index-requires : goal.index-requires
 index-requires c =
-    let n = length_queues c.self.invariant.agrees in
+    let n = length_queues c.self.invariant.0.agrees in
     let at : slice_get c.self.inside.plan.request.streams c.args.place ≡ Some c.args.stream = ap (λ (h : History). slice_get h.run.plan.request.streams c.args.place) c.self.view_is ∙ c.requires.place in
     let l = slice_get_within c.self.inside.plan.request.streams c.args.place c.args.stream at in
     omega (arith, c.self.inside.queues.ok.0)
 
 pub index_mut-requires : goal.index_mut-requires
 index_mut-requires c =
-    let n = length_queues c.self.invariant.agrees in
+    let n = length_queues c.self.invariant.0.agrees in
     let at : slice_get c.self.inside.plan.request.streams c.args.place ≡ Some c.args.stream = ap (λ (h : History). slice_get h.run.plan.request.streams c.args.place) c.self.view_is ∙ c.requires.place in
     let l = slice_get_within c.self.inside.plan.request.streams c.args.place c.args.stream at in
     omega (arith, c.self.inside.queues.ok.0)
 
+pub index_mut-peak-requires : goal.index_mut-peak-requires
+index_mut-peak-requires c =
+    let n = length_peaks c.self.invariant.1 in
+    let at : slice_get c.self.inside.plan.request.streams c.args.place ≡ Some c.args.stream = ap (λ (h : History). slice_get h.run.plan.request.streams c.args.place) c.self.view_is ∙ c.requires.place in
+    let l = slice_get_within c.self.inside.plan.request.streams c.args.place c.args.stream at in
+    omega (arith, c.self.inside.peaks.ok.0)
+
 pub index_mut-requires-2 : goal.index_mut-requires-2
 index_mut-requires-2 c =
-    let n = length_states c.self.invariant.agrees in
+    let n = length_states c.self.invariant.0.agrees in
     let at : slice_get c.self.inside.plan.request.streams c.args.place ≡ Some c.args.stream = ap (λ (h : History). slice_get h.run.plan.request.streams c.args.place) c.self.view_is ∙ c.requires.place in
-    let l = (stream_in c.self.inside.plan c.args.place c.args.stream c.self.invariant.agrees.plan at).input in
-    let m = ap length c.clear_full.ensures ∙ length-map c.self.inside.inputs.items without_full in
+    let l = (stream_in c.self.inside.plan c.args.place c.args.stream c.self.invariant.0.agrees.plan at).input in
+    let m = ap length c.clear_full.ensures.inputs ∙ length-map c.self.inside.inputs.items without_full in
     omega (arith, c.clear_full.new.inputs.ok.0)
 
 pub overflow_add-index_mut : goal.overflow_add-index_mut
 overflow_add-index_mut c =
     let at : slice_get c.self.inside.plan.request.streams c.args.place ≡ Some c.args.stream = ap (λ (h : History). slice_get h.run.plan.request.streams c.args.place) c.self.view_is ∙ c.requires.place in
-    let k = c.self.invariant.agrees in
+    let k = c.self.invariant.0.agrees in
     let l = (stream_in c.self.inside.plan c.args.place c.args.stream k.plan at).input in
-    let is = cleared_at k c.clear_full.new.inputs.items c.clear_full.ensures c.args.stream.input c.index_mut-2.result.now l c.index_mut-2.ensures.value in
+    let is = cleared_at k c.clear_full.new.inputs.items c.clear_full.ensures.inputs c.args.stream.input c.index_mut-2.result.now l c.index_mut-2.ensures.value in
     let h = history_of c.self.inside.plan.request.streams (reverse c.self.inside.stored.items) (reverse c.self.inside.taken.items) in
     let s = ap (λ (x : InputState). x.sent) is in
     let within = k.within in
@@ -60,9 +69,9 @@ overflow_add-index_mut c =
 
 pub overflow_add-self : goal.overflow_add-self
 overflow_add-self c =
-    let k = c.self.invariant.agrees in
+    let k = c.self.invariant.0.agrees in
     let h = history_of c.self.inside.plan.request.streams (reverse c.self.inside.stored.items) (reverse c.self.inside.taken.items) in
-    let e = ap (λ (x : Counts). x.elementary) c.self.invariant.counts_are in
+    let e = ap (λ (x : Counts). x.elementary) c.self.invariant.0.counts_are in
     let within = k.within in
     let limit = k.limit in
     omega (arith, count_within is_elementary h)
@@ -72,15 +81,15 @@ unwrap-item-requires c =
     let at : slice_get c.self.inside.plan.request.streams c.args.place ≡ Some c.args.stream = ap (λ (h : History). slice_get h.run.plan.request.streams c.args.place) c.self.view_is ∙ c.requires.place in
     let R : History → Type 0 = λ h. MaySend h.run.plan h.events (Elementary c.args.stream) in
     let may = subst R (sym c.self.view_is) c.requires.may in
-    let next = goes_next c.self.invariant.agrees c.args.place c.args.stream c.index.result.now at c.index.ensures may.content in
+    let next = goes_next c.self.invariant.0.agrees c.args.place c.args.stream c.index.result.now at c.index.ensures may.content in
     some_of c.head.result next.item (c.head.ensures ∙ next.head)
 
-pub overflow_sub-now : goal.overflow_sub-now
-overflow_sub-now c =
+pub overflow_sub-delay : goal.overflow_sub-delay
+overflow_sub-delay c =
     let at : slice_get c.self.inside.plan.request.streams c.args.place ≡ Some c.args.stream = ap (λ (h : History). slice_get h.run.plan.request.streams c.args.place) c.self.view_is ∙ c.requires.place in
     let R : History → Type 0 = λ h. MaySend h.run.plan h.events (Elementary c.args.stream) in
     let may = subst R (sym c.self.view_is) c.requires.may in
-    let next = goes_next c.self.invariant.agrees c.args.place c.args.stream c.index.result.now at c.index.ensures may.content in
+    let next = goes_next c.self.invariant.0.agrees c.args.place c.args.stream c.index.result.now at c.index.ensures may.content in
     let t = c.requires.now ∙ sym (ap (λ (h : History). slot_time h.run.plan (slots h.events)) c.self.view_is) in
     let same : c.unwrap-item.result.now ≡ next.item = same_Some _ _ (sym (copied_is c.head.result c.unwrap-item.result _ c.unwrap-item.ensures c.head.ensures) ∙ next.head) in
     let stamp = ap (λ (x : Stamped). x.stamp) same in
@@ -91,14 +100,14 @@ pub overflow_cast-place : goal.overflow_cast-place
 overflow_cast-place c =
     let at : slice_get c.self.inside.plan.request.streams c.args.place ≡ Some c.args.stream = ap (λ (h : History). slice_get h.run.plan.request.streams c.args.place) c.self.view_is ∙ c.requires.place in
     let l = slice_get_within c.self.inside.plan.request.streams c.args.place c.args.stream at in
-    let count = c.self.invariant.agrees.plan.request.stream_count in
+    let count = c.self.invariant.0.agrees.plan.request.stream_count in
     omega (arith, count)
 
 pub send-requires-clause-place : goal.send-requires-clause-place
 send-requires-clause-place c =
     let at : slice_get c.self.inside.plan.request.streams c.args.place ≡ Some c.args.stream = ap (λ (h : History). slice_get h.run.plan.request.streams c.args.place) c.self.view_is ∙ c.requires.place in
     let l = slice_get_within c.self.inside.plan.request.streams c.args.place c.args.stream at in
-    let count = c.self.invariant.buckets_are.count in
+    let count = c.self.invariant.0.buckets_are.count in
     omega arith
 
 pub send-requires-clause-room : goal.send-requires-clause-room
@@ -106,8 +115,8 @@ send-requires-clause-room c b there =
     let at : slice_get c.self.inside.plan.request.streams c.args.place ≡ Some c.args.stream = ap (λ (h : History). slice_get h.run.plan.request.streams c.args.place) c.self.view_is ∙ c.requires.place in
     let R : History → Type 0 = λ h. MaySend h.run.plan h.events (Elementary c.args.stream) in
     let may = subst R (sym c.self.view_is) c.requires.may in
-    let k = c.self.invariant.agrees in
-    chosen_has_room c.self.inside.plan _ c.self.inside.progress.buckets c.args.place c.args.stream k.plan k.lawful c.self.invariant.buckets_are at may.content c.args.place b (eq-eqb c.args.place c.args.place refl) there
+    let k = c.self.invariant.0.agrees in
+    chosen_has_room c.self.inside.plan _ c.self.inside.progress.buckets c.args.place c.args.stream k.plan k.lawful c.self.invariant.0.buckets_are at may.content c.args.place b (eq-eqb c.args.place c.args.place refl) there
 
 pub invariant_of-self-2 : goal.invariant_of-self-2
 invariant_of-self-2 c =
@@ -115,17 +124,22 @@ invariant_of-self-2 c =
     let at : slice_get c.self.inside.plan.request.streams c.args.place ≡ Some c.args.stream = ap (λ (h : History). slice_get h.run.plan.request.streams c.args.place) c.self.view_is ∙ c.requires.place in
     let R : History → Type 0 = λ h. MaySend h.run.plan h.events (Elementary c.args.stream) in
     let may = subst R (sym c.self.view_is) c.requires.may in
-    let next = goes_next c.self.invariant.agrees c.args.place c.args.stream c.index.result.now at c.index.ensures may.content in
-    let l = (stream_in c.self.inside.plan c.args.place c.args.stream c.self.invariant.agrees.plan at).input in
+    let next = goes_next c.self.invariant.0.agrees c.args.place c.args.stream c.index.result.now at c.index.ensures may.content in
+    let l = (stream_in c.self.inside.plan c.args.place c.args.stream c.self.invariant.0.agrees.plan at).input in
     let t = c.requires.now ∙ sym (ap (λ (h : History). slot_time h.run.plan (slots h.events)) c.self.view_is) in
     let head = copied_is c.head.result c.unwrap-item.result _ c.unwrap-item.ensures c.head.ensures in
     let e = with_elementary c.self.inside.plan c.self.inside.stored.items _ (reverse c.self.inside.taken.items) c.args.place c.args.stream at
     (c.push_reserved.ensures.items ∙ ap (λ (es : List StoredEvent). es ++ stored.Elementary c.args.place ∷ []) c.in_ok-reserve.ensures.items) in
-    let p = sent_packet_is c.self.invariant.agrees c.args.place c.args.stream c.index.result.now c.unwrap-item.result.now c.args.now at c.index.ensures head t in
-    sending_head c.self.invariant c.args.place c.args.stream c.index_mut-2.result.now c.index_mut.result.now c.take.new.self _ c.clear_full.new.inputs.items _ _ _ _ e c.clear_full.ensures
+    let p = sent_packet_is c.self.invariant.0.agrees c.args.place c.args.stream c.index.result.now c.unwrap-item.result.now c.args.now at c.index.ensures head t in
+    let kept = sending_head c.self.invariant.0 c.args.place c.args.stream c.index_mut-2.result.now c.index_mut.result.now c.take.new.self _ c.clear_full.new.inputs.items _ _ _ _ e c.clear_full.ensures.inputs
     c.index_mut-2.ensures.value l at c.index_mut.ensures.value c.take.ensures.rest c.send.ensures.buckets c.send.ensures.clock c.advance.ensures
     (c.in_ok-push_rewritten.ensures.ok ∙ ap (λ x. c.self.inside.output ++ x ∷ []) p)
-    (subst S (sym c.self.view_is) c.requires.within) may
+    (subst S (sym c.self.view_is) c.requires.within) may in
+    let k = c.self.invariant.0.agrees in
+    let count = ap length c.clear_full.ensures.inputs ∙ length-map c.self.inside.inputs.items without_full ∙ length_states k in
+    let noted = noted_same (noted_cleared _ c.self.inside.inputs.items _ c.clear_full.ensures.inputs) c.args.stream.input c.index_mut-2.result.now _ (omega (arith, count, l)) c.index_mut-2.ensures.value refl in
+    let q = queue_at k c.args.place c.args.stream c.index.result.now at c.index.ensures in
+    (kept, peaks_sending c.self.invariant.1 _ c.unwrap-item.result.now c.args.place c.args.stream c.index_mut-peak.result.now c.index.result.now c.args.now c.max-peak.result k.plan e c.index_mut-peak.ensures.value at q head t c.max-peak.ensures, noted)
 
 pub returns-clause-ok : goal.returns-clause-ok
 returns-clause-ok c =

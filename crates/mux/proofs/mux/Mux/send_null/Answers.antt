@@ -10,13 +10,15 @@ use Rattle.mux.proofs.Counting.{count_within}
 use Rattle.mux.specs.Lawful.{MaySend}
 use Rattle.mux.proofs.Stored.{with_null}
 use Rattle.mux.proofs.Steps.{sending_null}
+use Rattle.mux.proofs.Noted.{noted_cleared}
+use Rattle.mux.proofs.Peaks.{peaks_null}
 use Rattle.mux.proofs.mux.Mux.send_null.Goals as goal
 
 pub overflow_add-self : goal.overflow_add-self
 overflow_add-self c =
-    let k = c.self.invariant.agrees in
+    let k = c.self.invariant.0.agrees in
     let h = history_of c.self.inside.plan.request.streams (reverse c.self.inside.stored.items) (reverse c.self.inside.taken.items) in
-    let n = ap (λ (x : Counts). x.null) c.self.invariant.counts_are in
+    let n = ap (λ (x : Counts). x.null) c.self.invariant.0.counts_are in
     let within = k.within in
     let limit = k.limit in
     omega (arith, count_within is_null h)
@@ -26,6 +28,7 @@ invariant_of-self-2 c =
     let R : History → Type 0 = λ h. MaySend h.run.plan h.events Null in
     let S : History → Type 0 = λ h. slots h.events < h.run.limit in
     let e = with_null c.self.inside.plan.request.streams c.self.inside.stored.items _ _ (c.push_reserved.ensures.items ∙ ap (λ (es : List StoredEvent). es ++ stored.Null ∷ []) c.in_ok-reserve.ensures.items) in
-    sending_null c.self.invariant _ _ _ _ _ _ e c.clear_full.ensures c.pass.ensures.buckets c.pass.ensures.clock c.advance.ensures
+    let kept = sending_null c.self.invariant.0 _ _ _ _ _ _ e c.clear_full.ensures.inputs c.pass.ensures.buckets c.pass.ensures.clock c.advance.ensures
     (c.in_ok-push.ensures.ok ∙ ap (λ p. c.self.inside.output ++ p ∷ []) c.null.ensures)
-    (subst S (sym c.self.view_is) c.requires.within) (subst R (sym c.self.view_is) c.requires.may)
+    (subst S (sym c.self.view_is) c.requires.within) (subst R (sym c.self.view_is) c.requires.may) in
+    (kept, peaks_null c.self.invariant.1 _ e, noted_cleared _ c.self.inside.inputs.items _ c.clear_full.ensures.inputs)

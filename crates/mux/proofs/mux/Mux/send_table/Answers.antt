@@ -12,6 +12,8 @@ use Rattle.mux.proofs.Counting.{count_within}
 use Rattle.mux.proofs.Stored.{with_table}
 use Rattle.mux.proofs.Steps.{sending_table}
 use Rattle.mux.proofs.TablePlaces.{storable}
+use Rattle.mux.proofs.Noted.{noted_cleared}
+use Rattle.mux.proofs.Peaks.{peaks_table}
 use Rattle.mux.proofs.mux.Mux.send_table.Goals as goal
 
 pub table_packet-packet-requires : goal.table_packet-packet-requires
@@ -20,7 +22,7 @@ table_packet-packet-requires c =
     let h = history_of p.request.streams (reverse c.self.inside.stored.items) (reverse c.self.inside.taken.items) in
     let D : History → Type 0 = λ x. table_at x.run.plan.rounds (slots x.events) ≡ Some c.args.place in
     let due : table_at p.rounds (slots h) ≡ Some c.args.place = subst D (sym c.self.view_is) c.requires.due in
-    let k = c.self.invariant.agrees in
+    let k = c.self.invariant.0.agrees in
     let fits = are_places p.rounds k.plan.rounds (slots h) c.args.place due in
     fits
 
@@ -30,15 +32,15 @@ table-requires c =
     let h = history_of p.request.streams (reverse c.self.inside.stored.items) (reverse c.self.inside.taken.items) in
     let D : History → Type 0 = λ x. table_at x.run.plan.rounds (slots x.events) ≡ Some c.args.place in
     let due : table_at p.rounds (slots h) ≡ Some c.args.place = subst D (sym c.self.view_is) c.requires.due in
-    let k = c.self.invariant.agrees in
+    let k = c.self.invariant.0.agrees in
     let fits = are_places p.rounds k.plan.rounds (slots h) c.args.place due in
     storable p c.args.place k.plan fits
 
 pub overflow_add-self : goal.overflow_add-self
 overflow_add-self c =
-    let k = c.self.invariant.agrees in
+    let k = c.self.invariant.0.agrees in
     let h = history_of c.self.inside.plan.request.streams (reverse c.self.inside.stored.items) (reverse c.self.inside.taken.items) in
-    let n = ap (λ (x : Counts). x.tables) c.self.invariant.counts_are in
+    let n = ap (λ (x : Counts). x.tables) c.self.invariant.0.counts_are in
     let within = k.within in
     let limit = k.limit in
     omega (arith, count_within is_table h)
@@ -49,10 +51,11 @@ invariant_of-self-3 c =
     let S : History → Type 0 = λ h. slots h.events < h.run.limit in
     let e = with_table c.self.inside.plan.request.streams c.self.inside.stored.items _ _ c.args.place
     (c.push_reserved.ensures.items ∙ ap (λ (es : List StoredEvent). es ++ c.table.result ∷ []) c.in_ok-reserve.ensures.items ∙ ap (λ (x : StoredEvent). c.self.inside.stored.items ++ x ∷ []) c.table.ensures) in
-    sending_table c.self.invariant c.args.place _ _ _ _ _ _ e c.clear_full.ensures c.pass.ensures.buckets c.pass.ensures.clock c.advance.ensures
+    let kept = sending_table c.self.invariant.0 c.args.place _ _ _ _ _ _ e c.clear_full.ensures.inputs c.pass.ensures.buckets c.pass.ensures.clock c.advance.ensures
     (c.in_ok-push.ensures.ok
     ∙ ap (λ p. c.self.inside.output ++ p ∷ [])
     (c.table_packet-packet.ensures
     ∙ ap (λ (es : List StoredEvent). packet_behind c.self.inside.plan (history_of c.self.inside.plan.request.streams (reverse es) (reverse c.self.inside.taken.items))
     (emitted c.self.inside.plan (history_of c.self.inside.plan.request.streams (reverse es) (reverse c.self.inside.taken.items))) (Table c.args.place)) c.in_ok-reserve.ensures.items))
-    (subst S (sym c.self.view_is) c.requires.within) (subst R (sym c.self.view_is) c.requires.may)
+    (subst S (sym c.self.view_is) c.requires.within) (subst R (sym c.self.view_is) c.requires.may) in
+    (kept, peaks_table c.self.invariant.1 _ c.args.place e, noted_cleared _ c.self.inside.inputs.items _ c.clear_full.ensures.inputs)

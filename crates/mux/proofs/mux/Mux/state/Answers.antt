@@ -6,11 +6,11 @@ use Rattle.mux.proofs.mux.Mux.state.Goals as goal
 
 pub index-requires : goal.index-requires
 index-requires c =
-    let n = length_states c.self.invariant.agrees in
+    let n = length_states c.self.invariant.0.agrees in
     let v = ap (λ (h : History). length h.run.plan.request.inputs) c.self.view_is in
     omega (arith, c.self.inside.inputs.ok.0)
 
 pub returns : goal.returns
 returns c =
     let v = ap (λ (h : History). length h.run.plan.request.inputs) c.self.view_is in
-    state_at c.self.invariant.agrees c.args.input _ (omega arith) c.index.ensures ∙ ap (λ (h : History). state_of h.events c.args.input) c.self.view_is
+    state_at c.self.invariant.0.agrees c.args.input _ (omega arith) c.index.ensures ∙ ap (λ (h : History). state_of h.events c.args.input) c.self.view_is

@@ -17,7 +17,7 @@ bounds-fast_packets-k c =
     let R : History → Type 0 = λ h. IsPlace h.run.plan.rounds c.args.place in
     let S : TablePlace → Type 0 = IsPlace c.self.inside.plan.rounds in
     let is : c.in-Fast.k < c.self.inside.plan.rounds.fast_len = subst S c.in-Fast.is (subst R (sym c.self.view_is) c.requires) in
-    let k = c.self.invariant.agrees.plan in
+    let k = c.self.invariant.0.agrees.plan in
     let facts = plan_facts c.self.inside.plan k.request k.tables in
     omega (arith, facts.basics.fast_len, ap length c.fast_packets.ensures)
 
@@ -26,7 +26,7 @@ bounds-slow_packets-k c =
     let R : History → Type 0 = λ h. IsPlace h.run.plan.rounds c.args.place in
     let S : TablePlace → Type 0 = IsPlace c.self.inside.plan.rounds in
     let is : c.in-Slow.k < c.self.inside.plan.rounds.slow_len = subst S c.in-Slow.is (subst R (sym c.self.view_is) c.requires) in
-    let k = c.self.invariant.agrees.plan in
+    let k = c.self.invariant.0.agrees.plan in
     let facts = plan_facts c.self.inside.plan k.request k.tables in
     omega (arith, facts.basics.slow_len, ap length c.slow_packets.ensures)
 
@@ -34,7 +34,7 @@ pub returns : goal.returns
 returns c =
     let p = c.self.inside.plan in
     let h = history_of p.request.streams (reverse c.self.inside.stored.items) (reverse c.self.inside.taken.items) in
-    let k = c.self.invariant.agrees.plan in
+    let k = c.self.invariant.0.agrees.plan in
     let facts = plan_facts p k.request k.tables in
     let R : History → Type 0 = λ x. IsPlace x.run.plan.rounds c.args.place in
     let S : TablePlace → Type 0 = IsPlace p.rounds in
@@ -50,7 +50,7 @@ returns c =
           w.packet-is ∙ w.index-slow_packets-k.is ∙ ap (λ (xs : List (List ℕ)). get_or xs w.in-Slow.k w.index-slow_packets-k.result) w.slow_packets.ensures
           ∙ get_or_default (slow_packets p.tables) w.in-Slow.k w.index-slow_packets-k.result null_packet (omega (arith, facts.basics.slow_len)) ∙ ap (table_packet_at p.tables) (sym w.in-Slow.is))
     ] in
-    let out : c.self.inside.output ≡ emitted p h = c.self.invariant.packets_are in
+    let out : c.self.inside.output ≡ emitted p h = c.self.invariant.0.packets_are in
     c.with_counter.ensures.value
     ∙ ap (with_counter c.match-place.packet) (c.counter.ensures.value ∙ ap (λ n. length (of_pid n c.self.inside.output) % 16) c.pid.ensures.value)
     ∙ ap (counted_behind c.self.inside.output) packet

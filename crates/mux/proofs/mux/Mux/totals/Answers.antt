@@ -9,14 +9,14 @@ use Rattle.mux.proofs.mux.Mux.totals.Goals as goal
 
 pub index-state-requires : goal.index-state-requires
 index-state-requires c =
-    let n = length_states c.self.invariant.agrees in
+    let n = length_states c.self.invariant.0.agrees in
     let v = ap (λ (h : History). length h.run.plan.request.inputs) c.self.view_is in
     omega (arith, c.self.inside.inputs.ok.0)
 
 pub overflow_sub-result : goal.overflow_sub-result
 overflow_sub-result c =
     let v = ap (λ (h : History). length h.run.plan.request.inputs) c.self.view_is in
-    let k = c.self.invariant.agrees in
+    let k = c.self.invariant.0.agrees in
     let is = state_at k c.args.input c.index-state.result.now (omega arith) c.index-state.ensures in
     let h = history_of c.self.inside.plan.request.streams (reverse c.self.inside.stored.items) (reverse c.self.inside.taken.items) in
     omega (arith, taken_is_sent_and_queued c.self.inside.plan c.args.input h k.plan k.lawful, ap (λ (x : InputState). x.taken) is, ap (λ (x : InputState). x.sent) is)
@@ -24,7 +24,7 @@ overflow_sub-result c =
 pub returns : goal.returns
 returns c =
     let v = ap (λ (h : History). length h.run.plan.request.inputs) c.self.view_is in
-    let k = c.self.invariant.agrees in
+    let k = c.self.invariant.0.agrees in
     let is = state_at k c.args.input c.index-state.result.now (omega arith) c.index-state.ensures in
     let h = history_of c.self.inside.plan.request.streams (reverse c.self.inside.stored.items) (reverse c.self.inside.taken.items) in
     let whole = taken_is_sent_and_queued c.self.inside.plan c.args.input h k.plan k.lawful in

@@ -14,7 +14,7 @@ returns-clause-none c =
     let t = c.requires ∙ sym (ap (λ (h : History). slot_time h.run.plan (slots h.events)) c.self.view_is) in
     let R : History → Type 0 = λ h. AllReady h.run.plan h.events in
     let Q : List InputState → Type 0 = All (λ x. IsTrue (ready_at c.args.now x)) in
-    when_none c.first_unready.result c.first_unready.ensures.none (λ all. subst R c.self.view_is (all_ready c.self.invariant.agrees c.args.now t (subst Q c.as_slice.ensures.value all)))
+    when_none c.first_unready.result c.first_unready.ensures.none (λ all. subst R c.self.view_is (all_ready c.self.invariant.0.agrees c.args.now t (subst Q c.as_slice.ensures.value all)))
 
 pub returns-clause-some : goal.returns-clause-some
 returns-clause-some c =
@@ -23,5 +23,5 @@ returns-clause-some c =
     let R : History → Type 0 = λ h. IsLeastUnready h i in
     let Q : List InputState → Type 0 = λ xs. (i < length xs) × ((d : InputState) → ready_at c.args.now (get_or xs i d) ≡ false) × ((j : ℕ) (d : InputState) → j < i → IsTrue (ready_at c.args.now (get_or xs j d))) in
     let q = subst Q c.as_slice.ensures.value p in
-    let least = not_ready c.self.invariant.agrees c.args.now i t q.0 q.1 q.2 in
+    let least = not_ready c.self.invariant.0.agrees c.args.now i t q.0 q.1 q.2 in
     subst R c.self.view_is (record { input = least.0; unready = least.1; least = least.2 }))

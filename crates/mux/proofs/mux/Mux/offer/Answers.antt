@@ -7,15 +7,15 @@ use Rattle.mux.specs.History.{History, with_event, queue, last_stamp, is_closed,
 use Rattle.mux.specs.Lawful.{MayTake}
 use Rattle.mux.proofs.Plans.{contains_of}
 use Rattle.mux.proofs.Refusals.{goes_both, full_at, mapped_at, not_full_at, is_closed_first, is_stranger, is_backward, is_refused_full, is_unrefused}
-use Rattle.mux.proofs.mux.Mux.take.Goals as goal
+use Rattle.mux.proofs.mux.Mux.offer.Goals as goal
 
 pub returns-then-state-clause-answer : goal.returns-then-state-clause-answer
 returns-then-state-clause-answer c =
-    (is_closed_first c.args.self.now.run.plan c.args.self.now.events c.args.input c.args.item (sym (ap (λ (x : InputState). x.closed) c.state-state.ensures) ∙ c.if-state.true), (refl, refl))
+    (is_closed_first c.args.self.now.run.plan c.args.self.now.events c.args.input c.args.item.now (sym (ap (λ (x : InputState). x.closed) c.state-state.ensures) ∙ c.if-state.true), refl)
 
 pub returns-in_default-clause-answer : goal.returns-in_default-clause-answer
 returns-in_default-clause-answer c =
-    (is_stranger c.args.self.now.run.plan c.args.self.now.events c.args.input c.args.item (sym (ap (λ (x : InputState). x.closed) c.state-state.ensures) ∙ c.if-state.false) c.in_default.ensures.none, (refl, refl))
+    (is_stranger c.args.self.now.run.plan c.args.self.now.events c.args.input c.args.item.now (sym (ap (λ (x : InputState). x.closed) c.state-state.ensures) ∙ c.if-state.false) c.in_default.ensures.none, refl)
 
 pub returns-then-item-state-clause-answer : goal.returns-then-item-state-clause-answer
 returns-then-item-state-clause-answer c =
@@ -23,10 +23,10 @@ returns-then-item-state-clause-answer c =
     let h = c.args.self.now.events in
     let found = c.in-Some.ensures.found in
     let last = ap (λ (x : InputState). x.last_stamp) c.state-state.ensures in
-    let early : c.args.item.stamp < last_stamp c.args.input h = omega (arith, c.if-item-state.true) in (
-      is_backward p h c.args.input c.args.item (sym (ap (λ (x : InputState). x.closed) c.state-state.ensures) ∙ c.if-state.false)
-          (mapped_at p c.args.input c.args.item c.in-Some.place c.in-Some.stream found.0 found.1) (lt-ltb c.args.item.stamp (last_stamp c.args.input h) early),
-      (refl, refl),
+    let early : c.args.item.now.stamp < last_stamp c.args.input h = omega (arith, c.if-item-state.true) in (
+      is_backward p h c.args.input c.args.item.now (sym (ap (λ (x : InputState). x.closed) c.state-state.ensures) ∙ c.if-state.false)
+          (mapped_at p c.args.input c.args.item.now c.in-Some.place c.in-Some.stream found.0 found.1) (lt-ltb c.args.item.now.stamp (last_stamp c.args.input h) early),
+      refl,
     )
 
 pub note_full-requires-clause-may : goal.note_full-requires-clause-may
@@ -34,7 +34,7 @@ note_full-requires-clause-may c =
     let p = c.args.self.now.run.plan in
     let h = c.args.self.now.events in
     let found = c.in-Some.ensures.found in
-    let same : c.args.input ≡ c.in-Some.stream.input = (goes_both c.in-Some.stream c.args.input c.args.item found.1).0 in
+    let same : c.args.input ≡ c.in-Some.stream.input = (goes_both c.in-Some.stream c.args.input c.args.item.now found.1).0 in
     record {
       stream = contains_of p c.in-Some.place c.in-Some.stream found.0;
       input = refl;
@@ -51,12 +51,11 @@ returns-then-state-2-clause-answer c =
     let full = eqb-true (length (queue c.in-Some.stream h)) p.request.queue (sym c.is_full.ensures ∙ c.if-is_full.true) in
     let last = ap (λ (x : InputState). x.last_stamp) c.state-state.ensures in
     let noted = ap (λ (x : InputState). x.full_noted) c.state-state.ensures in
-    let later : last_stamp c.args.input h ≤ c.args.item.stamp = omega (arith, c.if-item-state.false) in
+    let later : last_stamp c.args.input h ≤ c.args.item.now.stamp = omega (arith, c.if-item-state.false) in
     let after : History = with_event c.args.self.now (events.Full c.args.input c.in-Some.stream) in (
-      is_refused_full p h c.args.input c.args.item (sym (ap (λ (x : InputState). x.closed) c.state-state.ensures) ∙ c.if-state.false)
-          (mapped_at p c.args.input c.args.item c.in-Some.place c.in-Some.stream found.0 found.1) (le-ltb c.args.item.stamp (last_stamp c.args.input h) later)
-          (full_at p h c.args.input c.args.item c.in-Some.place c.in-Some.stream found.0 found.1 full),
-      refl,
+      is_refused_full p h c.args.input c.args.item.now (sym (ap (λ (x : InputState). x.closed) c.state-state.ensures) ∙ c.if-state.false)
+          (mapped_at p c.args.input c.args.item.now c.in-Some.place c.in-Some.stream found.0 found.1) (le-ltb c.args.item.now.stamp (last_stamp c.args.input h) later)
+          (full_at p h c.args.input c.args.item.now c.in-Some.place c.in-Some.stream found.0 found.1 full),
       (c.in-Some.stream, contains_of p c.in-Some.place c.in-Some.stream found.0, found.1, ap (λ b. if◌then◌else◌ b c.args.self.now after) (sym (sym noted ∙ c.if-state-2.true))),
     )
 
@@ -68,13 +67,12 @@ returns-in-Ok-clause-answer c =
     let full = eqb-true (length (queue c.in-Some.stream h)) p.request.queue (sym c.is_full.ensures ∙ c.if-is_full.true) in
     let last = ap (λ (x : InputState). x.last_stamp) c.state-state.ensures in
     let noted = ap (λ (x : InputState). x.full_noted) c.state-state.ensures in
-    let later : last_stamp c.args.input h ≤ c.args.item.stamp = omega (arith, c.if-item-state.false) in
-    let same : c.args.input ≡ c.in-Some.stream.input = (goes_both c.in-Some.stream c.args.input c.args.item found.1).0 in
+    let later : last_stamp c.args.input h ≤ c.args.item.now.stamp = omega (arith, c.if-item-state.false) in
+    let same : c.args.input ≡ c.in-Some.stream.input = (goes_both c.in-Some.stream c.args.input c.args.item.now found.1).0 in
     let after : History = with_event c.args.self.now (events.Full c.args.input c.in-Some.stream) in (
-      is_refused_full p h c.args.input c.args.item (sym (ap (λ (x : InputState). x.closed) c.state-state.ensures) ∙ c.if-state.false)
-          (mapped_at p c.args.input c.args.item c.in-Some.place c.in-Some.stream found.0 found.1) (le-ltb c.args.item.stamp (last_stamp c.args.input h) later)
-          (full_at p h c.args.input c.args.item c.in-Some.place c.in-Some.stream found.0 found.1 full),
-      refl,
+      is_refused_full p h c.args.input c.args.item.now (sym (ap (λ (x : InputState). x.closed) c.state-state.ensures) ∙ c.if-state.false)
+          (mapped_at p c.args.input c.args.item.now c.in-Some.place c.in-Some.stream found.0 found.1) (le-ltb c.args.item.now.stamp (last_stamp c.args.input h) later)
+          (full_at p h c.args.input c.args.item.now c.in-Some.place c.in-Some.stream found.0 found.1 full),
       (
         c.in-Some.stream,
         contains_of p c.in-Some.place c.in-Some.stream found.0,
@@ -91,14 +89,14 @@ returns-in-Err-clause-answer c =
     let full = eqb-true (length (queue c.in-Some.stream h)) p.request.queue (sym c.is_full.ensures ∙ c.if-is_full.true) in
     let last = ap (λ (x : InputState). x.last_stamp) c.state-state.ensures in
     let noted = ap (λ (x : InputState). x.full_noted) c.state-state.ensures in
-    let later : last_stamp c.args.input h ≤ c.args.item.stamp = omega (arith, c.if-item-state.false) in (
+    let later : last_stamp c.args.input h ≤ c.args.item.now.stamp = omega (arith, c.if-item-state.false) in (
       inr (
-        is_refused_full p h c.args.input c.args.item (sym (ap (λ (x : InputState). x.closed) c.state-state.ensures) ∙ c.if-state.false)
-            (mapped_at p c.args.input c.args.item c.in-Some.place c.in-Some.stream found.0 found.1) (le-ltb c.args.item.stamp (last_stamp c.args.input h) later)
-            (full_at p h c.args.input c.args.item c.in-Some.place c.in-Some.stream found.0 found.1 full),
+        is_refused_full p h c.args.input c.args.item.now (sym (ap (λ (x : InputState). x.closed) c.state-state.ensures) ∙ c.if-state.false)
+            (mapped_at p c.args.input c.args.item.now c.in-Some.place c.in-Some.stream found.0 found.1) (le-ltb c.args.item.now.stamp (last_stamp c.args.input h) later)
+            (full_at p h c.args.input c.args.item.now c.in-Some.place c.in-Some.stream found.0 found.1 full),
         sym noted ∙ c.if-state-2.false,
       ),
-      (refl, c.in-Err.ensures.err),
+      c.in-Err.ensures.err,
     )
 
 pub add-requires-clause-may : goal.add-requires-clause-may
@@ -107,15 +105,15 @@ add-requires-clause-may c =
     let h = c.args.self.now.events in
     let found = c.in-Some.ensures.found in
     let last = ap (λ (x : InputState). x.last_stamp) c.state-state.ensures in
-    let later : last_stamp c.args.input h ≤ c.args.item.stamp = omega (arith, c.if-item-state.false) in
-    let same : c.args.input ≡ c.in-Some.stream.input = (goes_both c.in-Some.stream c.args.input c.args.item found.1).0 in
-    let P : ℕ → Type 0 = λ k. MayTake p h k c.args.item in
-    let may : MayTake p h c.args.input c.args.item = record {
+    let later : last_stamp c.args.input h ≤ c.args.item.now.stamp = omega (arith, c.if-item-state.false) in
+    let same : c.args.input ≡ c.in-Some.stream.input = (goes_both c.in-Some.stream c.args.input c.args.item.now found.1).0 in
+    let P : ℕ → Type 0 = λ k. MayTake p h k c.args.item.now in
+    let may : MayTake p h c.args.input c.args.item.now = record {
       input = c.requires;
       packet = c.in-Some.ensures.packet;
-      unrefused = is_unrefused p h c.args.input c.args.item (sym (ap (λ (x : InputState). x.closed) c.state-state.ensures) ∙ c.if-state.false)
-          (mapped_at p c.args.input c.args.item c.in-Some.place c.in-Some.stream found.0 found.1) (le-ltb c.args.item.stamp (last_stamp c.args.input h) later)
-          (not_full_at p h c.args.input c.args.item c.in-Some.place c.in-Some.stream c.in-Some.ensures.plan found.0 found.1 (sym c.is_full.ensures ∙ c.if-is_full.false));
+      unrefused = is_unrefused p h c.args.input c.args.item.now (sym (ap (λ (x : InputState). x.closed) c.state-state.ensures) ∙ c.if-state.false)
+          (mapped_at p c.args.input c.args.item.now c.in-Some.place c.in-Some.stream found.0 found.1) (le-ltb c.args.item.now.stamp (last_stamp c.args.input h) later)
+          (not_full_at p h c.args.input c.args.item.now c.in-Some.place c.in-Some.stream c.in-Some.ensures.plan found.0 found.1 (sym c.is_full.ensures ∙ c.if-is_full.false));
     } in
     subst P same may
 
@@ -125,12 +123,12 @@ returns-in-Ok-add-clause-answer c =
     let h = c.args.self.now.events in
     let found = c.in-Some.ensures.found in
     let last = ap (λ (x : InputState). x.last_stamp) c.state-state.ensures in
-    let later : last_stamp c.args.input h ≤ c.args.item.stamp = omega (arith, c.if-item-state.false) in
-    let same : c.args.input ≡ c.in-Some.stream.input = (goes_both c.in-Some.stream c.args.input c.args.item found.1).0 in (
-      is_unrefused p h c.args.input c.args.item (sym (ap (λ (x : InputState). x.closed) c.state-state.ensures) ∙ c.if-state.false)
-          (mapped_at p c.args.input c.args.item c.in-Some.place c.in-Some.stream found.0 found.1) (le-ltb c.args.item.stamp (last_stamp c.args.input h) later)
-          (not_full_at p h c.args.input c.args.item c.in-Some.place c.in-Some.stream c.in-Some.ensures.plan found.0 found.1 (sym c.is_full.ensures ∙ c.if-is_full.false)),
-      c.in-Ok-add.ensures.ok ∙ ap (λ k. with_event c.args.self.now (events.Took k c.args.item)) (sym same),
+    let later : last_stamp c.args.input h ≤ c.args.item.now.stamp = omega (arith, c.if-item-state.false) in
+    let same : c.args.input ≡ c.in-Some.stream.input = (goes_both c.in-Some.stream c.args.input c.args.item.now found.1).0 in (
+      is_unrefused p h c.args.input c.args.item.now (sym (ap (λ (x : InputState). x.closed) c.state-state.ensures) ∙ c.if-state.false)
+          (mapped_at p c.args.input c.args.item.now c.in-Some.place c.in-Some.stream found.0 found.1) (le-ltb c.args.item.now.stamp (last_stamp c.args.input h) later)
+          (not_full_at p h c.args.input c.args.item.now c.in-Some.place c.in-Some.stream c.in-Some.ensures.plan found.0 found.1 (sym c.is_full.ensures ∙ c.if-is_full.false)),
+      c.in-Ok-add.ensures.ok ∙ ap (λ k. with_event c.args.self.now (events.Took k c.args.item.now)) (sym same),
     )
 
 pub returns-in-Err-add-clause-answer : goal.returns-in-Err-add-clause-answer
@@ -139,10 +137,10 @@ returns-in-Err-add-clause-answer c =
     let h = c.args.self.now.events in
     let found = c.in-Some.ensures.found in
     let last = ap (λ (x : InputState). x.last_stamp) c.state-state.ensures in
-    let later : last_stamp c.args.input h ≤ c.args.item.stamp = omega (arith, c.if-item-state.false) in (
+    let later : last_stamp c.args.input h ≤ c.args.item.now.stamp = omega (arith, c.if-item-state.false) in (
       inl (
-          is_unrefused p h c.args.input c.args.item (sym (ap (λ (x : InputState). x.closed) c.state-state.ensures) ∙ c.if-state.false)
-          (mapped_at p c.args.input c.args.item c.in-Some.place c.in-Some.stream found.0 found.1) (le-ltb c.args.item.stamp (last_stamp c.args.input h) later)
-          (not_full_at p h c.args.input c.args.item c.in-Some.place c.in-Some.stream c.in-Some.ensures.plan found.0 found.1 (sym c.is_full.ensures ∙ c.if-is_full.false))),
-      (refl, c.in-Err-add.ensures.err),
+          is_unrefused p h c.args.input c.args.item.now (sym (ap (λ (x : InputState). x.closed) c.state-state.ensures) ∙ c.if-state.false)
+          (mapped_at p c.args.input c.args.item.now c.in-Some.place c.in-Some.stream found.0 found.1) (le-ltb c.args.item.now.stamp (last_stamp c.args.input h) later)
+          (not_full_at p h c.args.input c.args.item.now c.in-Some.place c.in-Some.stream c.in-Some.ensures.plan found.0 found.1 (sym c.is_full.ensures ∙ c.if-is_full.false))),
+      c.in-Err-add.ensures.err,
     )
