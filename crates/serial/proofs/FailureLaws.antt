@@ -1,54 +1,44 @@
--- A failed read is told of an input only where its source failed.
+-- A failed read is told of an input exactly where its source failed.
 use Rattle.std.proofs.Common.{◌≡◌, ◌⊎◌, ℕ, ◌<◌, List, set, get_or, length, refl, ap, ◌∙◌, sym, subst, arith, inl, inr}
 use Rattle.std.specs.Prelude.{Option, Some, None, IsSome, true, false}
 use Rattle.std.specs.List.{slice_get}
 use Rattle.std.proofs.lemmas.Bool.{cases_eq}
 use Rattle.std.proofs.lemmas.List.{length-set, get_or-set_same, get_or-set_other}
 use Rattle.std.proofs.lemmas.Option.{same_Some, slice_get-get_or, slice_get_within}
-use Rattle.tspkt.specs.declared.stamped.Stamped.{Stamped}
-use Rattle.mux.specs.History.{History}
 use Rattle.serial.specs.declared.report.Stop.{Stop}
 use Rattle.serial.specs.declared.report.Stop.TheVariants.{Gate, ReadFailed, TooMuch, Memory}
 use Rattle.serial.specs.declared.serial_input.SerialInput.{SerialInput}
 use Rattle.serial.specs.Failures.{FailsOnce}
 use Rattle.serial.specs.InputReading.{TellsFailures, AllTellFailures}
-use Rattle.serial.specs.Feeding.{IsGivenOrHeld}
 
 -- no read failed
 pub tells_still : {R : Type 0} (failures : R → ℕ) (before : ℕ) (old new : SerialInput R) → failures new.source ≡ failures old.source
     → (IsSome new.reader.framer → IsSome old.reader.framer) → (new.report.stopped ≡ Some ReadFailed → old.report.stopped ≡ Some ReadFailed)
-    → TellsFailures failures before old → TellsFailures failures before new
-tells_still failures before old new same open_ was tells =
+    → ((new.report.stopped ≡ Some ReadFailed → ⊥) → failures old.source ≡ before) → TellsFailures failures before old → TellsFailures failures before new
+tells_still failures before old new same open_ was unfailed tells =
     let P : ℕ → Type 0 = FailsOnce before in
     record {
       unfailed = λ some. same ∙ tells.unfailed (open_ some);
       told = λ e. subst P (sym same) (tells.told (was e));
+      untold = λ other. same ∙ unfailed other;
     }
 
 -- a read of an input that was still read failed
 pub tells_failed : {R : Type 0} (failures : R → ℕ) (before : ℕ) (old new : SerialInput R) → IsSome old.reader.framer → new.reader.framer ≡ None
-    → FailsOnce (failures old.source) (failures new.source) → TellsFailures failures before old → TellsFailures failures before new
-tells_failed failures before old new some none failed tells =
+    → new.report.stopped ≡ Some ReadFailed → FailsOnce (failures old.source) (failures new.source) → TellsFailures failures before old → TellsFailures failures before new
+tells_failed failures before old new some none is failed tells =
     let P : ℕ → Type 0 = λ n. FailsOnce n (failures new.source) in
     record {
       unfailed = λ here. (let bad : false ≡ true = subst IsSome none here in cc);
       told = λ e. subst P (tells.unfailed some) failed;
+      untold = λ other. absurd (other is);
     }
 
 -- the input was read no further
 pub tells_kept : {R : Type 0} (failures : R → ℕ) (before : ℕ) (old new : SerialInput R) → new.source ≡ old.source → new.reader.framer ≡ old.reader.framer
     → new.report.stopped ≡ old.report.stopped → TellsFailures failures before old → TellsFailures failures before new
 tells_kept failures before old new source framer stopped tells =
-    tells_still failures before old new (ap failures source) (λ some. subst IsSome framer some) (λ e. sym stopped ∙ e) tells
-
-pub tells_given : {R : Type 0} (failures : R → ℕ) (count : ℕ) (before after : History) (i : ℕ) (x y : SerialInput R) (item : Stamped)
-    → IsGivenOrHeld before after i x y item → TellsFailures failures count x → TellsFailures failures count y
-tells_given failures count before after i x y item (inl is) tells =
-    let P : SerialInput _ → Type 0 = TellsFailures failures count in
-    subst P (sym is.1) tells
-tells_given failures count before after i x y item (inr is) tells =
-    tells_kept failures count x y (ap (λ (v : SerialInput _). v.source) is.2) (ap (λ (v : SerialInput _). v.reader.framer) is.2)
-    (ap (λ (v : SerialInput _). v.report.stopped) is.2) tells
+    tells_still failures before old new (ap failures source) (λ some. subst IsSome framer some) (λ e. sym stopped ∙ e) (λ other. tells.untold (λ e. other (stopped ∙ e))) tells
 
 -- a failed read was told, or not
 is_failed : (stopped : Option Stop) → (stopped ≡ Some ReadFailed) ⊎ (stopped ≡ Some ReadFailed → ⊥)
@@ -65,7 +55,7 @@ pub newly_failed : {R : Type 0} (failures : R → ℕ) (old new : SerialInput R)
 newly_failed failures old new goes e = elim (is_failed old.report.stopped) [
   | inl was ↦ inl was
   | inr other ↦
-      (let before : TellsFailures failures (failures old.source) old = record { unfailed = λ some. refl; told = λ f. absurd (other f) } in
+      (let before : TellsFailures failures (failures old.source) old = record { unfailed = λ some. refl; told = λ f. absurd (other f); untold = λ f. refl } in
       inr ((goes (failures old.source) before).told e))
 ]
 

@@ -14,7 +14,7 @@ use Rattle.request.specs.declared.stream.Stream.{Stream}
 use Rattle.plan.specs.Build.{PlanValue}
 use Rattle.mux.specs.declared.event.Event.{Event}
 use Rattle.mux.specs.declared.event.Event.TheVariants.{Took, Full, Close, Slot}
-use Rattle.mux.specs.History.{History, with_event, is_mapped_to, taken, is_closed}
+use Rattle.mux.specs.History.{is_mapped_to, taken, is_closed}
 use Rattle.mux.specs.Faithful.{PacketLists, IsNext, IsFaithful}
 use Rattle.serial.specs.declared.report.Report.{Report}
 use Rattle.serial.specs.declared.report.Stop.{Stop}
@@ -22,9 +22,9 @@ use Rattle.serial.specs.declared.serial_input.SerialInput.{SerialInput}
 use Rattle.serial.specs.Takeable.{OriginValue, takeable}
 use Rattle.serial.specs.Reading.{ReaderValue}
 use Rattle.serial.specs.InputReading.{HasTold, HasLooked, BeginsTakeable, IsDone}
-use Rattle.serial.specs.Feeding.{HasGiven, Feeds, packet_list, packet_lists, AreKnown, AreUnstopped, Holds, IsOfInput, IsGivenOrHeld}
+use Rattle.serial.specs.Feeding.{HasGiven, Feeds, packet_list, packet_lists, AreKnown, AreUnstopped, Holds, IsOfInput}
 use Rattle.serial.specs.Running.{AreFed}
-use Rattle.serial.proofs.InputLaws.{given_begins, held_given}
+use Rattle.serial.proofs.InputLaws.{given_begins, released}
 use Rattle.serial.proofs.RunningLaws.{set_here, set_there}
 
 -- What an input gave, of a source whose bytes are known.
@@ -50,7 +50,7 @@ held_begins : (plan : PlanValue) (o : OriginValue) (reader : ReaderValue) (held 
     → held ≡ Some item → HasLooked plan o reader held report at_end bytes given looked → BeginsTakeable plan o bytes (given ++ item ∷ [])
 held_begins plan o reader held item report at_end bytes given looked is has =
     let P : Option Stamped → Type 0 = λ v. HasLooked plan o reader v report at_end bytes given looked in
-    given_begins plan o reader None report at_end bytes (given ++ item ∷ []) looked (held_given plan o reader item report at_end bytes given looked (subst P is has))
+    given_begins plan o reader None report at_end bytes (given ++ item ∷ []) looked (released plan o reader (Some item) report at_end bytes given looked (subst P is has))
 
 next_given : {R : Type 0} (remaining : R → Option (List ℕ)) (p : PlanValue) (i : ℕ) (all : List ℕ) (x : SerialInput R) (given : List Stamped) (item : Stamped)
     → x.held ≡ Some item → HasGiven remaining p i (Some all) x given → (later : List Stamped) × ((given ++ item ∷ []) ++ later ≡ takeable p x.origin (framed 188 all))
@@ -143,34 +143,6 @@ unstopped_before inputs i x y at within goes are j z there =
           subst P old (goes (are i y (set_here inputs i y within))))
       | inr ne ↦ are j z (set_there inputs i j y ne ∙ there)
     ]
-
--- A full queue is noted where its packet is held.
-
-took_not_full : (i j : ℕ) (item : Stamped) (st : Stream) (h : List Event) → Took i item ∷ h ≡ Full j st ∷ h → ⊥
-took_not_full i j item st h e = cc
-
-close_not_full : (i j : ℕ) (st : Stream) (h : List Event) → Close i ∷ h ≡ Full j st ∷ h → ⊥
-close_not_full i j st h e = cc
-
-full_same : (i j : ℕ) (s st : Stream) (h : List Event) → Full i s ∷ h ≡ Full j st ∷ h → s ≡ st
-full_same i j s st h e = cc
-
-pub noted_closed : {R : Type 0} (before after : History) (i : ℕ) (x : SerialInput R) (st : Stream) → after ≡ with_event before (Close i)
-    → after ≡ with_event before (Full i st) → Holds i st x
-noted_closed before after i x st is note = absurd (close_not_full i i st before.events (ap (λ (v : History). v.events) (sym is ∙ note)))
-
-pub noted_given : {R : Type 0} (before after : History) (i : ℕ) (x y : SerialInput R) (item : Stamped) (st : Stream) → IsGivenOrHeld before after i x y item
-    → after ≡ with_event before (Full i st) → Holds i st y
-noted_given before after i x y item st (inl is) note = absurd (took_not_full i i item st before.events (ap (λ (v : History). v.events) (sym is.0 ∙ note)))
-noted_given before after i x y item st (inr is) note =
-    let same = full_same i i is.0 st before.events (ap (λ (v : History). v.events) (sym is.1 ∙ note)) in
-    let P : Stream → Type 0 = λ s. is_mapped_to s i item ≡ true in
-    (item, ap (λ v. v.held) is.2, subst P same is.3)
-
-pub going_given : {R : Type 0} (before after : History) (i : ℕ) (x y : SerialInput R) (item : Stamped) → IsGivenOrHeld before after i x y item
-    → y.report.stopped ≡ None → x.report.stopped ≡ None
-going_given before after i x y item (inl is) goes = ap (λ v. v.report.stopped) (sym is.1) ∙ goes
-going_given before after i x y item (inr is) goes = ap (λ v. v.report.stopped) (sym is.2) ∙ goes
 
 -- from three clauses of a result
 pub on_ok_three : {T E P Q U S : Type 0} (r : Result T E) → OnOk r P → OnOk r Q → OnOk r U → (P → Q → U → S) → OnOk r S

@@ -2,9 +2,8 @@
 use Rattle.std.proofs.lemmas.Bool.Decides.{nat_tests}
 use Rattle.std.proofs.Common.{ℕ, ◌<◌, ◌≤◌, ◌≡◌, Bool, true, false, nat_eq, nat_lt, ltb, eq-eqb, List, [], ◌∷◌, ◌++◌, length, Option, Some, None, is_some, if◌then◌else◌, ◌||◌, length-append, refl, ap, ◌∙◌, sym, subst, arith, inl, inr, append_assoc}
 use Rattle.std.specs.Option.{option_to_list}
-use Rattle.std.specs.Prelude.{Result, Ok, Err, OnOk}
+use Rattle.std.specs.Prelude.{IsSome, Result, Ok, Err, OnOk}
 use Rattle.std.proofs.lemmas.Bool.{cases_Bool, ne_eqb, false≢true}
-use Rattle.std.proofs.lemmas.List.{append-nil}
 use Rattle.std.specs.Io.KnownBytes.{Consumes, IsAtEnd}
 use Rattle.tspkt.specs.Packet.{pid_of}
 use Rattle.tspkt.specs.Framed.{framed}
@@ -26,10 +25,9 @@ use Rattle.serial.specs.Order.{ComeFrom}
 use Rattle.serial.specs.InputReading.{HasLooked, ReadsOn, IsDone}
 use Rattle.serial.specs.Reading.{ReaderValue}
 use Rattle.serial.specs.declared.report.Report.{Report}
-use Rattle.serial.specs.declared.report.Stop.TheVariants.{Gate}
 use Rattle.serial.specs.declared.serial_input.SerialInput.{SerialInput}
-use Rattle.serial.specs.Feeding.{IsOrigin, HasGiven, Feeds, MayBeTaken, IsOfInput, IsGivenOrHeld, turns_left}
-use Rattle.serial.proofs.InputLaws.{told_inside, takeable-append}
+use Rattle.serial.specs.Feeding.{IsOrigin, HasGiven, IsOwnStop, Feeds, MayBeTaken, IsOfInput, IsGivenOrHeld, turns_left}
+use Rattle.serial.proofs.InputLaws.{told_inside, takeable-append, released}
 use Rattle.serial.proofs.OrderLaws.{come_in_order, are_few}
 
 -- Each packet that can be taken is one that the plan names.
@@ -151,9 +149,9 @@ consumes_on (Some first) None c xs ys f g = absurd f
 consumes_on (Some first) (Some second) None xs ys f g = absurd g
 consumes_on (Some first) (Some second) (Some third) xs ys f g = f ∙ ap (λ zs. xs ++ zs) g ∙ sym (append_assoc xs ys third)
 
-pub given_on : {R : Type 0} (remaining : R → Option (List ℕ)) (p : PlanValue) (i : ℕ) (start : Option (List ℕ)) (old new : SerialInput R) (given more : List Stamped)
-    → HasGiven remaining p i start old given → ReadsOn remaining p old new more → new.origin ≡ old.origin → HasGiven remaining p i start new (given ++ more)
-given_on remaining p i start old new given more has reads origin =
+pub given_on : {R : Type 0} (remaining : R → Option (List ℕ)) (p : PlanValue) (i : ℕ) (start : Option (List ℕ)) (old new : SerialInput R) (given : List Stamped)
+    → HasGiven remaining p i start old given → ReadsOn remaining p old new → new.origin ≡ old.origin → HasGiven remaining p i start new given
+given_on remaining p i start old new given has reads origin =
     let b = has.read in
     let on = reads b.0 given b.2 in
     let P : OriginValue → Type 0 = IsOrigin p i in
@@ -161,6 +159,19 @@ given_on remaining p i start old new given more has reads origin =
       origin = subst P (sym origin) has.origin;
       read = (b.0 ++ on.0, consumes_on start (remaining old.source) (remaining new.source) b.0 on.0 b.1 on.1, on.2);
     }
+
+-- what an input held was given
+pub given_released : {R : Type 0} (remaining : R → Option (List ℕ)) (p : PlanValue) (i : ℕ) (start : Option (List ℕ)) (x : SerialInput R) (given : List Stamped) (item : Stamped)
+    → x.held ≡ Some item → HasGiven remaining p i start x given → HasGiven remaining p i start (record x { held = None }) (given ++ item ∷ [])
+given_released remaining p i start x given item held has =
+    let b = has.read in
+    let now = released p x.origin x.reader x.held x.report (IsAtEnd (remaining x.source)) b.0 given b.2.0 b.2.1 in
+    let P : Option Stamped → Type 0 = λ o. HasLooked p x.origin x.reader None x.report (IsAtEnd (remaining x.source)) b.0 (given ++ option_to_list o) b.2.0 in
+    record { origin = has.origin; read = (b.0, b.1, (b.2.0, subst P held now)) }
+
+pub some_held : (held : Option Stamped) → IsSome held → (item : Stamped) × (held ≡ Some item)
+some_held None some = let bad : false ≡ true = some in cc
+some_held (Some item) some = (item, refl)
 
 -- what was given isn't too much
 inside_given : {R : Type 0} (remaining : R → Option (List ℕ)) (p : PlanValue) (i : ℕ) (start : Option (List ℕ)) (x : SerialInput R) (given : List Stamped)
@@ -195,62 +206,49 @@ next_may_be_taken remaining p h i start x item opened has =
 
 -- it is closed in the multiplex, where nothing is left of it
 pub feeds_closed : {R : Type 0} (remaining : R → Option (List ℕ)) (p : PlanValue) (h : List Event) (i : ℕ) (start : Option (List ℕ)) (x : SerialInput R)
-    → HasGiven remaining p i start x (taken i h) → IsDone x → (x.report.stopped ≡ Some Gate → ⊥) → Feeds remaining p (Close i ∷ h) i start (record x { is_closed = true })
-feeds_closed remaining p h i start x has done unleft = record {
+    → HasGiven remaining p i start x (taken i h) → IsDone x → IsOwnStop x.report.stopped → Feeds remaining p (Close i ∷ h) i start (record x { is_closed = true })
+feeds_closed remaining p h i start x has done own = record {
   given = record { origin = has.origin; read = has.read };
   closed = sym (ap (λ b. b || is_closed i h) (eq-eqb i i refl));
   over = λ e. record { framer = done.framer; ahead = done.ahead; held = done.held };
-  unleft = unleft;
+  own = own;
 }
 
--- its next packet is taken
+-- the packet that it held is taken
 feeds_taken : {R : Type 0} (remaining : R → Option (List ℕ)) (p : PlanValue) (h : List Event) (i : ℕ) (start : Option (List ℕ)) (x : SerialInput R) (item : Stamped)
-    → HasGiven remaining p i start x (taken i h ++ item ∷ []) → is_closed i h ≡ false → x.is_closed ≡ is_closed i h → (x.report.stopped ≡ Some Gate → ⊥) → Feeds remaining p (Took i item ∷ h) i start x
-feeds_taken remaining p h i start x item has opened closed unleft =
-    let P : List Stamped → Type 0 = HasGiven remaining p i start x in
+    → x.held ≡ Some item → HasGiven remaining p i start x (taken i h) → is_closed i h ≡ false → x.is_closed ≡ is_closed i h → IsOwnStop x.report.stopped
+    → Feeds remaining p (Took i item ∷ h) i start (record x { held = None })
+feeds_taken remaining p h i start x item held has opened closed own =
+    let P : List Stamped → Type 0 = HasGiven remaining p i start (record x { held = None }) in
     let now : taken i (Took i item ∷ h) ≡ taken i h ++ item ∷ [] = ap (λ b. if b then taken i h ++ item ∷ [] else taken i h) (eq-eqb i i refl) in
     record {
-      given = subst P (sym now) has;
+      given = subst P (sym now) (given_released remaining p i start x (taken i h) item held has);
       closed = closed;
       over = λ e. absurd (false≢true (sym opened ∙ sym closed ∙ e));
-      unleft = unleft;
+      own = own;
     }
 
-hold_read : (plan : PlanValue) (o : OriginValue) (reader : ReaderValue) (held : Option Stamped) (report : Report) (at_end : Type 0) (bytes : List ℕ) (given : List Stamped) (item : Stamped) (looked : List Item)
-    → held ≡ None → HasLooked plan o reader held report at_end bytes (given ++ item ∷ []) looked → HasLooked plan o reader (Some item) report at_end bytes given looked
-hold_read plan o reader held report at_end bytes given item looked none has = record {
-  told = has.told;
-  given_is = has.given_is ∙ ap (λ v. (given ++ item ∷ []) ++ option_to_list v) none ∙ append-nil (given ++ item ∷ []);
-  counts = has.counts;
+-- it is still held
+feeds_held : {R : Type 0} (remaining : R → Option (List ℕ)) (p : PlanValue) (h : List Event) (i : ℕ) (start : Option (List ℕ)) (x : SerialInput R) (st : Stream)
+    → HasGiven remaining p i start x (taken i h) → is_closed i h ≡ false → x.is_closed ≡ is_closed i h → IsOwnStop x.report.stopped → Feeds remaining p (Full i st ∷ h) i start x
+feeds_held remaining p h i start x st has opened closed own = record {
+  given = has;
+  closed = closed;
+  over = λ e. absurd (false≢true (sym opened ∙ sym closed ∙ e));
+  own = own;
 }
 
--- its next packet is held
-feeds_held : {R : Type 0} (remaining : R → Option (List ℕ)) (p : PlanValue) (h : List Event) (i : ℕ) (start : Option (List ℕ)) (x : SerialInput R) (item : Stamped) (st : Stream)
-    → x.held ≡ None → HasGiven remaining p i start x (taken i h ++ item ∷ []) → is_closed i h ≡ false → x.is_closed ≡ is_closed i h → (x.report.stopped ≡ Some Gate → ⊥)
-    → Feeds remaining p (Full i st ∷ h) i start (record x { held = Some item })
-feeds_held remaining p h i start x item st none has opened closed unleft =
-    let b = has.read in
-    record {
-      given = record {
-        origin = has.origin;
-        read = (b.0, b.1, (b.2.0, hold_read p x.origin x.reader x.held x.report (IsAtEnd (remaining x.source)) b.0 (taken i h) item b.2.0 none b.2.1));
-      };
-      closed = closed;
-      over = λ e. absurd (false≢true (sym opened ∙ sym closed ∙ e));
-      unleft = unleft;
-    }
-
 pub feeds_given : {R : Type 0} (remaining : R → Option (List ℕ)) (p : PlanValue) (before after : History) (i : ℕ) (start : Option (List ℕ)) (x y : SerialInput R) (item : Stamped)
-    → IsGivenOrHeld before after i x y item → x.held ≡ None → HasGiven remaining p i start x (taken i before.events ++ item ∷ []) → is_closed i before.events ≡ false
-    → x.is_closed ≡ is_closed i before.events → (x.report.stopped ≡ Some Gate → ⊥) → Feeds remaining p after.events i start y
-feeds_given remaining p before after i start x y item (inl is) none has opened closed unleft =
+    → IsGivenOrHeld before after i x y item → x.held ≡ Some item → HasGiven remaining p i start x (taken i before.events) → is_closed i before.events ≡ false
+    → x.is_closed ≡ is_closed i before.events → IsOwnStop x.report.stopped → Feeds remaining p after.events i start y
+feeds_given remaining p before after i start x y item (inl is) held has opened closed own =
     let P : History → Type 0 = λ v. Feeds remaining p v.events i start y in
     let Q : SerialInput _ → Type 0 = Feeds remaining p (Took i item ∷ before.events) i start in
-    subst P (sym is.0) (subst Q (sym is.1) (feeds_taken remaining p before.events i start x item has opened closed unleft))
-feeds_given remaining p before after i start x y item (inr is) none has opened closed unleft =
+    subst P (sym is.0) (subst Q (sym is.1) (feeds_taken remaining p before.events i start x item held has opened closed own))
+feeds_given remaining p before after i start x y item (inr is) held has opened closed own =
     let P : History → Type 0 = λ v. Feeds remaining p v.events i start y in
     let Q : SerialInput _ → Type 0 = Feeds remaining p (Full i is.0 ∷ before.events) i start in
-    subst P (sym is.1) (subst Q (sym is.2) (feeds_held remaining p before.events i start x item is.0 none has opened closed unleft))
+    subst P (sym is.1) (subst Q (sym is.2) (feeds_held remaining p before.events i start x is.0 has opened closed own))
 
 -- there is a turn less
 

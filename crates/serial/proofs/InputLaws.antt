@@ -1,9 +1,9 @@
 -- What an input keeps while it is read.
-use Rattle.std.proofs.Common.{◌≡◌, ◌≢◌, ℕ, ◌+◌, ◌<◌, ◌≤◌, List, [], ◌∷◌, ◌++◌, length, refl, sym, ◌∙◌, ap, subst, arith, append_assoc, length-append}
+use Rattle.std.proofs.Common.{◌≡◌, ◌≢◌, ℕ, zero, suc, ◌+◌, ◌<◌, ◌≤◌, List, [], ◌∷◌, ◌++◌, length, drop, refl, sym, ◌∙◌, ap, subst, arith, append_assoc, length-append}
 use Rattle.std.specs.Prelude.{Option, Some, None, IfSome, IsSome, if◌then◌else◌, Bool, true, false, unwrap_or}
 use Rattle.std.proofs.lemmas.Option.{none-some}
 use Rattle.std.specs.Option.{option_to_list}
-use Rattle.std.specs.List.{cons_option, sum_by, AllByRecursion}
+use Rattle.std.specs.List.{cons_option, slice_get, sum_by, AllByRecursion}
 use Rattle.std.proofs.lemmas.List.{append-nil}
 use Rattle.std.proofs.lemmas.List.Elements.{filter_map-append}
 use Rattle.std.proofs.lemmas.List.Sums.{sum_by-cons, sum_by-append, sum_by-le-sum_by}
@@ -15,12 +15,12 @@ use Rattle.tspkt.proofs.FramingLaws.{begins_framed, whole_framed}
 use Rattle.plan.specs.Build.{PlanValue}
 use Rattle.serial.specs.declared.report.Report.{Report}
 use Rattle.serial.specs.declared.report.Stop.{Stop}
-use Rattle.serial.specs.declared.report.Stop.TheVariants.{TooMuch}
+use Rattle.serial.specs.declared.report.Stop.TheVariants.{ReadFailed, TooMuch}
 use Rattle.serial.specs.declared.serial_input.SerialInput.{SerialInput}
 use Rattle.serial.specs.Counting.{sum_within, with_counts, nothing_counted}
 use Rattle.serial.specs.Takeable.{OriginValue, is_well_formed, is_named, taken_of, takeable, counted_of}
 use Rattle.serial.specs.Reading.{ReaderValue, new_reader, without_framer, IsPlaced, IsReader, IsInputFramer, Feeds, Finishes, IsFull}
-use Rattle.serial.specs.InputReading.{IsReading, IsOver, HasTold, HasLooked, HasRead, ReadsOn, BeginsTakeable}
+use Rattle.serial.specs.InputReading.{IsReading, IsOver, HasTold, HasLooked, HasRead, ReadsOn, BeginsTakeable, BeginsFramed}
 use Rattle.std.specs.Io.KnownBytes.{Consumes}
 use Rattle.serial.proofs.KnownLaws.{consumes_on, consumes_nothing}
 use Rattle.serial.proofs.ItemLaws.{weight, weight-framed, placed_from, all_front}
@@ -66,21 +66,41 @@ given_begins plan o reader held report at_end bytes given looked h =
     let all = front_begins plan o bytes (takeable plan o looked) (takeable plan o reader.ahead) cut in
     front_begins plan o bytes given (option_to_list held) (subst (BeginsTakeable plan o bytes) h.given_is all)
 
+-- what was told begins the framing of the bytes
+told_framed : (plan : PlanValue) (o : OriginValue) (framer : Option FramerState) (told : List Item) (bytes : List ℕ) (stopped : Option Stop) (at_end : Type 0) → HasTold plan o framer told bytes stopped at_end → BeginsFramed bytes at_end told
+told_framed plan o None told bytes stopped at_end h = h.begun
+told_framed plan o (Some f) told bytes stopped at_end h = λ more none. begins_framed f told bytes h.stride h.same more
+
+front_framed : (bytes : List ℕ) (at_end : Type 0) (xs ys : List Item) → BeginsFramed bytes at_end (xs ++ ys) → BeginsFramed bytes at_end xs
+front_framed bytes at_end xs ys h = λ more none. let b = h more none in (ys ++ b.0, sym (append_assoc xs ys b.0) ∙ b.1)
+
+-- and so does what was looked at
+pub looked_framed : (plan : PlanValue) (o : OriginValue) (reader : ReaderValue) (held : Option Stamped) (report : Report) (at_end : Type 0) (bytes : List ℕ) (given : List Stamped) (looked : List Item) → HasLooked plan o reader held report at_end bytes given looked → BeginsFramed bytes at_end looked
+looked_framed plan o reader held report at_end bytes given looked h =
+    front_framed bytes at_end looked reader.ahead (told_framed plan o reader.framer (looked ++ reader.ahead) bytes report.stopped at_end h.told)
+
+-- of an input that is still read also where a piece more follows
+reading_framed : (plan : PlanValue) (o : OriginValue) (framer : Option FramerState) (told : List Item) (bytes piece : List ℕ) (stopped : Option Stop) (at_end at_last : Type 0) → IsSome framer → HasTold plan o framer told bytes stopped at_end → BeginsFramed (bytes ++ piece) at_last told
+reading_framed plan o None told bytes piece stopped at_end at_last going h = let bad : false ≡ true = going in cc
+reading_framed plan o (Some f) told bytes piece stopped at_end at_last going h = λ more none.
+    let b = begins_framed f told bytes h.stride h.same (piece ++ more) in (b.0, b.1 ∙ ap (framed 188) (sym (append_assoc bytes piece more)))
+
 some_same : {X : Type 0} (x y : X) → Some x ≡ Some y → x ≡ y
 some_same x y e = ap (λ (o : Option _). unwrap_or o x) e
 
--- an input that is left, some bytes later
-pub left_over : (plan : PlanValue) (o : OriginValue) (reader new : ReaderValue) (held : Option Stamped) (report : Report) (at_end at_last : Type 0) (bytes piece : List ℕ) (given : List Stamped) (looked : List Item) (cause : Stop) → new ≡ without_framer → (cause ≡ TooMuch → 3154116608 < length (bytes ++ piece)) → HasLooked plan o reader held report at_end bytes given looked → HasLooked plan o new held (record report { stopped = Some cause }) at_last (bytes ++ piece) given looked
-left_over plan o reader new held report at_end at_last bytes piece given looked cause gone full h =
+left : (plan : PlanValue) (o : OriginValue) (reader new : ReaderValue) (held : Option Stamped) (report : Report) (at_end at_last : Type 0) (bytes piece : List ℕ) (given : List Stamped) (looked : List Item) (cause : Stop) → new ≡ without_framer → (cause ≡ TooMuch → 3154116608 < length (bytes ++ piece)) → BeginsFramed (bytes ++ piece) at_last looked → (cause ≡ ReadFailed → takeable plan o looked ≡ takeable plan o (framed 188 (bytes ++ piece))) → HasLooked plan o reader held report at_end bytes given looked → HasLooked plan o new held (record report { stopped = Some cause }) at_last (bytes ++ piece) given looked
+left plan o reader new held report at_end at_last bytes piece given looked cause gone full framing all_taken h =
     let begins = told_begins plan o reader.framer (looked ++ reader.ahead) bytes report.stopped at_end h.told in
     let cut = subst (BeginsTakeable plan o bytes) (takeable-append plan o looked reader.ahead) begins in
     let front = front_begins plan o bytes (takeable plan o looked) (takeable plan o reader.ahead) cut in
     let inside = told_inside plan o reader.framer (looked ++ reader.ahead) bytes report.stopped at_end h.told in
     let over : IsOver plan o (looked ++ []) (bytes ++ piece) (Some cause) at_last = record {
       begins = subst (λ v. BeginsTakeable plan o (bytes ++ piece) (takeable plan o v)) (sym (append-nil looked)) (later_begins plan o bytes piece (takeable plan o looked) front);
+      begun = subst (BeginsFramed (bytes ++ piece) at_last) (sym (append-nil looked)) framing;
       framed_bytes = (inside.0, reader.ahead ++ inside.1, inside.2, ap (λ v. v ++ (reader.ahead ++ inside.1)) (append-nil looked) ∙ sym (append_assoc looked reader.ahead inside.1) ∙ inside.3);
       ended = λ e. absurd (none-some cause (sym e));
       too_much = λ e. full (some_same cause TooMuch e);
+      failed = λ e. ap (takeable plan o) (append-nil looked) ∙ all_taken (some_same cause ReadFailed e);
     } in
     record {
       told = subst (λ (r : ReaderValue). HasTold plan o r.framer (looked ++ r.ahead) (bytes ++ piece) (Some cause) at_last) (sym gone) over;
@@ -88,11 +108,18 @@ left_over plan o reader new held report at_end at_last bytes piece given looked 
       counts = record { framed = h.counts.framed; malformed = h.counts.malformed; unmapped = h.counts.unmapped; bad = h.counts.bad; losses = h.counts.losses; lost = h.counts.lost };
     }
 
--- the same, with no bytes more
-pub left_now : (plan : PlanValue) (o : OriginValue) (reader new : ReaderValue) (held : Option Stamped) (report : Report) (at_end at_last : Type 0) (bytes : List ℕ) (given : List Stamped) (looked : List Item) (cause : Stop) → new ≡ without_framer → cause ≢ TooMuch → HasLooked plan o reader held report at_end bytes given looked → HasLooked plan o new held (record report { stopped = Some cause }) at_last bytes given looked
-left_now plan o reader new held report at_end at_last bytes given looked cause gone other h =
-    subst (λ v. HasLooked plan o new held (record report { stopped = Some cause }) at_last v given looked) (append-nil bytes)
-    (left_over plan o reader new held report at_end at_last bytes [] given looked cause gone (λ e. absurd (other e)) h)
+-- an input that is left while it is read, some bytes later
+pub left_over : (plan : PlanValue) (o : OriginValue) (reader new : ReaderValue) (held : Option Stamped) (report : Report) (at_end at_last : Type 0) (bytes piece : List ℕ) (given : List Stamped) (looked : List Item) (cause : Stop) → new ≡ without_framer → (cause ≡ TooMuch → 3154116608 < length (bytes ++ piece)) → cause ≢ ReadFailed → IsSome reader.framer → HasLooked plan o reader held report at_end bytes given looked → HasLooked plan o new held (record report { stopped = Some cause }) at_last (bytes ++ piece) given looked
+left_over plan o reader new held report at_end at_last bytes piece given looked cause gone full unfailed going h =
+    let framing = reading_framed plan o reader.framer (looked ++ reader.ahead) bytes piece report.stopped at_end at_last going h.told in
+    left plan o reader new held report at_end at_last bytes piece given looked cause gone full (front_framed (bytes ++ piece) at_last looked reader.ahead framing) (λ e. absurd (unfailed e)) h
+
+-- an input that is left, with no bytes more
+pub left_now : (plan : PlanValue) (o : OriginValue) (reader new : ReaderValue) (held : Option Stamped) (report : Report) (at_end : Type 0) (bytes : List ℕ) (given : List Stamped) (looked : List Item) (cause : Stop) → new ≡ without_framer → cause ≢ TooMuch → (cause ≡ ReadFailed → takeable plan o looked ≡ takeable plan o (framed 188 bytes)) → HasLooked plan o reader held report at_end bytes given looked → HasLooked plan o new held (record report { stopped = Some cause }) at_end bytes given looked
+left_now plan o reader new held report at_end bytes given looked cause gone other all_taken h =
+    let framing = subst (λ v. BeginsFramed v at_end looked) (sym (append-nil bytes)) (looked_framed plan o reader held report at_end bytes given looked h) in
+    subst (λ v. HasLooked plan o new held (record report { stopped = Some cause }) at_end v given looked) (append-nil bytes)
+    (left plan o reader new held report at_end at_end bytes [] given looked cause gone (λ e. absurd (other e)) framing (λ e. all_taken e ∙ ap (λ v. takeable plan o (framed 188 v)) (sym (append-nil bytes))) h)
 
 -- a piece that doesn't fit makes the bytes too many
 pub full_bytes : (plan : PlanValue) (o : OriginValue) (framer : Option FramerState) (told : List Item) (bytes piece : List ℕ) (stopped : Option Stop) (at_end : Type 0) → HasTold plan o framer told bytes stopped at_end → IsFull framer piece → 3154116608 < length (bytes ++ piece)
@@ -130,6 +157,17 @@ if_some_at P o x e h = subst (λ v. IfSome v P) e h
 -- the items ahead of a framer that told nothing
 told_before : (looked ahead : List Item) → ahead ≡ [] → looked ≡ looked ++ ahead
 told_before looked ahead none = sym (append-nil looked) ∙ ap (λ v. looked ++ v) (sym none)
+
+-- where no item is ahead, all packets of the bytes so far were looked at
+pub all_looked : (plan : PlanValue) (o : OriginValue) (framer : Option FramerState) (looked ahead : List Item) (bytes : List ℕ) (stopped : Option Stop) (at_end : Type 0) → ahead ≡ [] → IsSome framer → HasTold plan o framer (looked ++ ahead) bytes stopped at_end → takeable plan o looked ≡ takeable plan o (framed 188 bytes)
+all_looked plan o None looked ahead bytes stopped at_end none going h = let bad : false ≡ true = going in cc
+all_looked plan o (Some f) looked ahead bytes stopped at_end none going h =
+    let told = looked ++ ahead in
+    ap (takeable plan o) (told_before looked ahead none)
+    ∙ sym (append-nil (takeable plan o told))
+    ∙ ap (λ v. takeable plan o told ++ v) (sym (nothing_takeable plan o (still_to_tell f []) h.prompt))
+    ∙ sym (takeable-append plan o told (still_to_tell f []))
+    ∙ ap (takeable plan o) (whole_framed f told (told ++ still_to_tell f []) bytes h.stride h.same refl)
 
 fed_told : (plan : PlanValue) (o : OriginValue) (framer : Option FramerState) (looked ahead : List Item) (new : ReaderValue) (bytes piece : List ℕ) (stopped : Option Stop) (at_end : Type 0) → ahead ≡ [] → IsSome framer → Feeds framer piece new → HasTold plan o framer (looked ++ ahead) bytes stopped at_end → HasTold plan o new.framer (looked ++ new.ahead) (bytes ++ piece) stopped at_end
 fed_told plan o None looked ahead new bytes piece stopped at_end none going feeds h = let bad : false ≡ true = going in cc
@@ -173,9 +211,11 @@ finished_told plan o (Some f) looked ahead new bytes stopped at_end none going e
     ∙ append-nil (takeable plan o (looked ++ ahead)) in
     let over : IsOver plan o (looked ++ new.ahead) bytes stopped at_end = record {
       begins = subst (BeginsTakeable plan o bytes) (sym same) (told_begins plan o (Some f) (looked ++ ahead) bytes stopped at_end h);
+      begun = λ more none. ([], append-nil (looked ++ new.ahead) ∙ whole ∙ ap (framed 188) (sym (ap (λ v. bytes ++ v) (none there) ∙ append-nil bytes)));
       framed_bytes = (bytes, [], h.within, append-nil (looked ++ new.ahead) ∙ whole);
       ended = λ e. (whole, there);
       too_much = λ e. absurd (none-some TooMuch (sym h.goes_on ∙ e));
+      failed = λ e. absurd (none-some ReadFailed (sym h.goes_on ∙ e));
     } in
     subst (λ v. HasTold plan o v (looked ++ new.ahead) bytes stopped at_end) (sym ends.0) over
 
@@ -233,13 +273,18 @@ lost_le plan o (Bad place) = omega arith
 lost_le plan o (SyncLoss place) = omega arith
 lost_le plan o (Lost count) = omega arith
 
+sum_within-add : (a b : ℕ) → a + b ≤ 18446744073709551615 → sum_within a b ≡ a + b
+sum_within-add a zero small = omega arith
+sum_within-add a (suc b) small = omega arith
+
 -- a count with that of one item more, which doesn't reach its end
 count_step : (f : Item → ℕ) (looked : List Item) (item : Item) (r : ℕ) → ((x : Item) → f x ≤ weight x) → sum_by weight looked + weight item ≤ 6308233216 → r ≡ sum_by f looked → sum_within r (f item) ≡ sum_by f (looked ++ item ∷ [])
 count_step f looked item r le bound e =
     let all = sum_by-append f looked (item ∷ []) in
     let one = sum_by-cons f item [] in
     let small = sum_by-le-sum_by f weight looked le in
-    omega (arith, all, one, small, le item, bound, e)
+    let sum = sum_within-add r (f item) (omega (arith, small, le item, bound, e)) in
+    omega (arith, all, one, sum, e)
 
 -- what is left of the weight of all items
 weight_left : (looked ahead later : List Item) (item : Item) (inside : List ℕ) → length inside ≤ 3154116608 → (looked ++ item ∷ ahead) ++ later ≡ framed 188 inside → sum_by weight looked + weight item ≤ 6308233216
@@ -256,7 +301,7 @@ one_taken None = refl
 one_taken (Some x) = refl
 
 -- an input after one item more was looked at
-pub look_on : (plan : PlanValue) (o : OriginValue) (reader new : ReaderValue) (item : Item) (report : Report) (at_end : Type 0) (bytes : List ℕ) (given : List Stamped) (looked : List Item) → reader.ahead ≡ item ∷ new.ahead → new.framer ≡ reader.framer → HasLooked plan o reader None report at_end bytes given looked → HasLooked plan o new None (with_counts report (counted_of plan o item)) at_end bytes (given ++ option_to_list (taken_of plan o item)) (looked ++ item ∷ [])
+look_on : (plan : PlanValue) (o : OriginValue) (reader new : ReaderValue) (item : Item) (report : Report) (at_end : Type 0) (bytes : List ℕ) (given : List Stamped) (looked : List Item) → reader.ahead ≡ item ∷ new.ahead → new.framer ≡ reader.framer → HasLooked plan o reader None report at_end bytes given looked → HasLooked plan o new (taken_of plan o item) (with_counts report (counted_of plan o item)) at_end bytes given (looked ++ item ∷ [])
 look_on plan o reader new item report at_end bytes given looked ahead framer h =
     let inside = told_inside plan o reader.framer (looked ++ reader.ahead) bytes report.stopped at_end h.told in
     let bound = weight_left looked new.ahead inside.1 item inside.0 inside.2 (ap (λ v. (looked ++ v) ++ inside.1) (sym ahead) ∙ inside.3) in
@@ -267,8 +312,7 @@ look_on plan o reader new item report at_end bytes given looked ahead framer h =
       given_is =
           takeable-append plan o looked (item ∷ [])
           ∙ ap (λ v. v ++ takeable plan o (item ∷ [])) (h.given_is ∙ append-nil given)
-          ∙ ap (λ v. given ++ v) (one_taken (taken_of plan o item))
-          ∙ sym (append-nil (given ++ option_to_list (taken_of plan o item)));
+          ∙ ap (λ v. given ++ v) (one_taken (taken_of plan o item));
       counts = record {
         framed = count_step (λ x. (counted_of plan o x).framed) looked item report.framed (framed_le plan o) bound h.counts.framed;
         malformed = count_step (λ x. (counted_of plan o x).malformed) looked item report.malformed (malformed_le plan o) bound h.counts.malformed;
@@ -279,16 +323,20 @@ look_on plan o reader new item report at_end bytes given looked ahead framer h =
       };
     }
 
+first_of : {X : Type 0} (x : X) (xs : List X) → Some x ≡ slice_get xs 0 → xs ≡ x ∷ drop 1 xs
+first_of x [] e = cc
+first_of x (y ∷ xs) e = ap (λ v. v ∷ xs) (sym (some_same x y e))
+
 -- the same, of values that are those
-pub looked_on : (plan : PlanValue) (o : OriginValue) (reader new : ReaderValue) (item : Item) (held : Option Stamped) (report after : Report) (found : Option Stamped) (at_end : Type 0) (bytes : List ℕ) (given : List Stamped) (looked : List Item) → held ≡ None → reader.ahead ≡ item ∷ new.ahead → new.framer ≡ reader.framer → found ≡ taken_of plan o item → after ≡ with_counts report (counted_of plan o item) → HasLooked plan o reader held report at_end bytes given looked → HasLooked plan o new held after at_end bytes (given ++ option_to_list found) (looked ++ item ∷ [])
-looked_on plan o reader new item held report after found at_end bytes given looked none ahead framer found_is after_is h =
+pub looked_on : (plan : PlanValue) (o : OriginValue) (reader new : ReaderValue) (item : Item) (held found : Option Stamped) (report after : Report) (at_end : Type 0) (bytes : List ℕ) (given : List Stamped) (looked : List Item) → held ≡ None → Some item ≡ slice_get reader.ahead 0 → new ≡ record reader { ahead = drop 1 reader.ahead } → found ≡ taken_of plan o item → after ≡ with_counts report (counted_of plan o item) → HasLooked plan o reader held report at_end bytes given looked → HasLooked plan o new found after at_end bytes given (looked ++ item ∷ [])
+looked_on plan o reader new item held found report after at_end bytes given looked none first new_is found_is after_is h =
     let counts = with_counts report (counted_of plan o item) in
-    let packet = taken_of plan o item in
+    let ahead : reader.ahead ≡ item ∷ new.ahead = first_of item reader.ahead first ∙ ap (λ (v : ReaderValue). item ∷ v.ahead) (sym new_is) in
+    let framer : new.framer ≡ reader.framer = ap (λ (v : ReaderValue). v.framer) new_is in
     let start = subst (λ v. HasLooked plan o reader v report at_end bytes given looked) none h in
     let one = look_on plan o reader new item report at_end bytes given looked ahead framer start in
-    let two = subst (λ v. HasLooked plan o new v counts at_end bytes (given ++ option_to_list packet) (looked ++ item ∷ [])) (sym none) one in
-    let three = subst (λ v. HasLooked plan o new held v at_end bytes (given ++ option_to_list packet) (looked ++ item ∷ [])) (sym after_is) two in
-    subst (λ v. HasLooked plan o new held after at_end bytes (given ++ option_to_list v) (looked ++ item ∷ [])) (sym found_is) three
+    let two = subst (λ v. HasLooked plan o new (taken_of plan o item) v at_end bytes given (looked ++ item ∷ [])) (sym after_is) one in
+    subst (λ v. HasLooked plan o new v after at_end bytes given (looked ++ item ∷ [])) (sym found_is) two
 
 told_elsewhere : (plan : PlanValue) (o : OriginValue) (framer : Option FramerState) (told : List Item) (bytes : List ℕ) (stopped : Option Stop) (at_end at_last : Type 0) → IsSome framer → HasTold plan o framer told bytes stopped at_end → HasTold plan o framer told bytes stopped at_last
 told_elsewhere plan o None told bytes stopped at_end at_last going h = let bad : false ≡ true = going in cc
@@ -328,32 +376,30 @@ fresh_input plan o reader report at_end reader_is report_is =
     subst (λ v. HasLooked plan o v None report at_end [] [] []) (sym reader_is)
     (subst (λ v. HasLooked plan o new_reader None v at_end [] [] []) (sym report_is) (fresh_looked plan o at_end))
 
--- a packet that was held is given
-pub held_given : (plan : PlanValue) (o : OriginValue) (reader : ReaderValue) (held : Stamped) (report : Report) (at_end : Type 0) (bytes : List ℕ) (given : List Stamped) (looked : List Item) → HasLooked plan o reader (Some held) report at_end bytes given looked → HasLooked plan o reader None report at_end bytes (given ++ held ∷ []) looked
-held_given plan o reader held report at_end bytes given looked h = record {
+-- what was held is given
+pub released : (plan : PlanValue) (o : OriginValue) (reader : ReaderValue) (held : Option Stamped) (report : Report) (at_end : Type 0) (bytes : List ℕ) (given : List Stamped) (looked : List Item) → HasLooked plan o reader held report at_end bytes given looked → HasLooked plan o reader None report at_end bytes (given ++ option_to_list held) looked
+released plan o reader held report at_end bytes given looked h = record {
   told = h.told;
-  given_is = h.given_is ∙ sym (append-nil (given ++ held ∷ []));
+  given_is = h.given_is ∙ sym (append-nil (given ++ option_to_list held));
   counts = h.counts;
 }
 
 -- Reading, and then items that were told.
 
-pub reads_nothing : {R : Type 0} (remaining : R → Option (List ℕ)) (plan : PlanValue) (a : SerialInput R) → ReadsOn remaining plan a a []
+pub reads_nothing : {R : Type 0} (remaining : R → Option (List ℕ)) (plan : PlanValue) (a : SerialInput R) → ReadsOn remaining plan a a
 reads_nothing remaining plan a bytes given h =
-    ([], consumes_nothing (remaining a.source), subst (λ v. HasRead remaining plan a v (given ++ [])) (sym (append-nil bytes)) (subst (λ v. HasRead remaining plan a bytes v) (sym (append-nil given)) h))
+    ([], consumes_nothing (remaining a.source), subst (λ v. HasRead remaining plan a v given) (sym (append-nil bytes)) h)
 
-pub reads_told : {R : Type 0} (remaining : R → Option (List ℕ)) (plan : PlanValue) (a b m : SerialInput R) (found : Option Stamped) → ReadsOn remaining plan a b [] → ((bytes : List ℕ) (given : List Stamped) → HasRead remaining plan b bytes given → HasRead remaining plan m bytes (given ++ option_to_list found)) → m.source ≡ b.source → ReadsOn remaining plan a m (option_to_list found)
-reads_told remaining plan a b m found reads told same bytes given h =
+pub reads_told : {R : Type 0} (remaining : R → Option (List ℕ)) (plan : PlanValue) (a b m : SerialInput R) → ReadsOn remaining plan a b → ((bytes : List ℕ) (given : List Stamped) → HasRead remaining plan b bytes given → HasRead remaining plan m bytes given) → m.source ≡ b.source → ReadsOn remaining plan a m
+reads_told remaining plan a b m reads told same bytes given h =
     let k = reads bytes given h in
-    let t = told (bytes ++ k.0) (given ++ []) k.2 in
-    (k.0, subst (λ v. Consumes (remaining a.source) (remaining v) k.0) (sym same) k.1, subst (λ v. HasRead remaining plan m (bytes ++ k.0) (v ++ option_to_list found)) (append-nil given) t)
+    (k.0, subst (λ v. Consumes (remaining a.source) (remaining v) k.0) (sym same) k.1, told (bytes ++ k.0) given k.2)
 
-pub reads_reads : {R : Type 0} (remaining : R → Option (List ℕ)) (plan : PlanValue) (a m d : SerialInput R) (found : Option Stamped) → found ≡ None → ReadsOn remaining plan a m (option_to_list found) → ReadsOn remaining plan m d [] → ReadsOn remaining plan a d []
-reads_reads remaining plan a m d found none reads more bytes given h =
+pub reads_reads : {R : Type 0} (remaining : R → Option (List ℕ)) (plan : PlanValue) (a m d : SerialInput R) → ReadsOn remaining plan a m → ReadsOn remaining plan m d → ReadsOn remaining plan a d
+reads_reads remaining plan a m d reads more bytes given h =
     let k = reads bytes given h in
-    let here = subst (λ v. HasRead remaining plan m (bytes ++ k.0) v) (ap (λ o. given ++ option_to_list o) none ∙ append-nil given) k.2 in
-    let r = more (bytes ++ k.0) given here in
-    (k.0 ++ r.0, consumes_on (remaining a.source) (remaining m.source) (remaining d.source) k.0 r.0 k.1 r.1, subst (λ v. HasRead remaining plan d v (given ++ [])) (append_assoc bytes k.0 r.0) r.2)
+    let r = more (bytes ++ k.0) given k.2 in
+    (k.0 ++ r.0, consumes_on (remaining a.source) (remaining m.source) (remaining d.source) k.0 r.0 k.1 r.1, subst (λ v. HasRead remaining plan d v given) (append_assoc bytes k.0 r.0) r.2)
 
 -- an input is told as too long only where it is
 pub told_too_much : (plan : PlanValue) (o : OriginValue) (framer : Option FramerState) (told : List Item) (bytes : List ℕ) (stopped : Option Stop) (at_end : Type 0) → HasTold plan o framer told bytes stopped at_end → stopped ≡ Some TooMuch → 3154116608 < length bytes

@@ -96,7 +96,7 @@ opened_input {R} remaining failures p i input reader x at is origin source repor
         };
         closed = opened;
         over = λ e. (let bad = sym opened ∙ e in cc);
-        unleft = λ e. (let bad = sym (ap (λ v. v.stopped) report) ∙ e in cc);
+        own = record { unleft = λ e. (let bad = sym (ap (λ v. v.stopped) report) ∙ e in cc); unrefused = λ e. (let bad = sym (ap (λ v. v.stopped) report) ∙ e in cc) };
       };
       told = tells;
     }

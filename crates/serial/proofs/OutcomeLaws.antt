@@ -1,5 +1,5 @@
 -- What comes of a run.
-use Rattle.std.proofs.Common.{ℕ, ◌≤◌, ◌≡◌, ◌⊎◌, List, [], ◌∷◌, ◌++◌, length, map, Option, None, Some, true, false, refl, ap, ◌∙◌, sym, subst, arith, inl, inr}
+use Rattle.std.proofs.Common.{ℕ, ◌+◌, ◌≤◌, ◌≡◌, ◌⊎◌, List, [], ◌∷◌, ◌++◌, length, map, Option, None, Some, true, false, refl, ap, ◌∙◌, sym, subst, arith, inl, inr}
 use Rattle.std.specs.Prelude.{IsSome}
 use Rattle.std.specs.List.{slice_get}
 use Rattle.std.specs.Io.KnownBytes.{Consumes, IsAtEnd, Appends}
@@ -11,6 +11,7 @@ use Rattle.std.specs.Option.{option_map, option_to_list}
 use Rattle.tspkt.specs.Framed.{FramerState, framed}
 use Rattle.tspkt.specs.declared.item.Item.{Item}
 use Rattle.tspkt.specs.declared.stamped.Stamped.{Stamped}
+use Rattle.request.specs.declared.stream.Stream.{Stream}
 use Rattle.request.specs.Request.{InputValue}
 use Rattle.plan.specs.Build.{PlanValue}
 use Rattle.mux.specs.declared.event.Event.{Event}
@@ -19,27 +20,29 @@ use Rattle.std.proofs.KnownBytes.{Appends-nil}
 use Rattle.mux.specs.Lawful.{IsLawfulRun}
 use Rattle.mux.specs.Faithful.{IsFinished}
 use Rattle.mux.specs.Totals.{IsTotals, IsCounts}
+use Rattle.mux.specs.declared.peak.Peak.{Peak}
+use Rattle.mux.specs.Peaks.{IsPeak}
 use Rattle.mux.specs.Headline.{IsSound}
 use Rattle.mux.proofs.Emitted.{length-emitted}
 use Rattle.analyse.specs.Faults.{faults}
 use Rattle.serial.specs.Failures.{FailsOnce}
 use Rattle.serial.specs.Takeable.{OriginValue, takeable, origin_of, CountsItems}
 use Rattle.serial.specs.Reading.{ReaderValue}
-use Rattle.serial.specs.InputReading.{HasTold, HasLooked, AllTellFailures}
+use Rattle.serial.specs.InputReading.{HasTold, HasLooked, BeginsTakeable, BeginsFramed, AllTellFailures}
 use Rattle.serial.specs.Feeding.{Feeds, AreUnstopped}
 use Rattle.serial.specs.Written.{Sends}
 use Rattle.serial.specs.Sending.{bytes_of, fault_count}
 use Rattle.serial.specs.Running.{AreFed, IsRunning, IsOver}
-use Rattle.serial.specs.Ending.{IsLast, AreReported}
-use Rattle.serial.specs.Outcome.{HasEnded, IsInputSummary, AreUnfailed, FailuresAreTold, HasRun, HasBegun}
+use Rattle.serial.specs.Ending.{IsLast, AreReported, ArePeaks}
+use Rattle.serial.specs.Outcome.{HasEnded, IsCounted, IsInputSummary, IsReadOn, AreReadOn, AreUnfailed, FailuresAreTold, HasRun, HasBegun}
 use Rattle.serial.specs.declared.report.Report.{Report}
 use Rattle.serial.specs.declared.report.Stop.{Stop}
-use Rattle.serial.specs.declared.report.Stop.TheVariants.{Gate, ReadFailed, TooMuch}
+use Rattle.serial.specs.declared.report.Stop.TheVariants.{Gate, Memory, ReadFailed, TooMuch}
 use Rattle.serial.specs.declared.serial_input.SerialInput.{SerialInput}
 use Rattle.serial.specs.declared.summary.InputSummary.{InputSummary}
 use Rattle.serial.specs.declared.summary.Summary.{Summary}
 use Rattle.serial.specs.declared.serial_run.SerialRun.{SerialRun}
-use Rattle.serial.proofs.InputLaws.{told_too_much}
+use Rattle.serial.proofs.InputLaws.{told_too_much, looked_framed, given_begins}
 use Rattle.serial.proofs.RunningLaws.{begun}
 use Rattle.serial.proofs.FaultBounds.{few_faults}
 use Rattle.serial.proofs.OpeningLaws.{push_cases, from_map}
@@ -73,6 +76,25 @@ reported_push {R} p h inputs summaries sources x s source are same totals last =
               let Q : SerialInput R → Type 0 = λ v. IsLast v s.report in
               subst P (sym end.1) (subst Q (sym ends.1) last))
         ]
+      ];
+}
+
+-- the peaks of the first so many streams
+pub record ArePeaksOfFirst (p : PlanValue) (h : List Event) (count : ℕ) (peaks : List Peak) : Type 0 where
+  pub length_is : length peaks ≡ count
+  pub each : (k : ℕ) (st : Stream) (x : Peak) → slice_get p.request.streams k ≡ Some st → slice_get peaks k ≡ Some x → IsPeak p h st x
+
+pub peaks_push : (p : PlanValue) (h : List Event) (count : ℕ) (peaks : List Peak) (x : Peak) → ArePeaksOfFirst p h count peaks
+    → ((st : Stream) → slice_get p.request.streams count ≡ Some st → IsPeak p h st x) → ArePeaksOfFirst p h (count + 1) (peaks ++ x ∷ [])
+peaks_push p h count peaks x are next = record {
+  length_is = omega (arith, are.length_is, length-append peaks (x ∷ []));
+  each = λ k st y at aty.
+      elim (push_cases peaks x k y aty) [
+        | inl there ↦ are.each k st y at there
+        | inr end ↦
+            (let P : Peak → Type 0 = IsPeak p h st in
+            let here : k ≡ count = end.0 ∙ are.length_is in
+            subst P (sym end.1) (next st (ap (slice_get p.request.streams) (sym here) ∙ at)))
       ];
 }
 
@@ -110,6 +132,19 @@ whole_of : (plan : PlanValue) (o : OriginValue) (framer : Option FramerState) (t
 whole_of plan o None told bytes stopped at_end e s h = h.ended s
 whole_of plan o (Some f) told bytes stopped at_end e s h = cc
 
+failed_of : (plan : PlanValue) (o : OriginValue) (framer : Option FramerState) (told : List Item) (bytes : List ℕ) (stopped : Option Stop) (at_end : Type 0)
+    → framer ≡ None → stopped ≡ Some ReadFailed → HasTold plan o framer told bytes stopped at_end → takeable plan o told ≡ takeable plan o (framed 188 bytes)
+failed_of plan o None told bytes stopped at_end e s h = h.failed s
+failed_of plan o (Some f) told bytes stopped at_end e s h = cc
+
+failed_input : (plan : PlanValue) (o : OriginValue) (reader : ReaderValue) (held : Option Stamped) (report : Report) (at_end : Type 0) (bytes : List ℕ) (given : List Stamped) (looked : List Item)
+    → HasLooked plan o reader held report at_end bytes given looked → reader.framer ≡ None → reader.ahead ≡ [] → held ≡ None → report.stopped ≡ Some ReadFailed
+    → given ≡ takeable plan o (framed 188 bytes)
+failed_input plan o reader held report at_end bytes given looked has framer ahead free stopped =
+    sym (append-nil given) ∙ ap (λ v. given ++ option_to_list v) (sym free) ∙ sym has.given_is
+    ∙ ap (takeable plan o) (sym (append-nil looked) ∙ ap (λ xs. looked ++ xs) (sym ahead))
+    ∙ failed_of plan o reader.framer (looked ++ reader.ahead) bytes report.stopped at_end framer stopped has.told
+
 pub whole_input : (plan : PlanValue) (o : OriginValue) (reader : ReaderValue) (held : Option Stamped) (report : Report) (at_end : Type 0) (bytes : List ℕ) (given : List Stamped) (looked : List Item)
     → HasLooked plan o reader held report at_end bytes given looked → reader.framer ≡ None → reader.ahead ≡ [] → held ≡ None → report.stopped ≡ None
     → (given ≡ takeable plan o (framed 188 bytes)) × CountsItems plan o (framed 188 bytes) report × at_end
@@ -134,12 +169,18 @@ some_read (Some first) None bytes all e used = absurd used
 some_read (Some first) (Some more) bytes all e used =
     omega (arith, ap length (sym (same_Some first all e) ∙ used), length-append bytes more)
 
+-- the origin of an input that is fed is that of the plan's input
+origin_same : {R : Type 0} (remaining : R → Option (List ℕ)) (p : PlanValue) (h : List Event) (i : ℕ) (input : InputValue) (start : Option (List ℕ)) (x : SerialInput R)
+    → slice_get p.request.inputs i ≡ Some input → Feeds remaining p h i start x → x.origin ≡ origin_of i input
+origin_same remaining p h i input start x at f =
+    let o = f.given.origin in
+    o.3 ∙ ap (origin_of i) (same_Some o.0 input (sym o.1 ∙ at))
+
 pub ended : {R : Type 0} (remaining : R → Option (List ℕ)) (p : PlanValue) (h : List Event) (i : ℕ) (input : InputValue) (start : Option (List ℕ)) (x : SerialInput R) (s : InputSummary) (all : List ℕ)
     → slice_get p.request.inputs i ≡ Some input → Feeds remaining p h i start x → x.is_closed ≡ true → s.report ≡ x.report → s.report.stopped ≡ None → start ≡ Some all
     → HasEnded p h i input all s
 ended remaining p h i input start x s all at f closed same unstopped known =
-    let o = f.given.origin in
-    let origin : x.origin ≡ origin_of i input = o.3 ∙ ap (origin_of i) (same_Some o.0 input (sym o.1 ∙ at)) in
+    let origin = origin_same remaining p h i input start x at f in
     let r = f.given.read in
     let done = f.over closed in
     let w = whole_input p x.origin x.reader x.held x.report (IsAtEnd (remaining x.source)) r.0 (taken i h) r.2.0 r.2.1 done.framer done.ahead done.held (ap (λ v. v.stopped) (sym same) ∙ unstopped) in
@@ -151,6 +192,58 @@ ended remaining p h i input start x s all at f closed same unstopped known =
     let E : Report → Type 0 = λ v. CountsItems p x.origin (framed 188 r.0) v in
     record { taken_is = subst P (sym bytes) (subst Q origin w.0); counts = subst C (sym bytes) (subst D origin (subst E (sym same) w.1)) }
 
+-- ---- what is said of each input
+
+open_counts : {R : Type 0} (p : PlanValue) (o : OriginValue) (items : List Item) (x : SerialInput R) (report : Report) (stopped : Option Stop)
+    → x.report.stopped ≡ stopped → x.is_closed ≡ false → IsLast x report → CountsItems p o items x.report → CountsItems p o items report
+open_counts p o items x report None is opened last has =
+    let C : Report → Type 0 = CountsItems p o items in
+    subst C (sym (last.left opened is))
+    (record { framed = has.framed; malformed = has.malformed; unmapped = has.unmapped; bad = has.bad; losses = has.losses; lost = has.lost })
+open_counts p o items x report (Some s) is opened last has =
+    let C : Report → Type 0 = CountsItems p o items in
+    let P : Option Stop → Type 0 = IsSome in
+    subst C (sym (last.stopped (subst P (sym is) refl))) has
+
+-- the last report has the counts
+last_counts : {R : Type 0} (p : PlanValue) (o : OriginValue) (items : List Item) (x : SerialInput R) (report : Report)
+    → IsLast x report → CountsItems p o items x.report → CountsItems p o items report
+last_counts p o items x report last has =
+    let C : Report → Type 0 = CountsItems p o items in
+    elim (cases_Bool x.is_closed) [
+      | inl closed ↦ subst C (sym (last.closed closed)) has
+      | inr opened ↦ open_counts p o items x report x.report.stopped refl opened last has
+    ]
+
+-- what begins the framing of the bytes that were read begins that of all bytes
+framed_all : (start rest : Option (List ℕ)) (bytes all : List ℕ) (looked : List Item) → start ≡ Some all → Consumes start rest bytes → BeginsFramed bytes (IsAtEnd rest) looked
+    → (later : List Item) × (looked ++ later ≡ framed 188 all)
+framed_all None rest bytes all looked e used begins = cc
+framed_all (Some first) None bytes all looked e used begins = absurd used
+framed_all (Some first) (Some more) bytes all looked e used begins =
+    let b = begins more (λ none. none) in
+    (b.0, b.1 ∙ ap (framed 188) (sym used ∙ same_Some first all e))
+
+counted : {R : Type 0} (remaining : R → Option (List ℕ)) (p : PlanValue) (h : List Event) (i : ℕ) (input : InputValue) (start : Option (List ℕ)) (x : SerialInput R) (s : InputSummary) (all : List ℕ)
+    → slice_get p.request.inputs i ≡ Some input → Feeds remaining p h i start x → IsLast x s.report → start ≡ Some all → IsCounted p h i input all s
+counted remaining p h i input start x s all at f last known =
+    let origin = origin_same remaining p h i input start x at f in
+    let r = f.given.read in
+    let items = r.2.0 in
+    let has = r.2.1 in
+    let begins = looked_framed p x.origin x.reader x.held x.report (IsAtEnd (remaining x.source)) r.0 (taken i h) items has in
+    let framing = framed_all start (remaining x.source) r.0 all items known r.1 begins in
+    let C : OriginValue → Type 0 = λ v. CountsItems p v items s.report in
+    record {
+      looked = items;
+      later = framing.0;
+      framing = framing.1;
+      counts = subst C origin (last_counts p x.origin items x s.report last has.counts);
+      held = x.held;
+      taken_is = ap (λ v. takeable p v items) (sym origin) ∙ has.given_is;
+      closed = λ e. (f.over (f.closed ∙ e)).held;
+    }
+
 pub input_summary : {R : Type 0} (remaining : R → Option (List ℕ)) (p : PlanValue) (h : List Event) (i : ℕ) (input : InputValue) (start : Option (List ℕ)) (x : SerialInput R) (s : InputSummary)
     → slice_get p.request.inputs i ≡ Some input → Feeds remaining p h i start x → IsTotals p i h s.totals → IsLast x s.report
     → IsInputSummary p h i input start s
@@ -160,11 +253,15 @@ input_summary remaining p h i input start x s at f totals last = record {
   ended = λ e all known.
       let u = unstopped x s.report x.report.stopped refl last e in
       ended remaining p h i input start x s all at f u.0 u.1 e known;
+  counted = λ all known. counted remaining p h i input start x s all at f last known;
   left = λ e.
       elim (cases_Bool x.is_closed) [
-        | inl closed ↦ absurd (f.unleft (ap (λ v. v.stopped) (sym (last.closed closed)) ∙ e))
+        | inl closed ↦ absurd (f.own.unleft (ap (λ v. v.stopped) (sym (last.closed closed)) ∙ e))
         | inr opened ↦ sym f.closed ∙ opened
       ];
+  unrefused = λ e.
+      let same = stopped_before x s.report Memory last e (λ bad. cc) in
+      f.own.unrefused (ap (λ v. v.stopped) (sym same) ∙ e);
   too_much = λ e all known.
       let same = stopped_before x s.report TooMuch last e (λ bad. cc) in
       let r = f.given.read in
@@ -172,6 +269,42 @@ input_summary remaining p h i input start x s at f totals last = record {
       let some = some_read start (remaining x.source) r.0 all known r.1 in
       omega (arith, much, some);
 }
+
+-- the source of an input was read on
+read_on : {R : Type 0} (remaining : R → Option (List ℕ)) (p : PlanValue) (h : List Event) (i : ℕ) (input : InputValue) (start : Option (List ℕ)) (x : SerialInput R) (s : InputSummary)
+    → slice_get p.request.inputs i ≡ Some input → Feeds remaining p h i start x → IsLast x s.report → IsReadOn p h i input start (remaining x.source) s
+read_on remaining p h i input start x s at f last =
+    let r = f.given.read in
+    let end = IsAtEnd (remaining x.source) in
+    let B : OriginValue → Type 0 = λ v. BeginsTakeable p v r.0 (taken i h) in
+    record {
+      bytes = r.0;
+      read = r.1;
+      begins = subst B (origin_same remaining p h i input start x at f) (given_begins p x.origin x.reader x.held x.report end r.0 (taken i h) r.2.0 r.2.1);
+      ended = λ e.
+          let u = unstopped x s.report x.report.stopped refl last e in
+          let done = f.over u.0 in
+          (whole_input p x.origin x.reader x.held x.report end r.0 (taken i h) r.2.0 r.2.1 done.framer done.ahead done.held (ap (λ v. v.stopped) (sym u.1) ∙ e)).2;
+      failed = λ e closed.
+          let same = stopped_before x s.report ReadFailed last e (λ bad. cc) in
+          let done = f.over (f.closed ∙ closed) in
+          let O : OriginValue → Type 0 = λ v. taken i h ≡ takeable p v (framed 188 r.0) in
+          subst O (origin_same remaining p h i input start x at f)
+          (failed_input p x.origin x.reader x.held x.report end r.0 (taken i h) r.2.0 r.2.1 done.framer done.ahead done.held (ap (λ v. v.stopped) (sym same) ∙ e));
+    }
+
+pub all_read_on : {R : Type 0} (remaining : R → Option (List ℕ)) (p : PlanValue) (h : List Event) (starts : List (Option (List ℕ))) (inputs : List (SerialInput R)) (summaries : List InputSummary) (sources : List R)
+    → AreFed remaining p h starts inputs → AreReported p h inputs summaries sources → AreReadOn p h starts (map remaining sources) summaries
+all_read_on {R} remaining p h starts inputs summaries sources fed are i input start left s at from to told =
+    let l = from_map remaining sources i left to in
+    let M : List R → Type 0 = λ v. slice_get v i ≡ Some l.0 in
+    let m = from_map (λ (y : SerialInput R). y.source) inputs i l.0 (subst M are.sources_are l.1) in
+    let x = m.0 in
+    let f = fed.each i x m.1 in
+    let P : Option (List ℕ) → Type 0 = λ v. Feeds remaining p h i v x in
+    let Q : Option (List ℕ) → Type 0 = λ v. IsReadOn p h i input start v s in
+    subst Q (ap remaining m.2 ∙ l.2)
+    (read_on remaining p h i input start x s at (subst P (same_Some f.0 start (sym f.1 ∙ from)) f.2) (are.reports i x s m.1 told))
 
 unstopped_one : {R : Type 0} (x : SerialInput R) (report : Report) (stopped : Option Stop) → x.report.stopped ≡ stopped → IsLast x report → (x.report.stopped ≡ Some Gate → ⊥)
     → (report.stopped ≡ None) ⊎ (report.stopped ≡ Some Gate) → x.report.stopped ≡ None
@@ -191,7 +324,7 @@ unstopped_all remaining p h starts inputs summaries sources fed are unfailed i x
     elim (slice_get_cases summaries i).1 [
       | inl found ↦
           (let last = are.reports i x found.0 at found.2 in
-          unstopped_one x found.0.report x.report.stopped refl last (fed.each i x at).2.unleft (unfailed i found.0 found.2))
+          unstopped_one x found.0.report x.report.stopped refl last (fed.each i x at).2.own.unleft (unfailed i found.0 found.2))
       | inr past ↦ absurd (omega (arith, slice_get_within inputs i x at, past.0, are.length_is))
     ]
 
@@ -199,14 +332,17 @@ unstopped_all remaining p h starts inputs summaries sources fed are unfailed i x
 
 pub failures_told : {R : Type 0} (failures : R → ℕ) (p : PlanValue) (h : List Event) (inputs : List (SerialInput R)) (summaries : List InputSummary) (before after : List R)
     → AllTellFailures failures (map failures before) inputs → AreReported p h inputs summaries after → FailuresAreTold failures before after summaries
-failures_told {R} failures p h inputs summaries before after tell are i s old new ats atb ata e =
+failures_told {R} failures p h inputs summaries before after tell are i s old new ats atb ata =
     let M : List R → Type 0 = λ v. slice_get v i ≡ Some new in
     let m = from_map (λ (y : SerialInput R). y.source) inputs i new (subst M are.sources_are ata) in
     let x = m.0 in
-    let same = stopped_before x s.report ReadFailed (are.reports i x s m.1 ats) e (λ bad. cc) in
-    let told = (tell i x (failures old) m.1 (slice_get-map failures before i ∙ ap (option_map failures) atb)).told (ap (λ v. v.stopped) (sym same) ∙ e) in
+    let last = are.reports i x s m.1 ats in
+    let told = tell i x (failures old) m.1 (slice_get-map failures before i ∙ ap (option_map failures) atb) in
     let P : R → Type 0 = λ v. FailsOnce (failures old) (failures v) in
-    subst P m.2 told
+    let S : Option Stop → Type 0 = IsSome in (
+      λ e. (let same = stopped_before x s.report ReadFailed last e (λ bad. cc) in subst P m.2 (told.told (ap (λ v. v.stopped) (sym same) ∙ e))),
+      λ other. ap failures (sym m.2) ∙ told.untold (λ e. other (ap (λ v. v.stopped) (last.stopped (subst S (sym e) refl)) ∙ e)),
+    )
 
 -- ---- the end
 
@@ -245,12 +381,13 @@ summary_input remaining p h starts inputs summaries sources fed are i input star
 
 pub has_run : {R : Type 0} (remaining : R → Option (List ℕ)) (run : Run) (starts : List (Option (List ℕ))) (r : SerialRun R) (before after : Option (List ℕ)) (s : Summary) (sources : List R)
     → run.limit ≤ 1000000 → IsRunning remaining run starts r → IsOver run r.mux.events → IsSound r.mux → Appends before after (bytes_of (emitted run.plan r.mux.events))
-    → AreReported r.mux.run.plan r.mux.events r.inputs.items s.inputs.items sources → IsCounts r.mux.events s.counts → s.faults ≡ r.output.faults
-    → HasRun (record { run = run; events = r.mux.events }) starts before after s
-has_run remaining run starts r before after s sources few is over sound written reported counts told =
+    → AreReported r.mux.run.plan r.mux.events r.inputs.items s.inputs.items sources → ArePeaks r.mux.run.plan r.mux.events s.streams.items → IsCounts r.mux.events s.counts → s.faults ≡ r.output.faults
+    → HasRun (record { run = run; events = r.mux.events }) starts (map remaining sources) before after s
+has_run remaining run starts r before after s sources few is over sound written reported peaks counts told =
     let h = r.mux.events in
     let S : Run → Type 0 = λ v. IsSound (record { run = v; events = h }) in
     let A : Run → Type 0 = λ v. AreReported v.plan h r.inputs.items s.inputs.items sources in
+    let K : Run → Type 0 = λ v. ArePeaks v.plan h s.streams.items in
     let sound_run = subst S is.run_is sound in
     let are = subst A is.run_is reported in
     record {
@@ -262,9 +399,11 @@ has_run remaining run starts r before after s sources few is over sound written 
       summary = record {
         length_is = are.length_is ∙ is.fed.count;
         inputs = summary_input remaining run.plan h starts r.inputs.items s.inputs.items sources is.fed are;
+        streams = subst K is.run_is peaks;
         counts = counts;
         faults = faults_exact run h s.faults sound_run.run.within few (told ∙ is.analysed.faults_are);
       };
+      read = all_read_on remaining run.plan h starts r.inputs.items s.inputs.items sources is.fed are;
     }
 
 -- ---- what was written

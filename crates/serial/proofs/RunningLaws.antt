@@ -14,7 +14,9 @@ use Rattle.mux.specs.declared.event.Event.TheVariants.{Took, Full, Close, Slot}
 use Rattle.mux.specs.declared.content.Content.{Content}
 use Rattle.mux.specs.History.{Run, History, with_event, slots, emitted, packet_behind, taken, is_closed, full_noted}
 use Rattle.mux.specs.declared.slot.Slot.TheVariants.{Sent}
-use Rattle.mux.specs.Answers.{SlotAnswers}
+use Rattle.mux.specs.declared.sending.Sending.TheVariants as sending
+use Rattle.mux.specs.Answers.{SendAnswers, SlotAnswers}
+use Rattle.mux.proofs.Emitted.{sent_at_end}
 use Rattle.mux.specs.Faithful.{IsFaithful}
 use Rattle.tspkt.specs.declared.stamped.Stamped.{Stamped}
 use Rattle.serial.specs.InputReading.{HasRead}
@@ -51,7 +53,7 @@ fed_slot remaining p h c starts inputs fed = record {
   count = fed.count;
   each = λ i x at.
       let f = fed.each i x at in
-      (f.0, f.1, record { given = record { origin = f.2.given.origin; read = f.2.given.read }; closed = f.2.closed; over = f.2.over; unleft = f.2.unleft });
+      (f.0, f.1, record { given = record { origin = f.2.given.origin; read = f.2.given.read }; closed = f.2.closed; over = f.2.over; own = f.2.own });
 }
 
 -- an input goes on, and the others stay
@@ -63,7 +65,7 @@ feeds_other {R} remaining p i j e h start x is ne f =
       given = record { origin = f.given.origin; read = subst P (sym (taken_other i j e h is ne)) f.given.read };
       closed = f.closed ∙ sym (closed_other i j e h is ne);
       over = f.over;
-      unleft = f.unleft;
+      own = f.own;
     }
 
 -- Sums over the inputs.
@@ -192,6 +194,14 @@ is_sent p old new packet plan answer =
       events = events;
       out = ap (emitted p) events ∙ ap (λ q. emitted p h ++ q ∷ []) (sym packet_is);
     }
+
+-- the packet of the slot that was sent, as the multiplex lends it
+pub lent : (old new : History) (slot : ℕ) (packet : List ℕ) → SendAnswers old sending.Sent new → slot ≡ slots old.events → slice_get (emitted new.run.plan new.events) slot ≡ Some packet
+    → SlotAnswers old (Sent packet) new
+lent old new slot packet answer at there =
+    let sent = answer.1 in
+    let P : History → Type 0 = λ h. slice_get (emitted h.run.plan h.events) slot ≡ Some packet in
+    (answer.0, (sent.0, sent.1, (sent.2, sent_at_end old.run.plan old.events sent.0 slot packet at (subst P sent.2 there))))
 
 pub runs_sent : {R : Type 0} (remaining : R → Option (List ℕ)) (run : Run) (starts : List (Option (List ℕ))) (old : SerialRun R) (mux : History) (output : SlotWriter) (packet : List ℕ)
     → IsRunning remaining run starts old → SlotAnswers old.mux (Sent packet) mux → mux.run ≡ old.mux.run

@@ -3,7 +3,10 @@ use Rattle.std.specs.Prelude.{◌≡◌, ℕ, List, length, map, Some, None, IsS
 use Rattle.std.specs.List.{slice_get}
 use Rattle.plan.specs.Build.{PlanValue}
 use Rattle.mux.specs.declared.event.Event.{Event}
+use Rattle.request.specs.declared.stream.Stream.{Stream}
 use Rattle.mux.specs.Totals.{IsTotals}
+use Rattle.mux.specs.declared.peak.Peak.{Peak}
+use Rattle.mux.specs.Peaks.{IsPeak}
 use Rattle.serial.specs.declared.report.Report.{Report}
 use Rattle.serial.specs.declared.report.Stop.TheVariants.{Gate}
 use Rattle.serial.specs.declared.serial_input.SerialInput.{SerialInput}
@@ -22,3 +25,9 @@ pub record AreReported {R : Type 0} (p : PlanValue) (h : List Event) (inputs : L
   pub totals : (i : ℕ) (s : InputSummary) → slice_get summaries i ≡ Some s → IsTotals p i h s.totals
   pub reports : (i : ℕ) (x : SerialInput R) (s : InputSummary)
       → slice_get inputs i ≡ Some x → slice_get summaries i ≡ Some s → IsLast x s.report
+
+-- each stream's largest delay and fullest queue, in the plan's order
+pub record ArePeaks (p : PlanValue) (h : List Event) (peaks : List Peak) : Type 0 where
+  pub length_is : length peaks ≡ length p.request.streams
+  pub each : (k : ℕ) (st : Stream) (x : Peak)
+      → slice_get p.request.streams k ≡ Some st → slice_get peaks k ≡ Some x → IsPeak p h st x

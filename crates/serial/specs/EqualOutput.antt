@@ -11,7 +11,8 @@ use Rattle.serial.specs.declared.summary.Summary.{Summary}
 
 -- A run of sources whose bytes are known ended by itself, and nothing but its end stopped an input.
 pub record HasRunUnfailed (h : History) (starts : List (Option (List ℕ))) (before after : Option (List ℕ)) (s : Summary) : Type 0 where
-  pub runs : HasRun h starts before after s
+  pub lefts : List (Option (List ℕ))
+  pub runs : HasRun h starts lefts before after s
   pub known : AreKnown starts
   pub unfailed : AreUnfailed s.inputs.items
 

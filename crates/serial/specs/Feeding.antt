@@ -15,7 +15,8 @@ use Rattle.mux.specs.Lawful as refusals
 use Rattle.mux.specs.Faithful.{PacketLists}
 use Rattle.serial.specs.Takeable.{OriginValue, origin_of, takeable}
 use Rattle.serial.specs.InputReading.{HasRead, IsDone}
-use Rattle.serial.specs.declared.report.Stop.TheVariants.{Gate}
+use Rattle.serial.specs.declared.report.Stop.{Stop}
+use Rattle.serial.specs.declared.report.Stop.TheVariants.{Gate, Memory}
 use Rattle.serial.specs.declared.serial_input.SerialInput.{SerialInput}
 
 -- where the packets of the plan's input i come from
@@ -28,13 +29,18 @@ pub record HasGiven {R : Type 0} (remaining : R → Option (List ℕ)) (p : Plan
   pub origin : IsOrigin p i x.origin
   pub read : (bytes : List ℕ) × Consumes start (remaining x.source) bytes × HasRead remaining p x bytes given
 
+-- What stopped an input, if anything, came of the input: the run didn't leave it, and had memory for it.
+pub record IsOwnStop (stopped : Option Stop) : Type 0 where
+  pub unleft : stopped ≡ Some Gate → ⊥
+  pub unrefused : stopped ≡ Some Memory → ⊥
+
 -- The multiplex took just the packets that the input gave; it was closed in the multiplex where the input says so, which is
--- where nothing is left of it; and the run didn't leave it.
+-- where nothing is left of it; and nothing stopped it but its own fault.
 pub record Feeds {R : Type 0} (remaining : R → Option (List ℕ)) (p : PlanValue) (h : List Event) (i : ℕ) (start : Option (List ℕ)) (x : SerialInput R) : Type 0 where
   pub given : HasGiven remaining p i start x (taken i h)
   pub closed : x.is_closed ≡ is_closed i h
   pub over : x.is_closed ≡ true → IsDone x
-  pub unleft : x.report.stopped ≡ Some Gate → ⊥
+  pub own : IsOwnStop x.report.stopped
 
 -- the packets that an input gives, as far as the bytes of its source are known
 abbrev pub packet_list : PlanValue → ℕ → Option InputValue → Option (Option (List ℕ)) → List Stamped
@@ -75,8 +81,8 @@ turns_left i h =
 abbrev pub Holds : {R : Type 0} → ℕ → Stream → SerialInput R → Type 0
 Holds i st x = (item : Stamped) × (x.held ≡ Some item) × (is_mapped_to st i item ≡ true)
 
--- The item was taken of the input, or is held by it, where the queue of its stream was found full.
+-- The item that the input held was taken of it, or is still held, where the queue of its stream was found full.
 abbrev pub IsGivenOrHeld : {R : Type 0} → History → History → ℕ → SerialInput R → SerialInput R → Stamped → Type 0
 IsGivenOrHeld before after i old new item =
-    ((after ≡ with_event before (Took i item)) × (new ≡ old))
-    ⊎ ((st : Stream) × (after ≡ with_event before (Full i st)) × (new ≡ record old { held = Some item }) × (is_mapped_to st i item ≡ true))
+    ((after ≡ with_event before (Took i item)) × (new ≡ record old { held = None }))
+    ⊎ ((st : Stream) × (after ≡ with_event before (Full i st)) × (new ≡ old) × (is_mapped_to st i item ≡ true))

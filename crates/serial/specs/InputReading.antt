@@ -1,5 +1,5 @@
 -- What an input of a run has read, and which packets it has given (profile).
-use Rattle.std.specs.Prelude.{◌≡◌, ℕ, ◌<◌, ◌≤◌, List, [], ◌++◌, length, Option, Some, None, IsSome, Result, Ok, Err}
+use Rattle.std.specs.Prelude.{◌≡◌, ℕ, ◌<◌, ◌≤◌, List, [], ◌++◌, length, Option, Some, None, IsSome}
 use Rattle.std.specs.List.{slice_get}
 use Rattle.std.specs.Option.{option_to_list}
 use Rattle.std.specs.Io.KnownBytes.{Consumes, IsAtEnd}
@@ -20,6 +20,11 @@ abbrev pub BeginsTakeable : PlanValue → OriginValue → List ℕ → List Stam
 BeginsTakeable plan origin bytes given =
     (more : List ℕ) → (later : List Stamped) × (given ++ later ≡ takeable plan origin (framed 188 (bytes ++ more)))
 
+-- These items begin the framing of the bytes, whatever follows them; at the end nothing does.
+abbrev pub BeginsFramed : List ℕ → Type 0 → List Item → Type 0
+BeginsFramed bytes at_end items =
+    (more : List ℕ) → (at_end → more ≡ []) → (later : List Item) × (items ++ later ≡ framed 188 (bytes ++ more))
+
 -- The input is still read: what was told is, with what the framer has left to tell, the framing of the bytes so far and
 -- of whatever follows them, and no packet of the bytes so far is left to tell.
 pub record IsReading (f : FramerState) (told : List Item) (bytes : List ℕ) (stopped : Option Stop) : Type 0 where
@@ -34,9 +39,12 @@ pub record IsReading (f : FramerState) (told : List Item) (bytes : List ℕ) (st
 -- end then; else it is a beginning.
 pub record IsOver (plan : PlanValue) (origin : OriginValue) (told : List Item) (bytes : List ℕ) (stopped : Option Stop) (at_end : Type 0) : Type 0 where
   pub begins : BeginsTakeable plan origin bytes (takeable plan origin told)
+  pub begun : BeginsFramed bytes at_end told
   pub framed_bytes : (inside : List ℕ) × (later : List Item) × (length inside ≤ 3154116608) × (told ++ later ≡ framed 188 inside)
   pub ended : stopped ≡ None → (told ≡ framed 188 bytes) × at_end
   pub too_much : stopped ≡ Some TooMuch → 3154116608 < length bytes
+  -- a failed read loses no packet of the bytes before it
+  pub failed : stopped ≡ Some ReadFailed → takeable plan origin told ≡ takeable plan origin (framed 188 bytes)
 
 abbrev pub HasTold : PlanValue → OriginValue → Option FramerState → List Item → List ℕ → Option Stop → Type 0 → Type 0
 HasTold plan origin None told bytes stopped at_end = IsOver plan origin told bytes stopped at_end
@@ -54,17 +62,18 @@ abbrev pub HasRead : {R : Type 0} → (R → Option (List ℕ)) → PlanValue �
 HasRead remaining plan input bytes given =
     (looked : List Item) × HasLooked plan input.origin input.reader input.held input.report (IsAtEnd (remaining input.source)) bytes given looked
 
--- Some bytes more were read of the source, and these packets were given.
-abbrev pub ReadsOn : {R : Type 0} → (R → Option (List ℕ)) → PlanValue → SerialInput R → SerialInput R → List Stamped → Type 0
-ReadsOn remaining plan old new answer =
+-- Some bytes more were read of the source, and nothing more was given.
+abbrev pub ReadsOn : {R : Type 0} → (R → Option (List ℕ)) → PlanValue → SerialInput R → SerialInput R → Type 0
+ReadsOn remaining plan old new =
     (bytes : List ℕ) (given : List Stamped) → HasRead remaining plan old bytes given
-    → (more : List ℕ) × Consumes (remaining old.source) (remaining new.source) more × HasRead remaining plan new (bytes ++ more) (given ++ answer)
+    → (more : List ℕ) × Consumes (remaining old.source) (remaining new.source) more × HasRead remaining plan new (bytes ++ more) given
 
--- The input's source failed so often before it was read. A failed read is told where it failed once more, and an input that
--- is still read met none.
+-- The input's source failed so often before it was read. A failed read is told exactly where it failed once more, and an
+-- input that is still read met none.
 pub record TellsFailures {R : Type 0} (failures : R → ℕ) (before : ℕ) (input : SerialInput R) : Type 0 where
   pub unfailed : IsSome input.reader.framer → failures input.source ≡ before
   pub told : input.report.stopped ≡ Some ReadFailed → FailsOnce before (failures input.source)
+  pub untold : (input.report.stopped ≡ Some ReadFailed → ⊥) → failures input.source ≡ before
 
 -- the same of all inputs
 abbrev pub AllTellFailures : {R : Type 0} → (R → ℕ) → List ℕ → List (SerialInput R) → Type 0
@@ -83,8 +92,3 @@ pub record IsWhole {R : Type 0} (remaining : R → Option (List ℕ)) (plan : Pl
   pub given_is : given ≡ takeable plan input.origin (framed 188 bytes)
   pub counts : CountsItems plan input.origin (framed 188 bytes) input.report
   pub at_end : IsAtEnd (remaining input.source)
-
--- the packet of an answer
-abbrev pub answered : {E : Type 0} → Result (Option Stamped) E → List Stamped
-answered (Ok found) = option_to_list found
-answered (Err e) = []

@@ -1,8 +1,11 @@
 -- What comes of a run (profile).
-use Rattle.std.specs.Prelude.{◌≡◌, ◌⊎◌, ℕ, ◌<◌, List, length, Option, Some, None, true, false}
+use Rattle.std.specs.Prelude.{◌≡◌, ◌⊎◌, ℕ, ◌<◌, List, ◌++◌, length, Option, Some, None, true, false}
 use Rattle.std.specs.List.{slice_get}
-use Rattle.std.specs.Io.KnownBytes.{Appends}
+use Rattle.std.specs.Option.{option_to_list}
+use Rattle.std.specs.Io.KnownBytes.{Appends, Consumes, IsAtEnd}
 use Rattle.tspkt.specs.Framed.{framed}
+use Rattle.tspkt.specs.declared.item.Item.{Item}
+use Rattle.tspkt.specs.declared.stamped.Stamped.{Stamped}
 use Rattle.request.specs.Request.{InputValue}
 use Rattle.analyse.specs.Faults.{faults}
 use Rattle.plan.specs.Build.{PlanValue}
@@ -14,11 +17,13 @@ use Rattle.mux.specs.Headline.{IsSound}
 use Rattle.mux.specs.Faithful.{IsFaithful, IsFinished}
 use Rattle.serial.specs.Failures.{FailsOnce}
 use Rattle.serial.specs.Takeable.{takeable, origin_of, CountsItems}
+use Rattle.serial.specs.InputReading.{BeginsTakeable}
 use Rattle.serial.specs.Feeding.{AreKnown, packet_lists}
 use Rattle.serial.specs.Running.{AreBegun}
+use Rattle.serial.specs.Ending.{ArePeaks}
 use Rattle.serial.specs.Written.{SendsBeginning}
 use Rattle.serial.specs.Sending.{bytes_of}
-use Rattle.serial.specs.declared.report.Stop.TheVariants.{Gate, ReadFailed, TooMuch}
+use Rattle.serial.specs.declared.report.Stop.TheVariants.{Gate, Memory, ReadFailed, TooMuch}
 use Rattle.serial.specs.declared.summary.InputSummary.{InputSummary}
 use Rattle.serial.specs.declared.summary.Summary.{Summary}
 
@@ -28,13 +33,28 @@ pub record HasEnded (p : PlanValue) (h : List Event) (i : ℕ) (input : InputVal
   pub taken_is : taken i h ≡ takeable p (origin_of i input) (framed 188 all)
   pub counts : CountsItems p (origin_of i input) (framed 188 all) s.report
 
+-- The report counts a beginning of the framing of these bytes, and what can be taken of that beginning was taken, but for at
+-- most one packet, which is held. A closed input holds none.
+pub record IsCounted (p : PlanValue) (h : List Event) (i : ℕ) (input : InputValue) (all : List ℕ) (s : InputSummary) : Type 0 where
+  pub looked : List Item
+  pub later : List Item
+  pub framing : looked ++ later ≡ framed 188 all
+  pub counts : CountsItems p (origin_of i input) looked s.report
+  pub held : Option Stamped
+  pub taken_is : takeable p (origin_of i input) looked ≡ taken i h ++ option_to_list held
+  pub closed : is_closed i h ≡ true → held ≡ None
+
 -- What is said of an input whose source had these bytes to give at first, where they are known.
 pub record IsInputSummary (p : PlanValue) (h : List Event) (i : ℕ) (input : InputValue) (start : Option (List ℕ)) (s : InputSummary) : Type 0 where
   pub totals : IsTotals p i h s.totals
   -- an input that nothing stopped ended, and was closed; one that the run left before its end wasn't closed
   pub closed : s.report.stopped ≡ None → is_closed i h ≡ true
   pub ended : s.report.stopped ≡ None → (all : List ℕ) → start ≡ Some all → HasEnded p h i input all s
+  -- whatever stopped it, its report is one of its bytes
+  pub counted : (all : List ℕ) → start ≡ Some all → IsCounted p h i input all s
   pub left : s.report.stopped ≡ Some Gate → is_closed i h ≡ false
+  -- no input was given up for want of memory
+  pub unrefused : s.report.stopped ≡ Some Memory → ⊥
   pub too_much : s.report.stopped ≡ Some TooMuch → (all : List ℕ) → start ≡ Some all → 3154116608 < length all
 
 -- Nothing but the end of the run stopped the inputs.
@@ -49,11 +69,29 @@ pub record IsSummary (p : PlanValue) (h : List Event) (starts : List (Option (Li
   pub inputs : (i : ℕ) (input : InputValue) (start : Option (List ℕ)) (x : InputSummary)
       → slice_get p.request.inputs i ≡ Some input → slice_get starts i ≡ Some start → slice_get s.inputs.items i ≡ Some x
       → IsInputSummary p h i input start x
+  pub streams : ArePeaks p h s.streams.items
   pub counts : IsCounts h s.counts
   pub faults : s.faults ≡ length (faults p.request.rate p.request.watch (emitted p h))
 
--- What a run of these sources makes, where it ends by itself: a history.
-pub record HasRun (h : History) (starts : List (Option (List ℕ))) (before after : Option (List ℕ)) (s : Summary) : Type 0 where
+-- The input's source was read on, from the bytes that it had to give at first to those that are left. What was taken of the
+-- input begins what can be taken of the bytes between, and the source of an input that nothing stopped is at its end.
+pub record IsReadOn (p : PlanValue) (h : List Event) (i : ℕ) (input : InputValue) (start left : Option (List ℕ)) (s : InputSummary) : Type 0 where
+  pub bytes : List ℕ
+  pub read : Consumes start left bytes
+  pub begins : BeginsTakeable p (origin_of i input) bytes (taken i h)
+  pub ended : s.report.stopped ≡ None → IsAtEnd left
+  -- of an input that was closed at a failed read all that can be taken of the bytes before it was taken
+  pub failed : s.report.stopped ≡ Some ReadFailed → is_closed i h ≡ true → taken i h ≡ takeable p (origin_of i input) (framed 188 bytes)
+
+-- the same of all inputs, in their order
+abbrev pub AreReadOn : PlanValue → List Event → List (Option (List ℕ)) → List (Option (List ℕ)) → List InputSummary → Type 0
+AreReadOn p h starts lefts inputs =
+    (i : ℕ) (input : InputValue) (start left : Option (List ℕ)) (s : InputSummary)
+    → slice_get p.request.inputs i ≡ Some input → slice_get starts i ≡ Some start → slice_get lefts i ≡ Some left
+    → slice_get inputs i ≡ Some s → IsReadOn p h i input start left s
+
+-- What a run of these sources makes, where it ends by itself: a history. It leaves them with these bytes to give.
+pub record HasRun (h : History) (starts lefts : List (Option (List ℕ))) (before after : Option (List ℕ)) (s : Summary) : Type 0 where
   -- it is lawful, and sound
   pub sound : IsSound h
   -- it has all slots of the run, or with fewer nothing is left to send
@@ -65,6 +103,8 @@ pub record HasRun (h : History) (starts : List (Option (List ℕ))) (before afte
   -- it takes the inputs' packets in their order, where nothing but the end of the run stopped them
   pub faithful : AreKnown starts → AreUnfailed s.inputs.items → IsFaithful (packet_lists h.run.plan starts) h.events
   pub summary : IsSummary h.run.plan h.events starts s
+  -- the sources come back in their order, read on
+  pub read : AreReadOn h.run.plan h.events starts lefts s.inputs.items
 
 -- What a run of these sources makes, where it doesn't end by itself: a beginning of the packets of a lawful history was
 -- written.
@@ -73,9 +113,10 @@ pub record HasBegun (h : History) (starts : List (Option (List ℕ))) (before af
   pub begun : AreBegun h.run.plan h.events starts
   pub written : SendsBeginning before after (bytes_of (emitted h.run.plan h.events))
 
--- A failed read is told of an input only where its source failed in the run.
+-- A failed read is told of an input exactly where its source failed in the run.
 abbrev pub FailuresAreTold : {R : Type 0} → (R → ℕ) → List R → List R → List InputSummary → Type 0
 FailuresAreTold {R} failures before after inputs =
     (i : ℕ) (s : InputSummary) (old new : R)
     → slice_get inputs i ≡ Some s → slice_get before i ≡ Some old → slice_get after i ≡ Some new
-    → s.report.stopped ≡ Some ReadFailed → FailsOnce (failures old) (failures new)
+    → (s.report.stopped ≡ Some ReadFailed → FailsOnce (failures old) (failures new))
+    × ((s.report.stopped ≡ Some ReadFailed → ⊥) → failures new ≡ failures old)

@@ -1,12 +1,14 @@
-//! The inputs of a run, at its end.
+//! What is said of a run at its end.
 
 ghost use Rattle.std.specs.Prelude.{◌≡◌, length, IfOk};
-ghost use Rattle.serial.specs.Ending.{AreReported};
+ghost use Rattle.mux.specs.Totals.{IsCounts};
+ghost use Rattle.serial.specs.Ending.{AreReported, ArePeaks};
 
 use crate::serial_input::SerialInput;
 use crate::source::Source;
-use crate::summary::InputSummary;
-use mux::Mux;
+use crate::summary::{InputSummary, Summary};
+use mux::{Mux, Peak};
+use plan::Plan;
 use std::alloc::{AllocError, Global};
 
 /// What became of each input, and what it was read from. An input that wasn't closed is left.
@@ -29,4 +31,42 @@ pub(crate) fn end_inputs<R: Source + Drop>(
         sources.push(input.into_source())?;
     }
     Ok((summaries, sources))
+}
+
+/// The largest delay and the fullest queue of each of so many streams, which are those of the plan.
+pub(crate) fn end_streams(alloc: Global, mux: &Mux, streams: usize) -> Result<Vec<Peak>, AllocError>
+    requires { streams ≡ length mux.now.run.plan.request.streams }
+    ensures { IfOk result (λ peaks. ArePeaks mux.now.run.plan mux.now.events peaks.items) }
+{
+    let mut peaks = Vec::new(alloc);
+    for stream in 0..streams {
+        peaks.push(mux.peak(stream))?;
+    }
+    Ok(peaks)
+}
+
+/// What became of a run of this plan, with so many faults told, and its readers. An input that wasn't closed is left.
+pub(crate) fn end_run<R: Source + Drop>(
+    alloc: Global,
+    plan: &Plan,
+    mux: &Mux,
+    inputs: Vec<SerialInput<R>>,
+    faults: u64,
+) -> Result<(Summary, Vec<R>), AllocError>
+    requires inputs { length inputs.items ≡ length mux.now.run.plan.request.inputs }
+    requires plan { plan.now ≡ mux.now.run.plan }
+    ensures inputs { IfOk result (λ done. AreReported mux.now.run.plan mux.now.events inputs.items done.0.inputs.items done.1.items) }
+    ensures streams { IfOk result (λ done. ArePeaks mux.now.run.plan mux.now.events done.0.streams.items) }
+    ensures counts { IfOk result (λ done. IsCounts mux.now.events done.0.counts) }
+    ensures faults { IfOk result (λ done. done.0.faults ≡ faults) }
+{
+    let streams = end_streams(alloc, mux, plan.streams().len())?;
+    let (inputs, readers) = end_inputs(alloc, mux, inputs)?;
+    let summary = Summary {
+        inputs,
+        streams,
+        counts: mux.counts(),
+        faults,
+    };
+    Ok((summary, readers))
 }

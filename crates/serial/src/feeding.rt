@@ -1,11 +1,12 @@
 //! How the packets of an input come into a multiplex.
 
-ghost use Rattle.std.specs.Prelude.{◌≡◌, ◌<◌, ℕ, List, Option, None, true, false, length, OnOk, OnErr};
+ghost use Rattle.std.specs.Prelude.{◌≡◌, ◌<◌, ℕ, List, Option, None, Some, true, false, length, OnOk, OnErr};
 ghost use Rattle.mux.specs.declared.event.Event.{Event};
 ghost use Rattle.mux.specs.declared.event.Event.TheVariants as events;
 ghost use Rattle.mux.specs.History.{with_event, is_closed, full_noted};
 ghost use Rattle.mux.specs.Answers.{IsLeastUnready};
 ghost use Rattle.mux.specs.Faithful.{IsFaithful};
+ghost use Rattle.tspkt.specs.declared.stamped.Stamped.{Stamped as GivenPacket};
 ghost use Rattle.request.specs.declared.stream.Stream.{Stream};
 ghost use Rattle.serial.specs.Feeding.{Feeds, AreKnown, AreUnstopped, packet_lists, IsOfInput, MayBeTaken, Holds, IsGivenOrHeld, turns_left};
 ghost use Rattle.serial.specs.Running.{AreFed};
@@ -13,13 +14,12 @@ ghost use Rattle.serial.specs.InputReading.{TellsFailures, AllTellFailures};
 
 use crate::serial_input::SerialInput;
 use crate::source::Source;
-use mux::{Mux, Taken};
+use mux::{Mux, Offered};
 use plan::Plan;
 use std::alloc::AllocError;
-use tspkt::Stamped;
 
 /// Gives the multiplex the next packet of an input that it waits for, or closes the input where there is none. A packet
-/// whose queue is full is held.
+/// whose queue is full stays held.
 pub(crate) fn pull<R: Source>(
     plan: &Plan,
     mux: &mut Mux,
@@ -42,9 +42,10 @@ pub(crate) fn pull<R: Source>(
         → TellsFailures R.failures before input.new) }
     ensures err { OnErr result (mux.new ≡ mux.old) }
 {
-    match input.next(plan, piece)? {
-        None => close(mux, number, input),
-        Some(stamped) => give(mux, number, input, stamped),
+    if input.find(plan, piece)? {
+        give(mux, number, input)
+    } else {
+        close(mux, number, input)
     }
 }
 
@@ -96,27 +97,28 @@ fn close<R: Source>(
     Ok(())
 }
 
-/// Gives the multiplex a packet of an input, or holds it where its queue is full.
+/// Gives the multiplex the packet that an input holds. Where its queue is full it stays held.
 fn give<R: Source>(
     mux: &mut Mux,
     number: usize,
     input: &mut SerialInput<R>,
-    stamped: Stamped,
 ) -> Result<(), AllocError>
     requires number { number < length mux.old.run.plan.request.inputs }
-    requires may { MayBeTaken mux.old.run.plan mux.old.events number stamped }
+    requires may { (item : GivenPacket) × (input.old.held ≡ Some item)
+        × MayBeTaken mux.old.run.plan mux.old.events number item }
     requires noted { full_noted number mux.old.events ≡ false }
-    requires held { input.old.held ≡ None }
-    ensures ok { OnOk result (IsGivenOrHeld mux.old mux.new number input.old input.new stamped) }
+    ensures ok { OnOk result ((item : GivenPacket) → input.old.held ≡ Some item
+        → IsGivenOrHeld mux.old mux.new number input.old input.new item) }
     ensures err { OnErr result (mux.new ≡ mux.old) }
 {
-    match mux.take(number, stamped) {
-        Taken::Ok => Ok(()),
-        Taken::Full(back) => {
-            input.hold(back);
+    let stamped = input.held().unwrap();
+    match mux.offer(number, stamped) {
+        Offered::Taken => {
+            input.release();
             Ok(())
         }
-        Taken::Memory(_) => Err(AllocError),
-        Taken::Closed(_) | Taken::Stranger(_) | Taken::Backward(_) => unreachable!(),
+        Offered::Full => Ok(()),
+        Offered::Memory => Err(AllocError),
+        Offered::Closed | Offered::Stranger | Offered::Backward => unreachable!(),
     }
 }

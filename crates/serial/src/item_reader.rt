@@ -25,7 +25,7 @@ impl Model for ItemReader {
 }
 
 impl ItemReader {
-    ghost use Rattle.std.specs.Prelude.{◌≡◌, ◌∷◌, [], IfSome, IfNone, OnOk, OnErr, Err, is_none};
+    ghost use Rattle.std.specs.Prelude.{◌≡◌, ◌<◌, [], length, drop, slice_get, option_copied, IfSome, OnOk, OnErr, Err, is_none};
     ghost use Rattle.serial.specs.Reading.{ReaderValue, new_reader, without_framer, Feeds, IsFull, Finishes, IsPlaced};
 
     /// One that has read nothing.
@@ -46,16 +46,20 @@ impl ItemReader {
         self.framer.is_none()
     }
 
-    /// Takes the next item that was told.
-    pub fn next(&mut self) -> Option<Item>
-        ensures framer { self.new.framer ≡ self.old.framer }
-        ensures item { IfSome result (λ item. self.old.ahead ≡ item ∷ self.new.ahead) }
-        ensures placed { IfSome result IsPlaced }
-        ensures none { IfNone result ((self.old.ahead ≡ []) × (self.new ≡ self.old)) }
+    /// The next item that was told.
+    pub fn peek(&self) -> Option<&Item>
+        ensures item { option_copied result ≡ slice_get self.now.ahead 0 }
+        ensures placed { IfSome result (λ item. IsPlaced item.now) }
     {
-        let item = *self.items.get(self.taken)?;
+        self.items.get(self.taken)
+    }
+
+    /// Takes the next item.
+    pub fn pass(&mut self)
+        requires { 0 < length self.old.ahead }
+        ensures { self.new ≡ record self.old { ahead = drop 1 self.old.ahead } }
+    {
         self.taken += 1;
-        Some(item)
     }
 
     /// Reads the next piece of the stream. An `Err` ends the framing.

@@ -1,6 +1,6 @@
 //! Looking at the items of an input.
 
-ghost use Rattle.std.specs.Prelude.{◌≡◌, ◌≤◌};
+ghost use Rattle.std.specs.Prelude.{◌≡◌, ◌≤◌, None, is_some};
 ghost use Rattle.tspkt.specs.declared.item.Item.TheVariants.{Packet};
 ghost use Rattle.serial.specs.Takeable.{taken_of, counted_of};
 ghost use Rattle.serial.specs.Counting.{with_counts};
@@ -11,59 +11,57 @@ use crate::report::Report;
 use plan::Plan;
 use tspkt::{Item, Stamped};
 
-/// Counts an item of an input in its report, and gives the packet that the plan names, with its time.
+/// Counts an item of an input in its report, and holds the packet that the plan names, with its time. It answers whether
+/// there is one.
 pub(crate) fn look_at(
     plan: &Plan,
     origin: &Origin,
     item: &Item,
+    held: &mut Option<Stamped>,
     report: &mut Report,
-) -> Option<Stamped>
-    requires { IsPlaced item.now }
-    ensures taken { result ≡ taken_of plan.now origin.now item.now }
+) -> bool
+    requires placed { IsPlaced item.now }
+    requires held { held.old ≡ None }
+    ensures held { held.new ≡ taken_of plan.now origin.now item.now }
+    ensures found { result ≡ is_some held.new }
     ensures counts { report.new ≡ with_counts report.old (counted_of plan.now origin.now item.now) }
 {
-    let (found, counts) = judge(plan, origin, item);
-    report.add(&counts);
-    found
-}
-
-/// The packet of an item that the plan names, with its time, and what the item counts as.
-fn judge(plan: &Plan, origin: &Origin, item: &Item) -> (Option<Stamped>, Report)
-    requires { IsPlaced item.now }
-    ensures taken { result.0 ≡ taken_of plan.now origin.now item.now }
-    ensures counts { result.1 ≡ counted_of plan.now origin.now item.now }
-{
-    let mut counts = Report::new();
     match item {
-        Item::Packet(place, bytes) => return judge_packet(plan, origin, *place, bytes),
-        Item::Bad(_) => counts.bad = 1,
-        Item::SyncLoss(_) => counts.losses = 1,
-        Item::Lost(count) => counts.lost = *count,
+        Item::Packet(place, bytes) => {
+            return look_at_packet(plan, origin, *place, bytes, held, report);
+        }
+        Item::Bad(_) => report.bad = report.bad.saturating_add(1),
+        Item::SyncLoss(_) => report.losses = report.losses.saturating_add(1),
+        Item::Lost(count) => report.lost = report.lost.saturating_add(*count),
     }
-    (None, counts)
+    false
 }
 
 /// The same of a packet at a place of the input.
-fn judge_packet(
+fn look_at_packet(
     plan: &Plan,
     origin: &Origin,
     place: u64,
     bytes: &[u8; 188],
-) -> (Option<Stamped>, Report)
-    requires { place ≤ 3154116608 }
-    ensures taken { result.0 ≡ taken_of plan.now origin.now (Packet place bytes.now) }
-    ensures counts { result.1 ≡ counted_of plan.now origin.now (Packet place bytes.now) }
+    held: &mut Option<Stamped>,
+    report: &mut Report,
+) -> bool
+    requires placed { place ≤ 3154116608 }
+    requires held { held.old ≡ None }
+    ensures held { held.new ≡ taken_of plan.now origin.now (Packet place bytes.now) }
+    ensures found { result ≡ is_some held.new }
+    ensures counts { report.new ≡ with_counts report.old (counted_of plan.now origin.now (Packet place bytes.now)) }
 {
-    let mut counts = Report::new();
-    counts.framed = 1;
+    report.framed = report.framed.saturating_add(1);
     let Ok(packet) = tspkt::Packet::read(bytes) else {
-        counts.malformed = 1;
-        return (None, counts);
+        report.malformed = report.malformed.saturating_add(1);
+        return false;
     };
     if plan.lookup(origin.number(), packet.pid()).is_none() {
-        counts.unmapped = 1;
-        return (None, counts);
+        report.unmapped = report.unmapped.saturating_add(1);
+        return false;
     }
     let stamp = origin.stamp(place);
-    (Some(Stamped { packet, stamp }), counts)
+    *held = Some(Stamped { packet, stamp });
+    true
 }

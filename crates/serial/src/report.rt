@@ -1,7 +1,7 @@
 //! What became of an input in a run.
 
 ghost use Rattle.std.specs.Prelude.{◌≡◌};
-ghost use Rattle.serial.specs.Counting.{nothing_counted, with_counts};
+ghost use Rattle.serial.specs.Counting.{nothing_counted};
 
 /// Why an input was read no further before its end.
 #[derive(Clone, Copy, Debug, PartialEq, Eq)]
@@ -49,17 +49,5 @@ impl Report {
             lost: 0,
             stopped: None,
         }
-    }
-
-    /// Adds the other's counts. They stop at the largest number of 64 bits.
-    pub(crate) fn add(&mut self, other: &Report)
-        ensures { self.new ≡ with_counts self.old other.now }
-    {
-        self.framed = self.framed.saturating_add(other.framed);
-        self.malformed = self.malformed.saturating_add(other.malformed);
-        self.unmapped = self.unmapped.saturating_add(other.unmapped);
-        self.bad = self.bad.saturating_add(other.bad);
-        self.losses = self.losses.saturating_add(other.losses);
-        self.lost = self.lost.saturating_add(other.lost);
     }
 }

@@ -21,7 +21,8 @@ use std::alloc::Global;
 /// Runs a plan in one thread: reads one reader an input, and writes the packet of each slot, at most so many slots (0 to
 /// 1,000,000). It ends where all inputs have ended and nothing waits, or where it has all its slots.
 ///
-/// Memory grows with the slots alone, not with the inputs. The writer comes back, and without a fault the readers too.
+/// Memory grows with the slots alone, not with the inputs. The writer comes back, and without a fault the readers too, in
+/// their order, each read as far as the run read it.
 /// `Memory` is answered where memory was refused, and goes before `Write`, which is answered where the writer failed; what
 /// was written is then a beginning of the output. A reader that fails ends its input, and the run goes on.
 pub fn run_serial<R: Source + Drop, W: Sink>(
@@ -35,7 +36,8 @@ pub fn run_serial<R: Source + Drop, W: Sink>(
     requires readers { length readers.items ≡ length plan.request.inputs }
     ensures runs { IfOk result.1 (λ done. (h : List Event)
         × HasRun (record { run = record { plan = plan; limit = slots }; events = h })
-        (map R.remaining readers.items) (W.contents writer) (W.contents result.0) done.0) }
+        (map R.remaining readers.items) (map R.remaining done.1.items)
+        (W.contents writer) (W.contents result.0) done.0) }
     ensures begins { OnErr result.1 ((h : List Event)
         × HasBegun (record { run = record { plan = plan; limit = slots }; events = h })
         (map R.remaining readers.items) (W.contents writer) (W.contents result.0)) }
@@ -63,7 +65,8 @@ fn run_to<R: Source + Drop, W: Sink>(
     requires readers { length readers.items ≡ length plan.request.inputs }
     ensures runs { IfOk result (λ done. (h : List Event)
         × HasRun (record { run = record { plan = plan; limit = slots }; events = h })
-        (map R.remaining readers.items) (W.contents sink.old) (W.contents sink.new) done.0) }
+        (map R.remaining readers.items) (map R.remaining done.1.items)
+        (W.contents sink.old) (W.contents sink.new) done.0) }
     ensures begins { OnErr result ((h : List Event)
         × HasBegun (record { run = record { plan = plan; limit = slots }; events = h })
         (map R.remaining readers.items) (W.contents sink.old) (W.contents sink.new)) }

@@ -16,14 +16,14 @@ pub struct SerialInput<R> {
     origin: Origin,
     source: R,
     reader: ItemReader,
-    /// A packet that was handed back.
+    /// The packet that it gives next, where it was found.
     held: Option<Stamped>,
     is_closed: bool,
     report: Report,
 }
 
 impl<R: Source> SerialInput<R> {
-    ghost use Rattle.std.specs.Prelude.{◌≡◌, ◌≢◌, ◌<◌, ◌⊎◌, ◌++◌, ◌∷◌, ℕ, List, [], length, true, false, None, Some, IfOk, IfNone, OnOk, OnErr, IsSome};
+    ghost use Rattle.std.specs.Prelude.{◌≡◌, ◌≢◌, ◌<◌, ◌⊎◌, ◌++◌, ℕ, List, [], length, true, false, None, Some, Ok, is_some, option_copied, OnErr, OnOk, IsSome};
     ghost use Rattle.std.specs.Option.{option_to_list};
     ghost use Rattle.std.specs.Io.KnownBytes.{IsAtEnd};
     ghost use Rattle.tspkt.specs.declared.stamped.Stamped.{Stamped as GivenPacket};
@@ -33,7 +33,7 @@ impl<R: Source> SerialInput<R> {
     ghost use Rattle.serial.specs.Counting.{nothing_counted};
     ghost use Rattle.serial.specs.Takeable.{origin_of};
     ghost use Rattle.serial.specs.Reading.{without_framer, left_to_read};
-    ghost use Rattle.serial.specs.InputReading.{HasRead, ReadsOn, TellsFailures, IsDone, BeginsTakeable, IsWhole, answered};
+    ghost use Rattle.serial.specs.InputReading.{HasRead, ReadsOn, TellsFailures, IsDone, BeginsTakeable, IsWhole};
 
     /// The input with this number in the plan, of which nothing was read.
     pub fn new(alloc: Global, number: usize, input: &Input, source: R) -> SerialInput<R>
@@ -55,13 +55,15 @@ impl<R: Source> SerialInput<R> {
         }
     }
 
-    /// The next packet that the plan names, with its time; none where the input has no more. It reads pieces of at most
-    /// the length of `piece` until there is one. An `Err` is want of memory, and ends the input.
-    pub fn next(&mut self, plan: &Plan, piece: &mut [u8]) -> Result<Option<Stamped>, AllocError>
+    /// Finds the next packet that the plan names, with its time, and holds it; false is answered where the input has no
+    /// more. It reads pieces of at most the length of `piece` until there is one, and nothing where one is held. An `Err` is
+    /// want of memory, and ends the input.
+    pub fn find(&mut self, plan: &Plan, piece: &mut [u8]) -> Result<bool, AllocError>
         requires { 0 < length piece.old }
-        ensures read { ReadsOn R.remaining plan.now self.old self.new (answered result) }
-        ensures done { IfOk result (λ found. IfNone found (IsDone self.new)) }
-        ensures held { OnOk result (self.new.held ≡ None) }
+        ensures read { ReadsOn R.remaining plan.now self.old self.new }
+        ensures found { result ≡ Ok true → IsSome self.new.held }
+        ensures done { result ≡ Ok false → IsDone self.new }
+        ensures stays { IsSome self.old.held → self.new ≡ self.old }
         ensures memory { OnErr result (self.new.report.stopped ≡ Some Stop.Memory) }
         ensures failed { self.new.report.stopped ≡ Some Stop.ReadFailed
             → (self.old.report.stopped ≡ Some Stop.ReadFailed)
@@ -71,35 +73,41 @@ impl<R: Source> SerialInput<R> {
         ensures going { self.new.report.stopped ≡ None → self.old.report.stopped ≡ None }
         ensures unleft { self.new.report.stopped ≡ Some Stop.Gate
             → self.old.report.stopped ≡ Some Stop.Gate }
+        ensures unrefused { OnOk result (self.new.report.stopped ≡ Some Stop.Memory
+            → self.old.report.stopped ≡ Some Stop.Memory) }
         ensures origin { self.new.origin ≡ self.old.origin }
         ensures closed { self.new.is_closed ≡ self.old.is_closed }
     {
-        if let Some(held) = self.held.take() {
-            return Ok(Some(held));
+        if self.held.is_some() {
+            return Ok(true);
         }
         self.search(plan, piece)
     }
 
-    /// The next packet of an input that holds none.
-    fn search(&mut self, plan: &Plan, piece: &mut [u8]) -> Result<Option<Stamped>, AllocError>
+    /// The same of an input that holds none.
+    fn search(&mut self, plan: &Plan, piece: &mut [u8]) -> Result<bool, AllocError>
         requires piece { 0 < length piece.old }
         requires held { self.old.held ≡ None }
-        ensures read { ReadsOn R.remaining plan.now self.old self.new (answered result) }
-        ensures done { IfOk result (λ found. IfNone found (IsDone self.new)) }
-        ensures held { OnOk result (self.new.held ≡ None) }
+        ensures read { ReadsOn R.remaining plan.now self.old self.new }
+        ensures found { result ≡ Ok true → IsSome self.new.held }
+        ensures done { result ≡ Ok false → IsDone self.new }
         ensures memory { OnErr result (self.new.report.stopped ≡ Some Stop.Memory) }
         ensures failures { (before : ℕ) → TellsFailures R.failures before self.old
             → TellsFailures R.failures before self.new }
         ensures going { self.new.report.stopped ≡ None → self.old.report.stopped ≡ None }
         ensures unleft { self.new.report.stopped ≡ Some Stop.Gate
             → self.old.report.stopped ≡ Some Stop.Gate }
+        ensures unrefused { OnOk result (self.new.report.stopped ≡ Some Stop.Memory
+            → self.old.report.stopped ≡ Some Stop.Memory) }
         ensures origin { self.new.origin ≡ self.old.origin }
         ensures closed { self.new.is_closed ≡ self.old.is_closed }
     {
         loop {
-            let found = self.next_told(plan);
-            if found.is_some() || self.reader.is_over() {
-                return Ok(found);
+            if self.find_told(plan) {
+                return Ok(true);
+            }
+            if self.reader.is_over() {
+                return Ok(false);
             }
             match self.read(piece) {
                 Ok(()) => {}
@@ -108,23 +116,29 @@ impl<R: Source> SerialInput<R> {
         }
     }
 
-    /// The next packet that the plan names among the items that were told.
-    fn next_told(&mut self, plan: &Plan) -> Option<Stamped>
+    /// The same among the items that were told.
+    fn find_told(&mut self, plan: &Plan) -> bool
         requires { self.old.held ≡ None }
         ensures read { (bytes : List ℕ) (given : List GivenPacket) → HasRead R.remaining plan.now self.old bytes given
-            → HasRead R.remaining plan.now self.new bytes (given ++ option_to_list result) }
-        ensures none { IfNone result (self.new.reader.ahead ≡ []) }
-        ensures stays { self.new ≡ record self.old { reader = self.new.reader; report = self.new.report } }
+            → HasRead R.remaining plan.now self.new bytes given }
+        ensures found { result ≡ is_some self.new.held }
+        ensures none { result ≡ false → self.new.reader.ahead ≡ [] }
+        ensures stays { self.new ≡ record self.old {
+          reader = self.new.reader;
+          held = self.new.held;
+          report = self.new.report;
+        } }
         ensures framer { self.new.reader.framer ≡ self.old.reader.framer }
         ensures stopped { self.new.report.stopped ≡ self.old.report.stopped }
     {
-        while let Some(item) = self.reader.next() {
-            let found = look_at(plan, &self.origin, &item, &mut self.report);
-            if found.is_some() {
-                return found;
+        while let Some(item) = self.reader.peek() {
+            let is_named = look_at(plan, &self.origin, item, &mut self.held, &mut self.report);
+            self.reader.pass();
+            if is_named {
+                return true;
             }
         }
-        None
+        false
     }
 
     /// Reads the next piece and frames it, where all items were looked at. A failed read and a stream that is too long
@@ -133,7 +147,7 @@ impl<R: Source> SerialInput<R> {
         requires piece { 0 < length piece.old }
         requires ahead { self.old.reader.ahead ≡ [] }
         requires open { IsSome self.old.reader.framer }
-        ensures read { (plan : PlanValue) → ReadsOn R.remaining plan self.old self.new [] }
+        ensures read { (plan : PlanValue) → ReadsOn R.remaining plan self.old self.new }
         ensures smaller { left_to_read self.new.reader.framer < left_to_read self.old.reader.framer }
         ensures memory { OnErr result (self.new.report.stopped ≡ Some Stop.Memory) }
         ensures failures { (before : ℕ) → TellsFailures R.failures before self.old
@@ -141,6 +155,8 @@ impl<R: Source> SerialInput<R> {
         ensures going { self.new.report.stopped ≡ None → self.old.report.stopped ≡ None }
         ensures unleft { self.new.report.stopped ≡ Some Stop.Gate
             → self.old.report.stopped ≡ Some Stop.Gate }
+        ensures unrefused { OnOk result (self.new.report.stopped ≡ Some Stop.Memory
+            → self.old.report.stopped ≡ Some Stop.Memory) }
         ensures held { self.new.held ≡ self.old.held }
         ensures origin { self.new.origin ≡ self.old.origin }
         ensures closed { self.new.is_closed ≡ self.old.is_closed }
@@ -170,6 +186,8 @@ impl<R: Source> SerialInput<R> {
         ensures going { self.new.report.stopped ≡ None → self.old.report.stopped ≡ None }
         ensures unleft { self.new.report.stopped ≡ Some Stop.Gate
             → self.old.report.stopped ≡ Some Stop.Gate }
+        ensures unrefused { OnOk result (self.new.report.stopped ≡ Some Stop.Memory
+            → self.old.report.stopped ≡ Some Stop.Memory) }
         ensures stays { self.new ≡ record self.old { reader = self.new.reader; report = self.new.report } }
     {
         match self.reader.feed(piece) {
@@ -200,6 +218,8 @@ impl<R: Source> SerialInput<R> {
         ensures going { self.new.report.stopped ≡ None → self.old.report.stopped ≡ None }
         ensures unleft { self.new.report.stopped ≡ Some Stop.Gate
             → self.old.report.stopped ≡ Some Stop.Gate }
+        ensures unrefused { OnOk result (self.new.report.stopped ≡ Some Stop.Memory
+            → self.old.report.stopped ≡ Some Stop.Memory) }
         ensures stays { self.new ≡ record self.old { reader = self.new.reader; report = self.new.report } }
     {
         match self.reader.finish() {
@@ -213,7 +233,9 @@ impl<R: Source> SerialInput<R> {
 
     /// Leaves the input for this cause.
     fn stop(&mut self, cause: Stop)
-        requires { cause ≢ Stop.TooMuch }
+        requires cause { cause ≢ Stop.TooMuch }
+        requires prompt { cause ≡ Stop.ReadFailed
+            → (self.old.reader.ahead ≡ []) × IsSome self.old.reader.framer }
         ensures read { (plan : PlanValue) (bytes : List ℕ) (given : List GivenPacket)
             → HasRead R.remaining plan self.old bytes given
             → HasRead R.remaining plan self.new bytes given }
@@ -226,15 +248,21 @@ impl<R: Source> SerialInput<R> {
         self.report.stopped = Some(cause);
     }
 
-    /// Keeps a packet that was handed back, as the input's next one.
-    pub fn hold(&mut self, stamped: Stamped)
-        requires { self.old.held ≡ None }
-        ensures read { (plan : PlanValue) (bytes : List ℕ) (given : List GivenPacket)
-            → HasRead R.remaining plan self.old bytes (given ++ stamped ∷ [])
-            → HasRead R.remaining plan self.new bytes given }
-        ensures stays { self.new ≡ record self.old { held = Some stamped } }
+    /// The packet that it holds: the one that it gives next.
+    pub fn held(&self) -> Option<&Stamped>
+        ensures { option_copied result ≡ self.now.held }
     {
-        self.held = Some(stamped);
+        self.held.as_ref()
+    }
+
+    /// Gives the packet that it holds.
+    pub fn release(&mut self)
+        ensures read { (plan : PlanValue) (bytes : List ℕ) (given : List GivenPacket)
+            → HasRead R.remaining plan self.old bytes given
+            → HasRead R.remaining plan self.new bytes (given ++ option_to_list self.old.held) }
+        ensures stays { self.new ≡ record self.old { held = None } }
+    {
+        self.held = None;
     }
 
     /// Notes that it was closed in the multiplex.
@@ -253,7 +281,7 @@ impl<R: Source> SerialInput<R> {
             → self.new.report ≡ record self.old.report { stopped = Some Stop.Gate } }
         ensures closed { self.old.is_closed ≡ true → self.new ≡ self.old }
         ensures stopped { IsSome self.old.report.stopped → self.new ≡ self.old }
-        ensures source { self.new.source ≡ self.old.source }
+        ensures stays { self.new ≡ record self.old { reader = self.new.reader; report = self.new.report } }
     {
         if !self.is_closed && self.report.stopped.is_none() {
             self.stop(Stop::Gate);

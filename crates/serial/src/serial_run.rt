@@ -1,6 +1,6 @@
 //! The serial run.
 
-use crate::ending::end_inputs;
+use crate::ending::end_run;
 use crate::feeding::pull_at;
 use crate::opening::open_inputs;
 use crate::run_fault::RunFault;
@@ -9,7 +9,7 @@ use crate::sink::Sink;
 use crate::slot_writer::SlotWriter;
 use crate::source::Source;
 use crate::summary::Summary;
-use mux::{Mux, Slot};
+use mux::{Mux, Sending};
 use plan::Plan;
 use std::alloc::{AllocError, Global};
 
@@ -28,7 +28,7 @@ pub(crate) struct SerialRun<R> {
 
 impl<R: Source + Drop> SerialRun<R> {
     ghost use Rattle.std.specs.Prelude.{◌≡◌, ◌<◌, ◌≤◌, ◌++◌, ℕ, List, [], Option, Ok, Err, true, false, length, map, IfOk, OnOk, OnErr};
-    ghost use Rattle.mux.specs.History.{Run, emitted};
+    ghost use Rattle.mux.specs.History.{Run, slots, emitted};
     ghost use Rattle.std.specs.Io.KnownBytes.{Appends};
     ghost use Rattle.serial.specs.Failures.{FailsOnce};
     ghost use Rattle.serial.specs.InputReading.{AllTellFailures};
@@ -37,7 +37,7 @@ impl<R: Source + Drop> SerialRun<R> {
     ghost use Rattle.mux.specs.Headline.{IsSound};
     ghost use Rattle.mux.specs.Totals.{IsCounts};
     ghost use Rattle.serial.specs.InputReading.{AllTellFailures};
-    ghost use Rattle.serial.specs.Ending.{AreReported};
+    ghost use Rattle.serial.specs.Ending.{AreReported, ArePeaks};
     ghost use Rattle.serial.specs.Running.{IsRunning, IsOver, AreBegun, steps_left};
 
     /// A run of a plan for at most this many slots, of which nothing was read or sent.
@@ -68,31 +68,29 @@ impl<R: Source + Drop> SerialRun<R> {
 
     /// How many slots were sent. What every multiplex keeps is known with it.
     pub fn slots(&self) -> u64
-        ensures { IsSound self.now.mux }
+        ensures count { result ≡ slots self.now.mux.events }
+        ensures sound { IsSound self.now.mux }
     {
         self.mux.slots()
     }
 
     /// What became of the run, and its readers.
     pub fn finish(self, alloc: Global) -> Result<(Summary, Vec<R>), AllocError>
-        requires { length self.inputs.items ≡ length self.mux.run.plan.request.inputs }
+        requires inputs { length self.inputs.items ≡ length self.mux.run.plan.request.inputs }
+        requires plan { self.plan ≡ self.mux.run.plan }
         ensures inputs { IfOk result (λ done. AreReported self.mux.run.plan self.mux.events self.inputs.items done.0.inputs.items done.1.items) }
+        ensures streams { IfOk result (λ done. ArePeaks self.mux.run.plan self.mux.events done.0.streams.items) }
         ensures counts { IfOk result (λ done. IsCounts self.mux.events done.0.counts) }
         ensures faults { IfOk result (λ done. done.0.faults ≡ self.output.faults) }
     {
         let SerialRun {
+            plan,
             mux,
             inputs,
             output,
             ..
         } = self;
-        let (inputs, readers) = end_inputs(alloc, &mux, inputs)?;
-        let summary = Summary {
-            inputs,
-            counts: mux.counts(),
-            faults: output.faults(),
-        };
-        Ok((summary, readers))
+        end_run(alloc, &plan, &mux, inputs, output.faults())
     }
 
     /// Sends slots until nothing is left to send or the run has all its slots, and writes what is in the buffer.
@@ -154,18 +152,19 @@ impl<R: Source + Drop> SerialRun<R> {
         ensures failed { result ≡ Err RunFault.Write
             → FailsOnce (W.failures sink.old) (W.failures sink.new) }
     {
-        match self.mux.slot() {
-            Slot::Sent(packet) => {
-                self.output.put(&packet, sink)?;
+        let slot = self.mux.slots();
+        match self.mux.send_next() {
+            Sending::Sent => {
+                self.output.put(self.mux.packet(slot), sink)?;
                 Ok(false)
             }
-            Slot::NotReady(input) => {
+            Sending::NotReady(input) => {
                 let piece = self.piece.as_mut_slice();
                 pull_at(&self.plan, &mut self.mux, input, &mut self.inputs, piece)?;
                 Ok(false)
             }
-            Slot::Done | Slot::RunFull => Ok(true),
-            Slot::Memory => Err(RunFault::Memory),
+            Sending::Done | Sending::RunFull => Ok(true),
+            Sending::Memory => Err(RunFault::Memory),
         }
     }
 }

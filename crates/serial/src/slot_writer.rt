@@ -74,7 +74,7 @@ impl SlotWriter {
         ensures writer { self.new.writer ≡ self.old.writer }
     {
         self.told.clear();
-        self.analyser.push(packet.bytes(), &mut self.told)?;
+        self.analyser.push_packet(packet, &mut self.told)?;
         let told = self.told.as_slice().len() as u64;
         self.faults = self.faults.saturating_add(told);
         Ok(())

@@ -1,7 +1,7 @@
 //! What became of a run.
 
 use crate::report::Report;
-use mux::{Counts, Totals};
+use mux::{Counts, Peak, Totals};
 
 /// What became of one input of a run.
 #[derive(Clone, Copy, Debug, PartialEq, Eq)]
@@ -17,6 +17,8 @@ pub struct InputSummary {
 pub struct Summary {
     /// The inputs, in the order of the plan.
     pub inputs: Vec<InputSummary>,
+    /// The largest delay and the fullest queue of each stream, in the order of the plan.
+    pub streams: Vec<Peak>,
     /// What the slots carried.
     pub counts: Counts,
     /// How many faults the analyser told of the output.

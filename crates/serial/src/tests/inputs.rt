@@ -114,8 +114,11 @@ fn times(alloc: Global, step: usize, fails_at: usize) -> Result<(Vec<u64>, Repor
     let mut times = Vec::new(alloc);
     let mut piece = [0; 1000];
     for _ in 0..10 {
-        if let Some(found) = input.next(&plan, &mut piece)? {
-            times.push(found.stamp)?;
+        if input.find(&plan, &mut piece)? {
+            if let Some(found) = input.held() {
+                times.push(found.stamp)?;
+            }
+            input.release();
         }
     }
     Ok((times, input.report()))

@@ -12,12 +12,19 @@ use Rattle.serial.proofs.SendingLaws.{on_err_always}
 use Rattle.serial.proofs.OutcomeLaws.{has_run, has_begun_nothing, has_begun_all, nothing_sent, failures_told}
 use Rattle.serial.proofs.run.run_to.Goals as goal
 
-pub finish-requires : goal.finish-requires
-finish-requires g c =
+pub finish-requires-clause-inputs : goal.finish-requires-clause-inputs
+finish-requires-clause-inputs g c =
     let run : Run = record { plan = c.args.plan; limit = c.args.slots } in
     let starts = map g.R.Source.remaining c.args.readers.items in
     let is = c.in_ok-driven.ensures.runs run starts c.in_ok-run.ensures.running in
     is.fed.count ∙ ap (λ (v : Run). length v.plan.request.inputs) (sym is.run_is)
+
+pub finish-requires-clause-plan : goal.finish-requires-clause-plan
+finish-requires-clause-plan g c =
+    let run : Run = record { plan = c.args.plan; limit = c.args.slots } in
+    let starts = map g.R.Source.remaining c.args.readers.items in
+    let is = c.in_ok-driven.ensures.runs run starts c.in_ok-run.ensures.running in
+    is.plan_is ∙ ap (λ (v : Run). v.plan) (sym is.run_is)
 
 pub returns-clause-runs : goal.returns-clause-runs
 returns-clause-runs g c =
@@ -35,7 +42,7 @@ returns-clause-runs g c =
     let told = c.in_ok-finish.ensures in (
       r.mux.events,
       has_run g.R.Source.remaining run starts r before after c.in_ok-finish.field-0.0 c.in_ok-finish.field-0.1.items c.requires.slots (driven.runs run starts opened.running)
-          (subst O opened.running.run_is driven.over) c.slots.ensures written told.inputs told.counts told.faults,
+          (subst O opened.running.run_is driven.over) c.slots.ensures.sound written told.inputs told.streams told.counts told.faults,
     )
 
 pub returns-clause-readers : goal.returns-clause-readers
@@ -73,7 +80,7 @@ returns-in_err-driven-clause-begins g c =
     on_err_always c.from_residual-in_err-driven.result (
       r.mux.events,
       record {
-        lawful = subst L (c.drive-driven.ensures.run ∙ opened.running.run_is) c.slots.ensures.run;
+        lawful = subst L (c.drive-driven.ensures.run ∙ opened.running.run_is) c.slots.ensures.sound.run;
         begun = c.in_err-driven.ensures.begun run starts opened.running;
         written = subst S opened.running.plan_is (c.in_err-driven.ensures.sent_begun before (nothing_sent old.plan old.mux.events before old.output.writer opened.new opened.waiting));
       },
@@ -92,4 +99,4 @@ returns-in_err-finish-clause-begins g c =
     let A : PlanValue → Type 0 = λ p. Appends before after (bytes_of (emitted p r.mux.events)) in
     let written = subst A opened.running.plan_is (driven.written before (nothing_sent old.plan old.mux.events before old.output.writer opened.new opened.waiting)) in
     on_err_always c.from_residual-in_err-finish.result
-    (r.mux.events, has_begun_all g.R.Source.remaining run starts r before after (driven.runs run starts opened.running) c.slots.ensures written)
+    (r.mux.events, has_begun_all g.R.Source.remaining run starts r before after (driven.runs run starts opened.running) c.slots.ensures.sound written)

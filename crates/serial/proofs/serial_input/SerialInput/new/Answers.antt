@@ -12,4 +12,5 @@ pub returns-clause-failures : goal.returns-clause-failures
 returns-clause-failures g c = record {
   unfailed = λ some. refl;
   told = λ e. absurd (none-some ReadFailed (sym (ap (λ (r : Report). r.stopped) c.new-3.ensures) ∙ e));
+  untold = λ f. refl;
 }

@@ -1,0 +1,23 @@
+use Rattle.std.proofs.Common.{◌≡◌, ℕ, subst}
+use Rattle.std.specs.Prelude.{IfOk}
+use Rattle.serial.proofs.serial_run.SerialRun.finish.Goals as goal
+
+pub end_run-requires-clause-inputs : goal.end_run-requires-clause-inputs
+end_run-requires-clause-inputs g c = c.requires.inputs
+
+pub end_run-requires-clause-plan : goal.end_run-requires-clause-plan
+end_run-requires-clause-plan g c = c.requires.plan
+
+pub returns-clause-inputs : goal.returns-clause-inputs
+returns-clause-inputs g c = c.end_run.ensures.inputs
+
+pub returns-clause-streams : goal.returns-clause-streams
+returns-clause-streams g c = c.end_run.ensures.streams
+
+pub returns-clause-counts : goal.returns-clause-counts
+returns-clause-counts g c = c.end_run.ensures.counts
+
+pub returns-clause-faults : goal.returns-clause-faults
+returns-clause-faults g c =
+    let P : ℕ → Type 0 = λ n. IfOk c.end_run.result (λ done. done.0.faults ≡ n) in
+    subst P c.faults.ensures c.end_run.ensures.faults

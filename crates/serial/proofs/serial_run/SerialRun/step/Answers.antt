@@ -1,26 +1,31 @@
 use Rattle.std.proofs.Common.{◌≡◌, length, refl, ap, ◌∙◌, sym, subst, arith}
 use Rattle.std.specs.List.{length_refill}
 use Rattle.std.specs.Vec.{with_items}
-use Rattle.mux.specs.History.{Run}
-use Rattle.mux.specs.History.{History}
+use Rattle.mux.specs.History.{Run, History, slots}
 use Rattle.serial.specs.Running.{AreBegun}
 use Rattle.serial.proofs.SendingLaws.{on_err_always}
-use Rattle.serial.proofs.RunningLaws.{runs_sent, fewer_sent, written_sent, runs_pulled, fewer_pulled, begun, begun_sent, sent_begun}
+use Rattle.serial.proofs.RunningLaws.{lent, runs_sent, fewer_sent, written_sent, runs_pulled, fewer_pulled, begun, begun_sent, sent_begun}
 use Rattle.serial.proofs.serial_run.SerialRun.step.Goals as goal
+
+pub packet-requires : goal.packet-requires
+packet-requires g c =
+    let more = ap (λ (h : History). slots h.events) c.in-Sent.ensures.answer.1.2 in
+    let count = c.slots-slot.ensures.count in
+    omega (arith, more, count)
 
 pub returns-in_ok-put-in-Sent-clause-runs : goal.returns-in_ok-put-in-Sent-clause-runs
 returns-in_ok-put-in-Sent-clause-runs g c run starts is =
-    runs_sent g.R.Source.remaining run starts c.args.self.now c.slot.new.self c.put.new.self c.in-Sent.packet is c.in-Sent.ensures.answer c.slot.ensures.run c.in_ok-put-in-Sent.ensures.analysed
+    runs_sent g.R.Source.remaining run starts c.args.self.now c.send_next.new.self c.put.new.self c.packet.result.now is (lent c.args.self.now.mux c.send_next.new.self c.slots-slot.result c.packet.result.now c.in-Sent.ensures.answer c.slots-slot.ensures.count c.packet.ensures) c.send_next.ensures.run c.in_ok-put-in-Sent.ensures.analysed
 
 pub returns-in_ok-put-in-Sent-clause-fewer : goal.returns-in_ok-put-in-Sent-clause-fewer
-returns-in_ok-put-in-Sent-clause-fewer g c e = fewer_sent c.args.self.now.mux c.slot.new.self c.in-Sent.packet c.in-Sent.ensures.answer
+returns-in_ok-put-in-Sent-clause-fewer g c e = fewer_sent c.args.self.now.mux c.send_next.new.self c.packet.result.now (lent c.args.self.now.mux c.send_next.new.self c.slots-slot.result c.packet.result.now c.in-Sent.ensures.answer c.slots-slot.ensures.count c.packet.ensures)
 
 pub returns-in_ok-put-in-Sent-clause-written : goal.returns-in_ok-put-in-Sent-clause-written
 returns-in_ok-put-in-Sent-clause-written g c before first =
     let is = c.requires.2 in
     let plan : c.args.self.now.mux.run.plan ≡ c.args.self.now.plan = ap (λ (r : Run). r.plan) is.run_is ∙ sym is.plan_is in
-    written_sent c.args.self.now.plan c.args.self.now.mux c.slot.new.self c.in-Sent.packet before (g.W.Sink.contents c.args.sink.now) (g.W.Sink.contents c.put.new.sink)
-    c.args.self.now.output.writer c.put.new.self.writer plan c.in-Sent.ensures.answer first c.in_ok-put-in-Sent.ensures.written
+    written_sent c.args.self.now.plan c.args.self.now.mux c.send_next.new.self c.packet.result.now before (g.W.Sink.contents c.args.sink.now) (g.W.Sink.contents c.put.new.sink)
+    c.args.self.now.output.writer c.put.new.self.writer plan (lent c.args.self.now.mux c.send_next.new.self c.slots-slot.result c.packet.result.now c.in-Sent.ensures.answer c.slots-slot.ensures.count c.packet.ensures) first c.in_ok-put-in-Sent.ensures.written
 
 pub returns-in_ok-pull_at-in-NotReady-clause-runs :
     goal.returns-in_ok-pull_at-in-NotReady-clause-runs
@@ -31,21 +36,21 @@ returns-in_ok-pull_at-in-NotReady-clause-runs g c run starts is =
     let some = is.piece in
     runs_pulled g.R.Source.remaining run starts old
     (record old { mux = c.pull_at.new.mux; inputs = c.pull_at.new.inputs; piece = with_items old.piece c.pull_at.new.piece })
-    c.slot.new.self c.in-NotReady.input is c.in-NotReady.ensures.answer.0 refl (omega (arith, some, length_is, kept)) refl
+    c.send_next.new.self c.in-NotReady.input is c.in-NotReady.ensures.answer.0 refl (omega (arith, some, length_is, kept)) refl
     c.in_ok-pull_at-in-NotReady.ensures.event c.in_ok-pull_at-in-NotReady.ensures.fed c.in_ok-pull_at-in-NotReady.ensures.going
     c.in_ok-pull_at-in-NotReady.ensures.faithful
 
 pub returns-in_ok-pull_at-in-NotReady-clause-fewer :
     goal.returns-in_ok-pull_at-in-NotReady-clause-fewer
 returns-in_ok-pull_at-in-NotReady-clause-fewer g c e =
-    fewer_pulled c.args.self.now.mux c.slot.new.self c.pull_at.new.mux c.in-NotReady.input c.in-NotReady.ensures.answer.0 c.in-NotReady.ensures.answer.2.input
+    fewer_pulled c.args.self.now.mux c.send_next.new.self c.pull_at.new.mux c.in-NotReady.input c.in-NotReady.ensures.answer.0 c.in-NotReady.ensures.answer.2.input
     c.in_ok-pull_at-in-NotReady.ensures.event c.in_ok-pull_at-in-NotReady.ensures.fewer
 
 pub returns-in_err-put-in-Sent-clause-begun : goal.returns-in_err-put-in-Sent-clause-begun
 returns-in_err-put-in-Sent-clause-begun g c =
     let old = c.args.self.now in
     on_err_always c.from_residual.result
-    (λ run starts is. begun_sent run.plan old.mux c.slot.new.self c.in-Sent.packet starts c.in-Sent.ensures.answer
+    (λ run starts is. begun_sent run.plan old.mux c.send_next.new.self c.packet.result.now starts (lent c.args.self.now.mux c.send_next.new.self c.slots-slot.result c.packet.result.now c.in-Sent.ensures.answer c.slots-slot.ensures.count c.packet.ensures)
     (begun g.R.Source.remaining run.plan old.mux.events starts old.inputs.items is.fed))
 
 pub returns-in_err-put-in-Sent-clause-sent_begun :
@@ -55,8 +60,8 @@ returns-in_err-put-in-Sent-clause-sent_begun g c =
     let is = c.requires.2 in
     let plan : old.mux.run.plan ≡ old.plan = ap (λ (r : Run). r.plan) is.run_is ∙ sym is.plan_is in
     on_err_always c.from_residual.result
-    (λ before first. sent_begun old.plan old.mux c.slot.new.self c.in-Sent.packet before (g.W.Sink.contents c.args.sink.now) (g.W.Sink.contents c.put.new.sink) old.output.writer plan
-    c.in-Sent.ensures.answer first c.in_err-put-in-Sent.ensures.begun)
+    (λ before first. sent_begun old.plan old.mux c.send_next.new.self c.packet.result.now before (g.W.Sink.contents c.args.sink.now) (g.W.Sink.contents c.put.new.sink) old.output.writer plan
+    (lent c.args.self.now.mux c.send_next.new.self c.slots-slot.result c.packet.result.now c.in-Sent.ensures.answer c.slots-slot.ensures.count c.packet.ensures) first c.in_err-put-in-Sent.ensures.begun)
 
 pub returns-in_err-pull_at-in-NotReady-clause-begun :
     goal.returns-in_err-pull_at-in-NotReady-clause-begun

@@ -1,7 +1,7 @@
 use Rattle.std.proofs.Common.{◌≡◌, ℕ, List, length, None}
 use Rattle.tspkt.specs.declared.stamped.Stamped.{Stamped}
 use Rattle.serial.specs.InputReading.{HasRead}
-use Rattle.serial.proofs.serial_input.SerialInput.next_told.Given as goal
+use Rattle.serial.proofs.serial_input.SerialInput.find_told.Given as goal
 
 abbrev pub invariant-loop-item : goal.invariant-loop-item
 invariant-loop-item g l = record {

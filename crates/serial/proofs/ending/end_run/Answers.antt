@@ -1,0 +1,21 @@
+use Rattle.std.proofs.Common.{length, refl, ap, ◌∙◌}
+use Rattle.plan.specs.Build.{PlanValue}
+use Rattle.serial.proofs.ending.end_run.Goals as goal
+
+pub end_streams-requires : goal.end_streams-requires
+end_streams-requires g c = ap length c.streams.ensures ∙ ap (λ (v : PlanValue). length v.request.streams) c.requires.plan
+
+pub end_inputs-requires : goal.end_inputs-requires
+end_inputs-requires g c = c.requires.inputs
+
+pub returns-clause-inputs : goal.returns-clause-inputs
+returns-clause-inputs g c = c.in_ok-inputs.ensures
+
+pub returns-clause-streams : goal.returns-clause-streams
+returns-clause-streams g c = c.in_ok-streams.ensures
+
+pub returns-clause-counts : goal.returns-clause-counts
+returns-clause-counts g c = c.counts.ensures
+
+pub returns-clause-faults : goal.returns-clause-faults
+returns-clause-faults g c = refl
