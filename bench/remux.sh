@@ -4,7 +4,7 @@
 # a second, and peak memory. The last lines are the ratios of the best times. REMUX names another program than the built one.
 set -euo pipefail
 cd "$(dirname "${BASH_SOURCE[0]}")"
-program=${REMUX:-$PWD/../crates/remux/out/remux}
+program=${REMUX:-$PWD/../remux}
 [ -n "${REMUX:-}" ] || (cd ../crates/remux && rt run > /dev/null 2>&1)
 folder=$PWD/data/remux
 [ -s "$folder/job.toml" ] || ./make_inputs.sh "$folder"

@@ -9,7 +9,7 @@ use std::io;
 pub(crate) enum CommandFault {
     /// The plan is refused, for another reason than want of memory.
     Plan(PlanFault),
-    /// The file with this name can't be opened, read or written, or is too long.
+    /// The file with this name can't be opened, read or written, or is too long; or it is to be written and is read.
     File(String),
     /// What is printed can't be written.
     Print,

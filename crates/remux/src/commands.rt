@@ -2,12 +2,13 @@
 
 ghost use Rattle.std.specs.Prelude.{◌≡◌, ◌≤◌, length, IfOk};
 
+use crate::command::{Command, LineFault};
 use crate::command_fault::CommandFault;
-use crate::command_line::{Command, LineFault, line};
+use crate::command_line::line;
 use crate::files::Files;
 use crate::first_run;
 use crate::plan_files::{open_inputs, read_plan};
-use crate::printing::{has_failed, print_plan, print_summary};
+use crate::printing::{has_failed, print_delays, print_plan, print_summary};
 use crate::stream_analysis::StreamAnalysis;
 use plan::Plan;
 use serial::{RunFault, Sink, Source, Summary, run_serial};
@@ -29,11 +30,23 @@ struct Prepared<R, W> {
     writer: W,
 }
 
-/// Does a whole command, with files by their names, and prints its lines to `out` and its fault to `err`. The answer is the
-/// status with which the program ends, and the output's writer, where one was made.
+/// A run that has ended by itself: its plan, and what became of it.
+#[derive(Drop)]
+struct Ran {
+    plan: Plan,
+    summary: Summary,
+}
+
+/// Does a whole command, with files by their names, and prints its lines to `out` and its fault to `err`, behind the delays
+/// of a run that is asked for them. What `err` doesn't take is left out. The answer is the status with which the program
+/// ends, and the output's writer, where one was made.
 ///
 /// The status is 0 for success, 1 where an analysis told a fault, 2 for refused words, 3 for a refused plan, 4 for a file
 /// that failed and 5 for want of memory. Without words it does the stored first run.
+///
+/// The first fault ends a command: of its words, of the plan's file, of its text, of the inputs while their tables are sought,
+/// of the plan, of the inputs as they are opened again, of the output file, and of the run. An output file with the name of the
+/// plan's file or of an input's can't be made.
 pub fn command<F: Files, O: Write, E: Write, S: AsStr>(
     alloc: Global,
     words: &[S],
@@ -61,9 +74,11 @@ pub fn command<F: Files, O: Write, E: Write, S: AsStr>(
                 out: name,
                 slots,
                 serial: _,
+                delays,
             },
         ) => {
-            let (writer, ended) = run(alloc, files, plan, name, slots, out);
+            let (writer, ran) = run(alloc, files, plan, name, slots);
+            let ended = tell_run(alloc, ran, delays, out, err);
             (end(ended, out, err), writer)
         }
     }
@@ -153,57 +168,68 @@ fn analyse<F: Files, O: Write>(
     }
 }
 
-/// What a run needs. The output is made last, so that a refused run leaves none.
+/// Whether a file with this name is read in a run: the plan's, or an input's. Names are compared as they are given.
+fn is_read(plan_name: &str, plan: &Plan, name: &str) -> bool {
+    name == plan_name
+        || plan
+            .inputs()
+            .iter()
+            .any(|input| input.file.as_str() == name)
+}
+
+/// What a run needs. The output is made last, so that a refused run leaves none, and so that no name is taken for it from which
+/// the run reads.
 fn prepare<F: Files>(
     alloc: Global,
     files: &mut F,
-    plan: &str,
-    out: &str,
+    plan_name: &str,
+    out_name: &str,
 ) -> Result<Prepared<F::Reader, F::Writer>, CommandFault>
     ensures { IfOk result (λ p. length p.readers.items ≡ length p.plan.request.inputs) }
 {
-    let plan = read_plan(alloc, files, plan)?;
+    let plan = read_plan(alloc, files, plan_name)?;
     let kept = plan.copy(alloc)?;
     let readers = open_inputs(alloc, files, &plan)?;
-    match files.writer(out) {
+    if is_read(plan_name, &plan, out_name) {
+        return Err(CommandFault::file(alloc, out_name));
+    }
+    match files.writer(out_name) {
         Some(writer) => Ok(Prepared {
             plan,
             kept,
             readers,
             writer,
         }),
-        None => Err(CommandFault::file(alloc, out)),
+        None => Err(CommandFault::file(alloc, out_name)),
     }
 }
 
 /// Makes the multiplex of a plan.
-fn run<F: Files, O: Write>(
+fn run<F: Files>(
     alloc: Global,
     files: &mut F,
     plan: &str,
     name: &str,
     slots: u64,
-    out: &mut O,
-) -> (Option<F::Writer>, Result<u8, CommandFault>)
+) -> (Option<F::Writer>, Result<Ran, CommandFault>)
     requires { slots ≤ 1000000 }
 {
     match prepare(alloc, files, plan, name) {
         Err(fault) => (None, Err(fault)),
         Ok(prepared) => {
-            let (writer, ended) = run_prepared(alloc, prepared, name, slots, out);
-            (Some(writer), ended)
+            let (writer, ran) = run_prepared(alloc, prepared, name, slots);
+            (Some(writer), ran)
         }
     }
 }
 
-/// Makes the multiplex of a plan, whose output has this name, and prints what became of it.
-fn run_prepared<R: Source + Drop, W: Sink, O: Write>(
+/// Makes the multiplex of a plan, whose output has this name.
+fn run_prepared<R: Source + Drop, W: Sink>(
     alloc: Global,
     prepared: Prepared<R, W>,
     name: &str,
     slots: u64,
-    out: &mut O,
-) -> (W, Result<u8, CommandFault>)
+) -> (W, Result<Ran, CommandFault>)
     requires readers { length prepared.readers.items ≡ length prepared.plan.request.inputs }
     requires slots { slots ≤ 1000000 }
 {
@@ -214,20 +240,33 @@ fn run_prepared<R: Source + Drop, W: Sink, O: Write>(
         writer,
     } = prepared;
     match run_serial(alloc, plan, slots, readers, writer) {
-        (writer, Ok((summary, _))) => (writer, tell(alloc, &kept, &summary, out)),
+        (writer, Ok((summary, _))) => (
+            writer,
+            Ok(Ran {
+                plan: kept,
+                summary,
+            }),
+        ),
         (writer, Err(RunFault::Write)) => (writer, Err(CommandFault::file(alloc, name))),
         (writer, Err(RunFault::Memory)) => (writer, Err(CommandFault::Memory)),
     }
 }
 
-/// Prints what became of a run. The first input that failed is told behind it.
-fn tell<O: Write>(
+/// Prints what became of a run, and with `delays` how long its streams waited, to `err`. The first input that failed is told
+/// behind it.
+fn tell_run<O: Write, E: Write>(
     alloc: Global,
-    plan: &Plan,
-    summary: &Summary,
+    ran: Result<Ran, CommandFault>,
+    delays: bool,
     out: &mut O,
+    err: &mut E,
 ) -> Result<u8, CommandFault> {
-    print_summary(summary, out)?;
+    let Ran { plan, summary } = ran?;
+    print_summary(&summary, out)?;
+    if delays {
+        out.flush()?;
+        let _ = print_delays(&plan, &summary, err);
+    }
     for (input, summary) in plan.inputs().iter().zip(summary.inputs.iter()) {
         if has_failed(&summary.report) {
             return Err(CommandFault::file(alloc, input.file.as_str()));

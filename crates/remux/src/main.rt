@@ -1,15 +1,17 @@
 //! The program: makes one multiplex of services of several transport streams, checks plans, and analyses streams.
 //!
-//! `command` does a whole command over files that it is given. Without words the program does the stored first run: five
+//! `commands::command` does a whole command over files that it is given. Without words the program does the stored first run: five
 //! packets of one input go in, and two slots of the multiplex come out.
 #![tactic(auto)]
 
+mod command;
 mod command_fault;
 mod command_line;
 mod commands;
 mod example;
 mod files;
 mod first_run;
+mod options;
 mod plan_files;
 mod printing;
 mod stream_analysis;
@@ -18,7 +20,6 @@ mod system_files;
 mod tests;
 
 use crate::command_fault::CommandFault;
-use crate::commands::command;
 use crate::system_files::SystemFiles;
 use std::io::{BufWriter, ErrorKind, Write};
 use std::process::ExitCode;
@@ -55,6 +56,6 @@ fn main(rt: HostRuntime) -> ExitCode {
         return ExitCode::from(no_memory(&mut err));
     };
     let mut files = SystemFiles { rt: &rt };
-    let (status, _) = command(rt.alloc(), &words, &mut files, &mut out, &mut err);
+    let (status, _) = commands::command(rt.alloc(), &words, &mut files, &mut out, &mut err);
     ExitCode::from(status)
 }

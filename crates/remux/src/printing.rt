@@ -63,6 +63,24 @@ pub(crate) fn print_summary<O: Write>(summary: &Summary, out: &mut O) -> io::Res
     writeln!(out, "faults {faults}")
 }
 
+/// Prints how long the streams of a run waited, by their numbers: a line each with the largest delay of its packets, in ticks of
+/// 27 MHz, and the most packets that waited in its queue.
+pub(crate) fn print_delays<E: Write>(
+    plan: &Plan,
+    summary: &Summary,
+    err: &mut E,
+) -> io::Result<()> {
+    for (stream, peak) in plan.streams().iter().zip(summary.streams.iter()) {
+        let (output_pid, input, pid) = (stream.output_pid, stream.input, stream.pid);
+        let (delay, queued) = (peak.delay, peak.queued);
+        writeln!(
+            err,
+            "stream 0x{output_pid:04X} input {input} pid 0x{pid:04X} delay {delay} queue {queued}"
+        )?;
+    }
+    Ok(())
+}
+
 /// Whether an input failed, or has more bytes than it may.
 pub(crate) fn has_failed(report: &Report) -> bool {
     matches!(report.stopped, Some(Stop::ReadFailed) | Some(Stop::TooMuch))

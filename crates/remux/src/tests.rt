@@ -2,6 +2,7 @@
 //! tables go out in the slots 0, 2 and 4, 100, 102 and 104, and so on.
 
 mod commands;
+mod delays;
 mod devices;
 mod helpers;
 mod inputs;

@@ -8,6 +8,7 @@ use crate::{example, first_run};
 use anyhow::Result;
 use request::PlanFault;
 use std::alloc::{AllocError, Global};
+use std::ops::Range;
 use std::process::Abort;
 use std::test::Fail;
 
@@ -31,18 +32,18 @@ fn cut_files(alloc: Global, cut: usize) -> Result<MemoryFiles, AllocError> {
 }
 
 /// The example plan and its input.
-fn files(alloc: Global) -> Result<MemoryFiles, AllocError> {
+pub fn files(alloc: Global) -> Result<MemoryFiles, AllocError> {
     cut_files(alloc, 1_504)
 }
 
 /// A command ends with this status, text and fault.
-fn ends(rt: &impl Abort, done: &Done, status: u8, out: &str, err: &str) {
+pub fn ends(rt: &impl Abort, done: &Done, status: u8, out: &str, err: &str) {
     assert_eq!(rt; done.texts().1, err);
     assert_eq!(rt; done.texts().0, out);
     assert_eq!(rt; done.status, status);
 }
 
-const LINES: &str =
+pub const LINES: &str =
     "input 0 framed 8 malformed 0 unmapped 3 bad 0 losses 0 lost 0 taken 5 sent 5 queued 0
 slots 9 tables 3 elementary 5 null 1 faults 0
 ";
@@ -244,7 +245,7 @@ fn a_plan_is_refused_by_the_number_of_its_fault(rt: HostRuntime) -> Result<(), F
 
 /// The example's files, where the input's first reader and the one behind it fail at their ends; with none it can't be
 /// opened.
-fn with_readers(alloc: Global, fail: &[bool]) -> Result<MemoryFiles, AllocError> {
+pub fn with_readers(alloc: Global, fail: &[bool]) -> Result<MemoryFiles, AllocError> {
     let mut files = files(alloc)?;
     if let Some(file) = files.files.get_mut(1) {
         file.readers.clear();
@@ -303,6 +304,24 @@ fn an_input_is_opened_twice(rt: HostRuntime) -> Result<(), Fail> {
     let mut once = with_readers(rt.alloc(), &[false])?;
     once.output = None;
     fails(&rt, &RUN, once, "fault file x.ts\n")?;
+    Ok(())
+}
+
+/// The words of a run of the example to an output of this name.
+fn run_to<'a>(name: &'a str) -> [&'a str; 5] {
+    ["run", "--plan", "x.toml", "--out", name]
+}
+
+/// What is read isn't overwritten: the plan, and the input. The fault comes in the place of an output that can't be made,
+/// behind an input that can't be opened again. Names are compared as they are given.
+#[test]
+fn the_output_is_none_of_the_files_that_are_read(rt: HostRuntime) -> Result<(), Fail> {
+    let alloc = rt.alloc();
+    fails(&rt, &run_to("x.toml"), files(alloc)?, "fault file x.toml\n")?;
+    fails(&rt, &run_to("x.ts"), files(alloc)?, "fault file x.ts\n")?;
+    let once = with_readers(alloc, &[false])?;
+    fails(&rt, &run_to("x.toml"), once, "fault file x.ts\n")?;
+    prints_its_lines(&rt, alloc, &run_to("./x.ts"))?;
     Ok(())
 }
 
@@ -370,12 +389,19 @@ fn want_of_memory_is_told(rt: HostRuntime) {
     }
 }
 
-/// The lines of a run over the example's input, cut to so many bytes, where its tables are found: five good sync bytes.
-fn cut_lines(alloc: Global, cut: usize) -> Result<String, AllocError> {
-    let (framed, lost) = (cut / 188, cut % 188);
+/// How many slots a run over the example's input has, cut to so many bytes, where its tables are found: five good sync bytes.
+/// So many in all, of tables, and of the stream; one is null.
+fn cut_slots(cut: usize) -> (usize, usize, usize) {
+    let framed = cut / 188;
     let taken = framed.saturating_sub(3);
     let tables = if framed == 4 { 2 } else { 3 };
-    let slots = tables + taken + 1;
+    (tables + taken + 1, tables, taken)
+}
+
+/// The lines of such a run.
+fn cut_lines(alloc: Global, cut: usize) -> Result<String, AllocError> {
+    let (framed, lost) = (cut / 188, cut % 188);
+    let (slots, tables, taken) = cut_slots(cut);
     format!(in alloc;
         "input 0 framed {framed} malformed 0 unmapped 3 bad 0 losses 0 lost {lost} taken {taken} sent {taken} queued 0
 slots {slots} tables {tables} elementary {taken} null 1 faults 0
@@ -383,30 +409,82 @@ slots {slots} tables {tables} elementary {taken} null 1 faults 0
     )
 }
 
-/// A run over the example's input, cut to so many bytes, in both ways of running.
-fn runs_cut(rt: &impl Abort, alloc: Global, cut: usize) -> Result<(), AllocError> {
-    let done = does(alloc, &RUN, &mut cut_files(alloc, cut)?)?;
+/// A run over the example's input, cut to so many bytes: its output is a beginning of the whole one.
+fn runs_cut(
+    rt: &impl Abort,
+    alloc: Global,
+    words: &[&str],
+    cut: usize,
+    whole: &[u8],
+) -> Result<(), AllocError> {
+    let done = does(alloc, words, &mut cut_files(alloc, cut)?)?;
     if cut < 753 {
         ends(rt, &done, 3, "", "fault 5 NoProgram\n");
-    } else {
-        ends(rt, &done, 0, cut_lines(alloc, cut)?.as_str(), "");
+        assert_eq!(rt; done.written_len(), None);
+        return Ok(());
     }
-    let serial = does(alloc, &RUN_SERIAL, &mut cut_files(alloc, cut)?)?;
-    assert_eq!(rt; serial.status, done.status);
-    assert!(rt; serial.written == done.written, "another output at {cut}");
+    ends(rt, &done, 0, cut_lines(alloc, cut)?.as_str(), "");
+    let (slots, _, _) = cut_slots(cut);
+    let begins = done.written.as_deref() == whole.get(..slots.saturating_mul(188));
+    assert!(rt; begins, "another output at {cut}");
+    Ok(())
+}
+
+/// Runs over the example's input, cut to each of these lengths.
+fn runs_cuts(
+    rt: &impl Abort,
+    alloc: Global,
+    words: &[&str],
+    cuts: Range<usize>,
+) -> Result<(), Fail> {
+    let whole = does(alloc, words, &mut files(alloc)?)?;
+    let whole = whole.written.ok_or("no output")?;
+    for cut in cuts {
+        runs_cut(rt, alloc, words, cut, &whole)?;
+    }
     Ok(())
 }
 
 #[test]
-fn an_input_may_end_anywhere(rt: HostRuntime) -> Result<(), Fail> {
-    let alloc = rt.alloc();
-    for whole in 0..8 {
-        for rest in [0, 1, 94, 187] {
-            runs_cut(&rt, alloc, 188 * whole + rest)?;
-        }
-    }
-    runs_cut(&rt, alloc, 1_504)?;
-    Ok(())
+fn an_input_may_end_before_its_tables_are_found(rt: HostRuntime) -> Result<(), Fail> {
+    runs_cuts(&rt, rt.alloc(), &RUN, 0..753)
+}
+
+#[test]
+fn an_input_may_end_early(rt: HostRuntime) -> Result<(), Fail> {
+    runs_cuts(&rt, rt.alloc(), &RUN, 753..1_000)
+}
+
+#[test]
+fn an_input_may_end_midway(rt: HostRuntime) -> Result<(), Fail> {
+    runs_cuts(&rt, rt.alloc(), &RUN, 1_000..1_250)
+}
+
+#[test]
+fn an_input_may_end_late(rt: HostRuntime) -> Result<(), Fail> {
+    runs_cuts(&rt, rt.alloc(), &RUN, 1_250..1_505)
+}
+
+#[test]
+fn an_input_of_a_serial_run_may_end_before_its_tables_are_found(
+    rt: HostRuntime,
+) -> Result<(), Fail> {
+    runs_cuts(&rt, rt.alloc(), &RUN_SERIAL, 0..753)
+}
+
+#[test]
+fn an_input_of_a_serial_run_may_end_early(rt: HostRuntime) -> Result<(), Fail> {
+    runs_cuts(&rt, rt.alloc(), &RUN_SERIAL, 753..1_000)
+}
+
+#[test]
+fn an_input_of_a_serial_run_may_end_midway(rt: HostRuntime) -> Result<(), Fail> {
+    runs_cuts(&rt, rt.alloc(), &RUN_SERIAL, 1_000..1_250)
+}
+
+#[test]
+fn an_input_of_a_serial_run_may_end_late(rt: HostRuntime) -> Result<(), Fail> {
+    runs_cuts(&rt, rt.alloc(), &RUN_SERIAL, 1_250..1_505)
 }
 
 /// The output of the example's run is the slots in their order, with the counters of the input.

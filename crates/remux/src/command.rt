@@ -1,0 +1,51 @@
+//! What the program is asked to do.
+
+/// What the program is asked to do, in the words of its command line.
+#[derive(Clone, Copy, Debug, PartialEq, Eq)]
+pub enum Command<'a> {
+    /// Make the multiplex.
+    Run {
+        /// The name of the plan's file.
+        plan: &'a str,
+        /// The name of the output file, which is none of those that the run reads.
+        out: &'a str,
+        /// The most slots, 1 to 1,000,000.
+        slots: u64,
+        /// Whether the run uses one thread alone.
+        serial: bool,
+        /// Whether the largest delay and queue of each stream are told.
+        delays: bool,
+    },
+    /// Make the plan, and show it.
+    Check {
+        /// The name of the plan's file.
+        plan: &'a str,
+    },
+    /// Tell the faults of a stream.
+    Analyse {
+        /// The rate, in bits a second, 500,000 to 100,000,000.
+        rate: u64,
+        /// After how many slots without a packet a PID's absence is told, 1 to 1,000,000.
+        period: u64,
+        /// The name of the stream's file.
+        file: &'a str,
+    },
+}
+
+/// Why words are no command.
+#[derive(Debug, Drop)]
+pub enum LineFault {
+    /// They are refused: what is wrong, and how it is meant.
+    Refused(String),
+    /// They ask for help, or for the version: the text.
+    Help(String),
+    /// There is no memory to read them.
+    Memory,
+}
+
+/// The most slots of a run, and of a watched period.
+pub(crate) const MOST_SLOTS: u64 = 1_000_000;
+/// The least rate of a stream, in bits a second.
+pub(crate) const LEAST_RATE: u64 = 500_000;
+/// The largest one.
+pub(crate) const MOST_RATE: u64 = 100_000_000;

@@ -1,0 +1,154 @@
+//! The commands and their options, as the parser knows them, and their help.
+
+use crate::command::{LEAST_RATE, MOST_RATE, MOST_SLOTS};
+use clap::builder::ValueParser;
+use clap::{Arg, ArgAction, Command};
+use std::alloc::{AllocError, Global};
+
+const ABOUT: &str = "Takes services from several MPEG-2 transport streams and makes one multiplex \
+of constant rate. Without a command it sends the first two slots of a stored plan.";
+
+const EXAMPLE: &str = "Example, from the top of the repository:
+  ./remux run --plan examples/plan.toml --out out.ts
+  ./remux analyse --rate 3000000 --period 5000 out.ts
+
+Status: 0 success, 1 analyse told a fault, 2 refused words, 3 refused plan, 4 a file that failed, 5 want of memory.";
+
+const RUN_USAGE: &str = "remux run --plan <F> --out <F> [--slots <N>] [--serial] [--delays]";
+
+const RUN_EXAMPLE: &str = "It prints a line for each input and one for the output.
+
+With --delays it prints a line for each stream too, on standard error: the largest delay of its packets \
+in ticks of 27 MHz, and the most packets that waited in its queue. Where the delay grows with the length of the run, \
+or the queue came to the plan's 'queue', the plan is overfull.
+
+Example:
+  ./remux run --plan examples/plan.toml --out out.ts --slots 50000";
+
+const CHECK_USAGE: &str = "remux check --plan <F>";
+
+const CHECK_EXAMPLE: &str =
+    "It reads the plan and the tables of its inputs, and prints the rhythm of the tables, \
+the services and the streams.
+
+Example:
+  ./remux check --plan examples/plan.toml";
+
+const ANALYSE_USAGE: &str = "remux analyse --rate <N> --period <N> <F>";
+
+const ANALYSE_EXAMPLE: &str =
+    "It prints a line for each fault of the first priority of ETSI TR 101 290, and one for the \
+stream. The status is 1 where there is a fault.
+
+Example:
+  ./remux analyse --rate 3000000 --period 5000 out.ts";
+
+/// An option `--NAME` without a value.
+fn flag<'a>(alloc: Global, name: &'a str, help: &'a str) -> Arg<'a> {
+    Arg::new(alloc, name)
+        .long(name)
+        .help(help)
+        .action(ArgAction::SetTrue)
+}
+
+/// An argument that has to be given, with a file's name as its value.
+fn file<'a>(alloc: Global, name: &'a str, help: &'a str) -> Arg<'a> {
+    Arg::new(alloc, name)
+        .value_name("F")
+        .help(help)
+        .required(true)
+        .action(ArgAction::Set)
+}
+
+/// An option `--NAME N` with a number from `least` to `most`.
+fn number<'a>(alloc: Global, name: &'a str, help: &'a str, least: u64, most: u64) -> Arg<'a> {
+    Arg::new(alloc, name)
+        .long(name)
+        .value_name("N")
+        .help(help)
+        .value_parser(ValueParser::Unsigned(least, most))
+}
+
+/// The option `--plan F`.
+fn plan<'a>(alloc: Global) -> Arg<'a> {
+    file(alloc, "plan", "The plan's file, in TOML").long("plan")
+}
+
+/// The option `--out F`.
+fn out<'a>(alloc: Global) -> Arg<'a> {
+    let help = "The file that the multiplex is written to, none of those that are read";
+    file(alloc, "out", help).long("out")
+}
+
+/// The option `--slots N`, which may be left out.
+fn slots<'a>(alloc: Global) -> Arg<'a> {
+    let help = "The most packets that are written, 1 to 1000000";
+    number(alloc, "slots", help, 1, MOST_SLOTS).default_value("1000000")
+}
+
+/// The option `--rate N`.
+fn rate<'a>(alloc: Global) -> Arg<'a> {
+    let help = "The rate of the stream in bits a second, 500000 to 100000000";
+    number(alloc, "rate", help, LEAST_RATE, MOST_RATE).required(true)
+}
+
+/// The option `--period N`.
+fn period<'a>(alloc: Global) -> Arg<'a> {
+    let help = "After how many packets the absence of a PID is told, 1 to 1000000";
+    number(alloc, "period", help, 1, MOST_SLOTS).required(true)
+}
+
+/// A command with its help, and without arguments.
+fn command<'a>(
+    alloc: Global,
+    name: &'a str,
+    about: &'a str,
+    usage: &'a str,
+    example: &'a str,
+) -> Command<'a> {
+    Command::new(alloc, name)
+        .about(about)
+        .override_usage(usage)
+        .after_help(example)
+}
+
+fn run_command<'a>(alloc: Global) -> Result<Command<'a>, AllocError> {
+    let about = "Makes the multiplex of a plan";
+    command(alloc, "run", about, RUN_USAGE, RUN_EXAMPLE)
+        .arg(plan(alloc))?
+        .arg(out(alloc))?
+        .arg(slots(alloc))?
+        .arg(flag(alloc, "serial", "Use one thread alone"))?
+        .arg(flag(
+            alloc,
+            "delays",
+            "Print on standard error how long streams waited",
+        ))
+}
+
+fn check_command<'a>(alloc: Global) -> Result<Command<'a>, AllocError> {
+    let about = "Says whether a plan can be run, and shows what it makes";
+    command(alloc, "check", about, CHECK_USAGE, CHECK_EXAMPLE).arg(plan(alloc))
+}
+
+fn analyse_command<'a>(alloc: Global) -> Result<Command<'a>, AllocError> {
+    let about = "Tells the faults of a stream";
+    let stream = "The stream's file: packets of 188 bytes from its start";
+    command(alloc, "analyse", about, ANALYSE_USAGE, ANALYSE_EXAMPLE)
+        .arg(rate(alloc))?
+        .arg(period(alloc))?
+        .arg(file(alloc, "file", stream))
+}
+
+/// The program, with its commands.
+pub(crate) fn program<'a>(alloc: Global) -> Result<Command<'a>, AllocError> {
+    Command::new(alloc, "remux")
+        .version("0.1.0")
+        .about(ABOUT)
+        .after_help(EXAMPLE)
+        .no_binary_name(true)
+        .subcommand_required(true)
+        .subcommand(run_command(alloc)?)?
+        .subcommand(check_command(alloc)?)?
+        .subcommand(analyse_command(alloc)?)
+}

@@ -1,0 +1,130 @@
+//! How long the streams of a run waited, as it is told with `--delays`.
+//!
+//! The time of a packet is that of its byte 10, and so is a slot's: slot s has 27,000 s + 1,436 ticks, and packet k of the
+//! example's input, its tables counted, just as many for s = k. A slot goes out as soon as each input gave a packet of a later
+//! time, or has ended, or found a queue full; so no packet is taken before a slot asks for it.
+
+use crate::commands::command;
+use crate::example;
+use crate::tests::commands::{LINES, ends, files, with_readers};
+use crate::tests::devices::TestWriter;
+use crate::tests::helpers::{input, service, settings};
+use crate::tests::memory_files::{MemoryFiles, does};
+use crate::tests::runs::{add_packets, eight_packets};
+use std::alloc::{AllocError, Global};
+use std::test::Fail;
+
+const RUN: [&str; 6] = ["run", "--plan", "x.toml", "--out", "out.ts", "--delays"];
+
+/// What is told of the example's run. Packets 3 to 7 are the stream's, and go out in the slots 3, 5, 6, 7 and 8, since slot 4
+/// is of a table: the first without a delay, each other a slot of 27,000 ticks late. Slot 5 asks for packet 6, and then the
+/// packets 4, 5 and 6 wait, of which it sends one; slot 6 asks for packet 7, and three wait again; then the input has ended.
+const TOLD: &str = "stream 0x0200 input 0 pid 0x0101 delay 27000 queue 3\n";
+
+#[test]
+fn the_delay_of_a_stream_is_told(rt: HostRuntime) -> Result<(), Fail> {
+    let alloc = rt.alloc();
+    let done = does(alloc, &RUN, &mut files(alloc)?)?;
+    ends(&rt, &done, 0, LINES, TOLD);
+    assert_eq!(rt; done.written_len(), Some(1_692));
+    Ok(())
+}
+
+/// A plan with queues of 4 packets, whose input comes twice as fast as slots go out, and 20 packets of it.
+fn overfull_files(alloc: Global) -> Result<MemoryFiles, AllocError> {
+    let mut text = settings(alloc, 4)?;
+    let slow = input(alloc, 0)?;
+    text.push_str(&slow.replacen(alloc, "rate = 1504000", "rate = 3008000", 1)?)?;
+    text.push_str(&service(alloc, 0, 0, 100, 0x0101)?)?;
+    let mut bytes = Vec::new(alloc);
+    for packet in &example::tables(alloc)? {
+        bytes.extend_from_slice(packet.bytes())?;
+    }
+    for counter in 0..20 {
+        add_packets(&mut bytes, &[counter])?;
+    }
+    let mut files = MemoryFiles::new(alloc)?;
+    files.add("x.toml", text.as_bytes())?;
+    files.add("x.ts", &bytes)?;
+    Ok(files)
+}
+
+/// Packet k of the input has 13,500 k + 718 ticks. Packet 3 goes out in slot 3, and packet 3 + j in slot 4 + j for each j
+/// from 1 to 19: its delay is 27,000 (4 + j) + 1,436 - 13,500 (3 + j) - 718 = 68,218 + 13,500 j ticks, more with each slot.
+/// From slot 3 on each slot finds the queue full, with 4 packets.
+#[test]
+fn an_overfull_plan_is_seen(rt: HostRuntime) -> Result<(), Fail> {
+    let alloc = rt.alloc();
+    let lines =
+        "input 0 framed 23 malformed 0 unmapped 3 bad 0 losses 0 lost 0 taken 20 sent 20 queued 0
+slots 24 tables 3 elementary 20 null 1 faults 0
+";
+    let told = "stream 0x0200 input 0 pid 0x0101 delay 324718 queue 4\n";
+    let whole = does(alloc, &RUN, &mut overfull_files(alloc)?)?;
+    ends(&rt, &whole, 0, lines, told);
+    let unasked = does(alloc, &RUN[..5], &mut overfull_files(alloc)?)?;
+    ends(&rt, &unasked, 0, lines, "");
+    assert!(rt; unasked.written == whole.written, "another output");
+    let shorter = [
+        "run", "--plan", "x.toml", "--out", "out.ts", "--slots", "14", "--delays",
+    ];
+    let shorter = does(alloc, &shorter, &mut overfull_files(alloc)?)?;
+    let told = "stream 0x0200 input 0 pid 0x0101 delay 189718 queue 4\n";
+    assert_eq!(rt; shorter.texts().1, told);
+    Ok(())
+}
+
+/// Two inputs with the example's service each. Tables go out in the slots 0, 2, 4 and 6; packet 3 of the first input in slot 3
+/// and of the second in slot 5; then packets 4 to 7 of both by turns in the slots 7 to 14. So packet 7 of the first goes out
+/// in slot 13, and of the second in slot 14. Slot 6 asks for packet 7 of each, and both have sent one of five by then.
+#[test]
+fn each_stream_has_a_line(rt: HostRuntime) -> Result<(), Fail> {
+    let alloc = rt.alloc();
+    let mut text = settings(alloc, 64)?;
+    text.push_str(&input(alloc, 0)?)?;
+    text.push_str(&input(alloc, 0)?.replacen(alloc, "x.ts", "y.ts", 1)?)?;
+    text.push_str(&service(alloc, 0, 0, 100, 0x0101)?)?;
+    text.push_str(&service(alloc, 1, 1, 100, 0x0101)?)?;
+    let mut files = MemoryFiles::new(alloc)?;
+    files.add("x.toml", text.as_bytes())?;
+    files.add("x.ts", &eight_packets(alloc)?)?;
+    files.add("y.ts", &eight_packets(alloc)?)?;
+    let lines =
+        "input 0 framed 8 malformed 0 unmapped 3 bad 0 losses 0 lost 0 taken 5 sent 5 queued 0
+input 1 framed 8 malformed 0 unmapped 3 bad 0 losses 0 lost 0 taken 5 sent 5 queued 0
+slots 15 tables 4 elementary 10 null 1 faults 0
+";
+    let told = "stream 0x0200 input 0 pid 0x0101 delay 162000 queue 4
+stream 0x0201 input 1 pid 0x0101 delay 189000 queue 4
+";
+    ends(&rt, &does(alloc, &RUN, &mut files)?, 0, lines, told);
+    Ok(())
+}
+
+/// The fault of a file stands behind the delays.
+#[test]
+fn a_failed_input_is_told_behind_the_delays(rt: HostRuntime) -> Result<(), Fail> {
+    let alloc = rt.alloc();
+    let done = does(alloc, &RUN, &mut with_readers(alloc, &[true, true])?)?;
+    let told = format!(in alloc; "{TOLD}fault file x.ts\n")?;
+    ends(&rt, &done, 4, LINES, told.as_str());
+    Ok(())
+}
+
+/// A standard error that takes nothing changes neither the lines nor the status; where the lines can't be printed, no delays
+/// are.
+#[test]
+fn delays_are_told_behind_the_lines_where_they_can_be(rt: HostRuntime) -> Result<(), Fail> {
+    let alloc = rt.alloc();
+    let mut out = Vec::new(alloc);
+    let mut full = TestWriter::new(Vec::new(alloc));
+    full.room = 0;
+    let (status, _) = command(alloc, &RUN, &mut files(alloc)?, &mut out, &mut full);
+    assert_eq!(rt; out.as_slice(), LINES.as_bytes());
+    assert_eq!(rt; status, 0);
+    let mut err = Vec::new(alloc);
+    let (status, _) = command(alloc, &RUN, &mut files(alloc)?, &mut full, &mut err);
+    assert_eq!(rt; err.as_slice(), b"fault file standard output\n".as_slice());
+    assert_eq!(rt; status, 4);
+    Ok(())
+}
