@@ -26,3 +26,5 @@ pub mod Opening
 pub mod Fronts
 pub mod Same
 pub mod Ends
+pub mod MadePackets
+pub mod Places

@@ -91,6 +91,13 @@ same_output {r} {h} {states} {queues} {buckets} k after now_states now_queues e 
   turn_is = k.turn_is ∙ ap (turn_at r.plan) (sym m);
 }
 
+-- the same packets went out
+pub same_packets : {r : Run} {h : List Event} {states : List InputState} {queues : List QueueValue} {buckets : List BucketValue} {clock : ClockValue} {turn : TurnValue} {packets : List (List ℕ)} {counts : Counts}
+    → IsKept r h states queues buckets clock turn packets counts → (now : List (List ℕ)) → now ≡ packets → IsKept r h states queues buckets clock turn now counts
+same_packets {r} {h} {states} {queues} {buckets} {clock} {turn} {packets} {counts} kept now same =
+    let P : List (List ℕ) → Type 0 = λ ps. IsKept r h states queues buckets clock turn ps counts in
+    subst P (sym same) kept
+
 closes_others : (h : List Event) (i j : ℕ) → j ≢ i → state_of h j ≡ state_of (Close i ∷ h) j
 closes_others h i j ne = ap (λ b. let x : InputState = record (state_of h j) { closed = b || is_closed j h } in x) (sym (ne_eqb i j (λ same. ne (sym same))))
 

@@ -13,3 +13,5 @@ pub mod Buckets
 pub mod KeptBucket
 pub mod Keeping
 pub mod Choosing
+pub mod Output
+pub mod Places

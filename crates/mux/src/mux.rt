@@ -16,11 +16,13 @@ ghost use Rattle.mux.specs.Totals.{IsTotals, IsCounts};
 ghost use Rattle.mux.specs.Headline.{IsSound, IsLevelOf};
 ghost use Rattle.mux.specs.Peaks.{IsPeak};
 ghost use Rattle.mux.specs.Keeping.{state_of, queue_of, no_peak};
+ghost use Rattle.mux.specs.Places.{no_places};
 
 use crate::candidate::Candidate;
 use crate::choice::{all_closed, all_empty, choose, clear_full, first_unready};
 use crate::counts::Counts;
 use crate::input_state::InputState;
+use crate::moved_packet::MovedPacket;
 use crate::offered::Offered;
 use crate::output::Output;
 use crate::peak::Peak;
@@ -31,12 +33,13 @@ use crate::stored_event::StoredEvent;
 use crate::taken::Taken;
 use crate::totals::Totals;
 use buffers::PidQueue;
+use circular_buffer::HeapCircularBuffer;
 use plan::Plan;
 use request::Stream;
 use rounds::{TablePlace, TableTurn};
 use std::alloc::{AllocError, Global};
 use std::marker::Model;
-use tspkt::{Packet, Stamped, null};
+use tspkt::{Packet, Stamped};
 
 /// The greatest number of slots of a run.
 pub const MAX_SLOTS: u64 = 1_000_000;
@@ -47,14 +50,16 @@ pub struct Mux {
     plan: Plan,
     limit: u64,
     stored: Vec<StoredEvent>,
-    taken: Vec<Stamped>,
+    /// The packets that were taken, and those that went out.
+    output: Output,
     inputs: Vec<InputState>,
     /// Whether a full queue of an input was noted since the last slot.
     is_noted: bool,
     queues: Vec<PidQueue>,
+    /// For each queue where its packets lie among those that were taken.
+    places: Vec<HeapCircularBuffer<usize>>,
     peaks: Vec<Peak>,
     progress: Progress,
-    output: Output,
     turn: TableTurn,
     counts: Counts,
 }
@@ -63,23 +68,27 @@ impl Model for Mux {
     ghost use Rattle.std.specs.Prelude.{reverse};
     ghost use Rattle.mux.specs.History.{Run, History};
     ghost use Rattle.mux.specs.Keeping.{IsKept, KeepsPeaks, KeepsNoted};
+    ghost use Rattle.mux.specs.Places.{KeepsPlaces};
     ghost use Rattle.mux.specs.Stored.{history_of};
 
     ghost Value = { History };
 
     ghost view = { λ m. record {
       run = record { plan = m.plan; limit = m.limit };
-      events = history_of m.plan.request.streams (reverse m.stored.items) (reverse m.taken.items);
+      events = history_of m.plan.request.streams (reverse m.stored.items) (reverse m.output.taken);
     } };
 
     ghost invariant = { λ m. IsKept
         (record { plan = m.plan; limit = m.limit })
-        (history_of m.plan.request.streams (reverse m.stored.items) (reverse m.taken.items))
-        m.inputs.items m.queues.items m.progress.buckets m.progress.clock m.turn m.output m.counts
+        (history_of m.plan.request.streams (reverse m.stored.items) (reverse m.output.taken))
+        m.inputs.items m.queues.items m.progress.buckets m.progress.clock m.turn m.output.packets m.counts
         × KeepsPeaks m.plan
-        (history_of m.plan.request.streams (reverse m.stored.items) (reverse m.taken.items))
+        (history_of m.plan.request.streams (reverse m.stored.items) (reverse m.output.taken))
         m.peaks.items
-        × KeepsNoted m.is_noted m.inputs.items };
+        × KeepsNoted m.is_noted m.inputs.items
+        × KeepsPlaces m.plan
+        (history_of m.plan.request.streams (reverse m.stored.items) (reverse m.output.taken))
+        m.output.taken m.places.items };
 }
 
 /// What is kept of so many inputs before the first packet.
@@ -116,6 +125,21 @@ fn new_queues(
     Ok(queues)
 }
 
+/// Room for the places of a queue's packets, a stream.
+fn new_places(
+    alloc: Global,
+    streams: &[Stream],
+    capacity: usize,
+) -> Result<Vec<HeapCircularBuffer<usize>>, AllocError>
+    ensures { IfOk result (λ v. v.items ≡ map (no_places capacity) streams.now) }
+{
+    let mut places = Vec::new(alloc);
+    for _ in streams {
+        places.push(HeapCircularBuffer::with_capacity(alloc, capacity)?)?;
+    }
+    Ok(places)
+}
+
 /// The peak of a stream that took nothing, a stream.
 fn new_peaks(alloc: Global, streams: &[Stream]) -> Result<Vec<Peak>, AllocError>
     ensures { IfOk result (λ v. v.items ≡ map no_peak streams.now) }
@@ -141,19 +165,20 @@ impl Mux {
         let turn = TableTurn::new(plan.rounds());
         let inputs = new_states(alloc, plan.inputs().len())?;
         let queues = new_queues(alloc, plan.streams(), plan.request().queue())?;
+        let places = new_places(alloc, plan.streams(), plan.request().queue())?;
         let peaks = new_peaks(alloc, plan.streams())?;
         let progress = Progress::new(alloc, plan.rate(), plan.streams())?;
         Ok(Mux {
             plan,
             limit: slots,
             stored: Vec::new(alloc),
-            taken: Vec::new(alloc),
+            output: Output::new(alloc)?,
             inputs,
             is_noted: false,
             queues,
+            places,
             peaks,
             progress,
-            output: Output::new(alloc)?,
             turn,
             counts: Counts {
                 tables: 0,
@@ -171,12 +196,13 @@ impl Mux {
         self.output.len() as u64
     }
 
-    /// The packet of a slot that was sent, lent.
-    pub fn packet(&self, slot: u64) -> &Packet
-        requires { slot < slots self.now.events }
-        ensures { slice_get (emitted self.now.run.plan self.now.events) slot ≡ Some result.now }
+    /// The packet of the slot that was sent last, lent; none where none was sent.
+    pub fn last(&self) -> Option<&Packet>
+        ensures some { IfSome result (λ packet. (slot : ℕ) → slot + 1 ≡ slots self.now.events
+            → slice_get (emitted self.now.run.plan self.now.events) slot ≡ Some packet.now) }
+        ensures none { IfNone result (slots self.now.events ≡ 0) }
     {
-        self.output.packet(slot)
+        self.output.last()
     }
 
     /// The packet of a slot that was sent.
@@ -184,7 +210,7 @@ impl Mux {
         requires { slot < slots self.now.events }
         ensures { slice_get (emitted self.now.run.plan self.now.events) slot ≡ Some result }
     {
-        *self.packet(slot)
+        self.output.packet(slot)
     }
 
     /// What became of the packets of an input.
@@ -281,14 +307,16 @@ impl Mux {
             (self.new ≡ with_event self.old (Event.Took stream.input item.now)) }
         ensures err { OnErr result (self.new ≡ self.old) }
     {
-        self.taken.reserve(1)?;
-        self.stored.push(StoredEvent::Took(stream.input as u8))?;
-        self.taken.push_reserved(*item);
+        self.stored.reserve(1)?;
+        let taken = self.output.take(item)?;
+        self.stored
+            .push_reserved(StoredEvent::Took(stream.input as u8));
         let state = &mut self.inputs[stream.input];
         state.last_stamp = item.stamp;
         state.taken += 1;
         let queue = &mut self.queues[place];
         let _ = queue.offer(*item);
+        let _ = self.places[place].try_push_back(taken);
         let peak = &mut self.peaks[place];
         peak.queued = peak.queued.max(queue.len() as u64);
         Ok(())
@@ -440,7 +468,7 @@ impl Mux {
     {
         self.stored.reserve(1)?;
         let packet = self.table_packet(place);
-        self.output.push(packet)?;
+        self.output.push_table(packet)?;
         self.stored.push_reserved(StoredEvent::table(place));
         clear_full(&mut self.inputs, &mut self.is_noted);
         self.progress.pass();
@@ -457,7 +485,7 @@ impl Mux {
         ensures err { OnErr result (self.new ≡ self.old) }
     {
         self.stored.reserve(1)?;
-        self.output.push(null())?;
+        self.output.push_null()?;
         self.stored.push_reserved(StoredEvent::Null);
         clear_full(&mut self.inputs, &mut self.is_noted);
         self.progress.pass();
@@ -479,9 +507,14 @@ impl Mux {
         self.stored.reserve(1)?;
         let item = self.queues[place].head().unwrap();
         let delay = now - item.stamp;
-        self.output
-            .push_rewritten(&item.packet, stream.output_pid, delay)?;
+        let taken = self.places[place].front().unwrap();
+        self.output.push_moved(MovedPacket {
+            place: *taken,
+            pid: stream.output_pid,
+            delay,
+        })?;
         let _ = self.queues[place].take();
+        let _ = self.places[place].pop_front();
         let peak = &mut self.peaks[place];
         peak.delay = peak.delay.max(delay);
         self.stored
@@ -545,9 +578,8 @@ impl Mux {
         ensures answer { SlotAnswers self.old result self.new }
         ensures run { self.new.run ≡ self.old.run }
     {
-        let slot = self.slots();
         match self.send_next() {
-            Sending::Sent => Slot::Sent(self.emitted(slot)),
+            Sending::Sent => Slot::Sent(*self.last().unwrap()),
             Sending::NotReady(input) => Slot::NotReady(input),
             Sending::Done => Slot::Done,
             Sending::RunFull => Slot::RunFull,

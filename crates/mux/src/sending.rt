@@ -1,6 +1,6 @@
 //! What `send_next` answers.
 
-/// What became of a slot. Only `Sent` changes the multiplex, which lends the packet by its slot.
+/// What became of a slot. Only `Sent` changes the multiplex, which then lends the packet as its last.
 #[derive(Clone, Copy, Debug, PartialEq, Eq)]
 pub enum Sending {
     /// A packet was sent.

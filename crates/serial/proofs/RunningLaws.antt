@@ -1,5 +1,7 @@
 -- A run, step by step.
-use Rattle.std.proofs.Common.{ℕ, zero, suc, ◌+◌, ◌-◌, ◌*◌, ◌<◌, ◌≤◌, ◌≡◌, if◌then◌else◌, ◌||◌, List, [], ◌∷◌, ◌++◌, length, set, get_or, Option, None, Some, refl, ap, ◌∙◌, sym, subst, arith, inl, inr, append_assoc}
+use Rattle.std.proofs.Common.{ℕ, zero, suc, ◌+◌, ◌-◌, ◌*◌, ◌<◌, ◌≤◌, ◌≡◌, if◌then◌else◌, ◌||◌, List, [], ◌∷◌, ◌++◌, length, set, get_or, Option, Bor, None, Some, refl, ap, ◌∙◌, sym, subst, arith, inl, inr, append_assoc}
+use Rattle.std.specs.Prelude.{IfSome}
+use Rattle.mux.proofs.Lists.{of_some}
 use Rattle.std.specs.List.{slice_get, range_with_len, sum_by}
 use Rattle.std.specs.Io.KnownBytes.{Consumes, IsAtEnd, Appends}
 use Rattle.std.proofs.lemmas.Bool.{cases_eq, cases_Bool, ne_eqb}
@@ -196,12 +198,15 @@ is_sent p old new packet plan answer =
     }
 
 -- the packet of the slot that was sent, as the multiplex lends it
-pub lent : (old new : History) (slot : ℕ) (packet : List ℕ) → SendAnswers old sending.Sent new → slot ≡ slots old.events → slice_get (emitted new.run.plan new.events) slot ≡ Some packet
-    → SlotAnswers old (Sent packet) new
-lent old new slot packet answer at there =
+pub lent_last : (old new : History) (o : Option (Bor (List ℕ))) (r : Bor (List ℕ)) → SendAnswers old sending.Sent new → o ≡ Some r
+    → IfSome o (λ packet. (slot : ℕ) → slot + 1 ≡ slots new.events → slice_get (emitted new.run.plan new.events) slot ≡ Some packet.now)
+    → SlotAnswers old (Sent r.now) new
+lent_last old new o r answer is last =
     let sent = answer.1 in
-    let P : History → Type 0 = λ h. slice_get (emitted h.run.plan h.events) slot ≡ Some packet in
-    (answer.0, (sent.0, sent.1, (sent.2, sent_at_end old.run.plan old.events sent.0 slot packet at (subst P sent.2 there))))
+    let n = slots old.events in
+    let P : History → Type 0 = λ h. slice_get (emitted h.run.plan h.events) n ≡ Some r.now in
+    let there = of_some o r _ is last n (sym (ap (λ (h : History). slots h.events) sent.2)) in
+    (answer.0, (sent.0, sent.1, (sent.2, sent_at_end old.run.plan old.events sent.0 n r.now refl (subst P sent.2 there))))
 
 pub runs_sent : {R : Type 0} (remaining : R → Option (List ℕ)) (run : Run) (starts : List (Option (List ℕ))) (old : SerialRun R) (mux : History) (output : SlotWriter) (packet : List ℕ)
     → IsRunning remaining run starts old → SlotAnswers old.mux (Sent packet) mux → mux.run ≡ old.mux.run

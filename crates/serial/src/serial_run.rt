@@ -152,10 +152,10 @@ impl<R: Source + Drop> SerialRun<R> {
         ensures failed { result ≡ Err RunFault.Write
             → FailsOnce (W.failures sink.old) (W.failures sink.new) }
     {
-        let slot = self.mux.slots();
         match self.mux.send_next() {
             Sending::Sent => {
-                self.output.put(self.mux.packet(slot), sink)?;
+                let packet = self.mux.last().unwrap();
+                self.output.put(packet, sink)?;
                 Ok(false)
             }
             Sending::NotReady(input) => {

@@ -124,6 +124,24 @@ fn a_run_ends_with_its_slots(rt: HostRuntime) {
     assert_eq!(rt; sent.len(), 3);
 }
 
+#[test]
+fn each_packet_is_given_again(rt: HostRuntime) {
+    let plan = plan(rt.alloc(), 64, &[0]).expect(&rt, "a plan");
+    let mut mux = opened(&rt, rt.alloc(), &plan, 1_000);
+    assert!(rt; mux.last().is_none());
+    takes_five(&rt, &mut mux, 0);
+    closes(&rt, &mut mux, 0);
+    let (sent, _) = send_all(&rt, rt.alloc(), &mut mux);
+    assert_eq!(rt; mux.slots(), 8);
+    for slot in 0..mux.slots() {
+        let again = mux.emitted(slot);
+        let packet = sent.get(slot as usize).expect(&rt, "a packet");
+        assert_eq!(rt; again.bytes().as_slice(), packet.bytes().as_slice());
+    }
+    let last = mux.last().expect(&rt, "a packet");
+    assert_eq!(rt; (last.pid(), last.counter()), (0x0200, 4));
+}
+
 /// The only packet comes when slot 1,000 goes out, which has a table.
 #[test]
 fn tables_go_out_before_the_first_packet(rt: HostRuntime) {

@@ -6,6 +6,7 @@ use Rattle.mux.proofs.Stored.{with_close}
 use Rattle.mux.proofs.Steps.{state_at, length_states, closing}
 use Rattle.mux.proofs.Peaks.{peaks_close}
 use Rattle.mux.proofs.Noted.{noted_same}
+use Rattle.mux.proofs.Places.{places_close}
 use Rattle.mux.proofs.mux.Mux.close.Goals as goal
 
 pub index-requires : goal.index-requires
@@ -30,6 +31,7 @@ invariant_of-self-then-not-index c =
       closing c.self.invariant.0 _ c.args.input c.index_mut.result.now e l c.index_mut.ensures.value (ap (λ (x : InputState). x.closed) same ∙ c.if-not-index.true),
       peaks_close c.self.invariant.1 _ c.args.input e,
       noted_same c.self.invariant.2 c.args.input c.index_mut.result.now _ (omega (arith, length_states k)) c.index_mut.ensures.value refl,
+      places_close c.self.invariant.3 _ c.args.input e,
     )
 
 pub returns-in_ok-push-clause-again : goal.returns-in_ok-push-clause-again

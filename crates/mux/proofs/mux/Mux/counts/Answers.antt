@@ -7,6 +7,6 @@ use Rattle.mux.proofs.mux.Mux.counts.Goals as goal
 
 pub returns : goal.returns
 returns c =
-    let h = history_of c.self.inside.plan.request.streams (reverse c.self.inside.stored.items) (reverse c.self.inside.taken.items) in
+    let h = history_of c.self.inside.plan.request.streams (reverse c.self.inside.stored.items) (reverse c.self.inside.output.taken) in
     let R : History → Type 0 = λ x. IsCounts x.events c.self.inside.counts in
     subst R c.self.view_is (are_counts h c.self.inside.counts c.self.invariant.0.counts_are)

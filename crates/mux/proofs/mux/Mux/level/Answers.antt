@@ -9,7 +9,7 @@ use Rattle.mux.proofs.mux.Mux.level.Goals as goal
 pub returns : goal.returns
 returns c st there =
     let p = c.self.inside.plan in
-    let h = history_of p.request.streams (reverse c.self.inside.stored.items) (reverse c.self.inside.taken.items) in
+    let h = history_of p.request.streams (reverse c.self.inside.stored.items) (reverse c.self.inside.output.taken) in
     let at : slice_get p.request.streams c.args.stream ≡ Some st = ap (λ (x : History). slice_get x.run.plan.request.streams c.args.stream) c.self.view_is ∙ there in
     let P : ℕ → Type 0 = IsLevelOf p h st in
     let R : History → Type 0 = λ x. IsLevelOf x.run.plan x.events st c.level.result in

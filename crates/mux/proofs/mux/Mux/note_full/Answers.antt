@@ -9,6 +9,7 @@ use Rattle.mux.proofs.Stored.{with_full}
 use Rattle.mux.proofs.Steps.{length_states, noting}
 use Rattle.mux.proofs.Peaks.{peaks_full}
 use Rattle.mux.proofs.Noted.{noted_now}
+use Rattle.mux.proofs.Places.{places_full}
 use Rattle.mux.proofs.mux.Mux.note_full.Goals as goal
 
 pub index_mut-requires : goal.index_mut-requires
@@ -27,6 +28,7 @@ invariant_of-self-2 c =
       noting c.self.invariant.0 _ c.args.stream.input c.args.stream c.index_mut.result.now e l c.index_mut.ensures.value (subst P (sym c.self.view_is) c.requires.may),
       peaks_full c.self.invariant.1 _ c.args.stream.input c.args.stream e,
       noted_now _,
+      places_full c.self.invariant.3 _ c.args.stream.input c.args.stream e,
     )
 
 pub returns-clause-ok : goal.returns-clause-ok

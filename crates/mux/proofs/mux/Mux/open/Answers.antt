@@ -14,6 +14,10 @@ use Rattle.mux.specs.Buckets.{empty_bucket}
 use Rattle.mux.proofs.Steps.{opening}
 use Rattle.mux.proofs.Noted.{noted_none}
 use Rattle.mux.proofs.Peaks.{peaks_none}
+use Rattle.mux.proofs.Places.{places_none}
+use Rattle.mux.specs.Places.{no_places, KeepsPlaces}
+use Rattle.mux.specs.Output.{OutputValue}
+use Rattle.tspkt.specs.declared.stamped.Stamped.{Stamped}
 use Rattle.mux.proofs.mux.Mux.open.Goals as goal
 
 pub invariant_of-result-2 : goal.invariant_of-result-2
@@ -24,18 +28,23 @@ invariant_of-result-2 c =
     let plan : IsMultiplexPlan p = record { request = subst Q c.request.ensures.value c.rate.ensures.request; rounds = subst R c.rounds.ensures c.rate-2.ensures.rounds; tables = c.request.ensures.plan } in
     let streams = p.request.streams in
     let queue = c.queue.ensures.value ∙ ap (λ (r : RequestValue). r.queue) c.request-2.ensures.value in
-    let at_first = history_of streams (reverse c.new-2.result.items) (reverse c.new-3.result.items) in
-    let none = ap (λ (es : List StoredEvent). history_of streams (reverse es) (reverse c.new-3.result.items)) c.new-2.ensures.items in
+    let output = c.in_ok-new.ensures in
+    let taken = c.in_ok-new.field-0.taken in
+    let at_first = history_of streams (reverse c.new-2.result.items) (reverse taken) in
+    let none = ap (λ (es : List StoredEvent). history_of streams (reverse es) (reverse taken)) c.new-2.ensures.items ∙ ap (λ (xs : List Stamped). history_of streams [] (reverse xs)) (ap (λ (o : OutputValue). o.taken) output) in
     let P : PlanValue → Type 0 = λ x.
-    IsKept (record { plan = x; limit = c.args.slots }) (history_of x.request.streams (reverse c.new-2.result.items) (reverse c.new-3.result.items)) c.in_ok-inputs.inputs.items c.in_ok-queues.queues.items c.in_ok-progress.progress.buckets c.in_ok-progress.progress.clock c.new-turn.result
-    c.in_ok-new.field-0 (record { tables = 0; elementary = 0; null = 0 })
-    × KeepsPeaks x (history_of x.request.streams (reverse c.new-2.result.items) (reverse c.new-3.result.items)) c.in_ok-peaks.peaks.items
-    × KeepsNoted false c.in_ok-inputs.inputs.items in
+    IsKept (record { plan = x; limit = c.args.slots }) (history_of x.request.streams (reverse c.new-2.result.items) (reverse taken)) c.in_ok-inputs.inputs.items c.in_ok-queues.queues.items c.in_ok-progress.progress.buckets c.in_ok-progress.progress.clock c.new-turn.result
+    c.in_ok-new.field-0.packets (record { tables = 0; elementary = 0; null = 0 })
+    × KeepsPeaks x (history_of x.request.streams (reverse c.new-2.result.items) (reverse taken)) c.in_ok-peaks.peaks.items
+    × KeepsNoted false c.in_ok-inputs.inputs.items
+    × KeepsPlaces x (history_of x.request.streams (reverse c.new-2.result.items) (reverse taken)) taken c.in_ok-places.places.items in
     let kept = opening _ _ _ _ _ _ _ _ plan c.requires none
     (c.in_ok-inputs.ensures ∙ ap (λ n. map (state_of []) (range_with_len 0 n)) (sym (length-map c.inputs.result.now input_value) ∙ ap length c.inputs.ensures))
     (c.in_ok-queues.ensures ∙ ap (λ (xs : List Stream). map (queue_of c.queue.result []) xs) c.streams.ensures ∙ ap (λ n. map (queue_of n []) streams) queue)
-    (c.in_ok-progress.ensures.buckets ∙ ap (λ (xs : List Stream). map (empty_bucket c.rate-3.result) xs) c.streams-3.ensures ∙ ap (λ n. map (empty_bucket n) streams) c.rate-3.ensures)
-    (c.in_ok-progress.ensures.clock ∙ ap (λ n. clock_at n 0) c.rate-3.ensures) (c.new-turn.ensures ∙ ap (λ (r : RoundsValue). turn_at (record p { rounds = r }) 0) c.rounds-2.ensures) c.in_ok-new.ensures in
-    let peaks = peaks_none p at_first c.in_ok-peaks.peaks.items none (c.in_ok-peaks.ensures ∙ ap (λ (xs : List Stream). map no_peak xs) c.streams-2.ensures) in
+    (c.in_ok-progress.ensures.buckets ∙ ap (λ (xs : List Stream). map (empty_bucket c.rate-3.result) xs) c.streams-4.ensures ∙ ap (λ n. map (empty_bucket n) streams) c.rate-3.ensures)
+    (c.in_ok-progress.ensures.clock ∙ ap (λ n. clock_at n 0) c.rate-3.ensures) (c.new-turn.ensures ∙ ap (λ (r : RoundsValue). turn_at (record p { rounds = r }) 0) c.rounds-2.ensures) (ap (λ (o : OutputValue). o.packets) output) in
+    let peaks = peaks_none p at_first c.in_ok-peaks.peaks.items none (c.in_ok-peaks.ensures ∙ ap (λ (xs : List Stream). map no_peak xs) c.streams-3.ensures) in
     let noted = noted_none false _ c.in_ok-inputs.inputs.items c.in_ok-inputs.ensures in
-    subst P (sym c.plan.view_is) (kept, peaks, noted)
+    let queue_again = c.queue-2.ensures.value ∙ ap (λ (r : RequestValue). r.queue) c.request-3.ensures.value in
+    let places = places_none p at_first taken c.in_ok-places.places.items none (c.in_ok-places.ensures ∙ ap (λ (xs : List Stream). map (no_places c.queue-2.result) xs) c.streams-2.ensures ∙ ap (λ n. map (no_places n) streams) queue_again) in
+    subst P (sym c.plan.view_is) (kept, peaks, noted, places)

@@ -15,7 +15,7 @@ index-requires c =
 pub returns : goal.returns
 returns c st there =
     let p = c.self.inside.plan in
-    let h = history_of p.request.streams (reverse c.self.inside.stored.items) (reverse c.self.inside.taken.items) in
+    let h = history_of p.request.streams (reverse c.self.inside.stored.items) (reverse c.self.inside.output.taken) in
     let at : slice_get p.request.streams c.args.stream ≡ Some st = ap (λ (x : History). slice_get x.run.plan.request.streams c.args.stream) c.self.view_is ∙ there in
     let R : History → Type 0 = λ x. IsPeak x.run.plan x.events st c.index.result.now in
     subst R c.self.view_is (peak_is p h st c.index.result.now (peak_at c.self.invariant.1 c.args.stream st c.index.result.now at c.index.ensures))

@@ -9,7 +9,7 @@ use Rattle.mux.proofs.mux.Mux.slots.Goals as goal
 
 pub returns-clause-count : goal.returns-clause-count
 returns-clause-count c =
-    let h = history_of c.self.inside.plan.request.streams (reverse c.self.inside.stored.items) (reverse c.self.inside.taken.items) in
+    let h = history_of c.self.inside.plan.request.streams (reverse c.self.inside.stored.items) (reverse c.self.inside.output.taken) in
     c.len.ensures.value ∙ ap length c.self.invariant.0.packets_are ∙ length-emitted c.self.inside.plan h ∙ ap (λ (x : History). slots x.events) c.self.view_is
 
 pub returns-clause-sound : goal.returns-clause-sound

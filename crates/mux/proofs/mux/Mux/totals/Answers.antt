@@ -18,7 +18,7 @@ overflow_sub-result c =
     let v = ap (λ (h : History). length h.run.plan.request.inputs) c.self.view_is in
     let k = c.self.invariant.0.agrees in
     let is = state_at k c.args.input c.index-state.result.now (omega arith) c.index-state.ensures in
-    let h = history_of c.self.inside.plan.request.streams (reverse c.self.inside.stored.items) (reverse c.self.inside.taken.items) in
+    let h = history_of c.self.inside.plan.request.streams (reverse c.self.inside.stored.items) (reverse c.self.inside.output.taken) in
     omega (arith, taken_is_sent_and_queued c.self.inside.plan c.args.input h k.plan k.lawful, ap (λ (x : InputState). x.taken) is, ap (λ (x : InputState). x.sent) is)
 
 pub returns : goal.returns
@@ -26,7 +26,7 @@ returns c =
     let v = ap (λ (h : History). length h.run.plan.request.inputs) c.self.view_is in
     let k = c.self.invariant.0.agrees in
     let is = state_at k c.args.input c.index-state.result.now (omega arith) c.index-state.ensures in
-    let h = history_of c.self.inside.plan.request.streams (reverse c.self.inside.stored.items) (reverse c.self.inside.taken.items) in
+    let h = history_of c.self.inside.plan.request.streams (reverse c.self.inside.stored.items) (reverse c.self.inside.output.taken) in
     let whole = taken_is_sent_and_queued c.self.inside.plan c.args.input h k.plan k.lawful in
     let t = ap (λ (x : InputState). x.taken) is in
     let s = ap (λ (x : InputState). x.sent) is in

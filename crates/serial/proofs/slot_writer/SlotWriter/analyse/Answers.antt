@@ -1,4 +1,4 @@
-use Rattle.std.proofs.Common.{ℕ, ◌+◌, min, List, [], ◌∷◌, ◌++◌, ◌≡◌, length, ap, ◌∙◌}
+use Rattle.std.proofs.Common.{◌+◌, min, List, [], ◌∷◌, ◌++◌, ◌≡◌, length, ap, ◌∙◌}
 use Rattle.analyse.specs.declared.fault.Fault.{Fault}
 use Rattle.analyse.specs.Faults.{faults_at}
 use Rattle.serial.proofs.SendingLaws.{counted_more}
