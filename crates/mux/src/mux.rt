@@ -44,7 +44,7 @@ use tspkt::{Packet, Stamped};
 /// The greatest number of slots of a run.
 pub const MAX_SLOTS: u64 = 1_000_000;
 
-/// A multiplex: its history, and what is kept beside it so that no call reads the history.
+/// A multiplex: its history, and what is kept beside it so that no call walks along the history.
 #[derive(Drop)]
 pub struct Mux {
     plan: Plan,

@@ -16,7 +16,7 @@ use std::marker::Model;
 use tspkt::{NULL_PID, Packet, Stamped, null, rewrite};
 
 /// The packets that were taken, in order, and those that went out, one a slot. What went out is kept by what it was made of,
-/// so that no packet of a stream lies here twice; only the last one lies here as it went out.
+/// so that no packet of a stream lies here twice: only table packets and the last one lie here as they went out.
 #[derive(Drop)]
 pub(crate) struct Output {
     taken: Vec<Stamped>,

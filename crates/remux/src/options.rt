@@ -6,7 +6,7 @@ use clap::{Arg, ArgAction, Command};
 use std::alloc::{AllocError, Global};
 
 const ABOUT: &str = "Takes services from several MPEG-2 transport streams and makes one multiplex \
-of constant rate. Without a command it sends the first two slots of a stored plan.";
+of constant rate. Without words it sends the first two slots of a stored plan.";
 
 const EXAMPLE: &str = "Example, from the top of the repository:
   ./remux run --plan examples/plan.toml --out out.ts
@@ -19,8 +19,8 @@ const RUN_USAGE: &str = "remux run --plan <F> --out <F> [--slots <N>] [--serial]
 const RUN_EXAMPLE: &str = "It prints a line for each input and one for the output.
 
 With --delays it prints a line for each stream too, on standard error: the largest delay of its packets \
-in ticks of 27 MHz, and the most packets that waited in its queue. Where the delay grows with the length of the run, \
-or the queue came to the plan's 'queue', the plan is overfull.
+in ticks of 27 MHz, and the most packets that waited in its queue. Where the delay grows with the length of the run \
+the plan is overfull; where the queue came to the plan's 'queue' it may be.
 
 Example:
   ./remux run --plan examples/plan.toml --out out.ts --slots 50000";

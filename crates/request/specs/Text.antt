@@ -1,4 +1,4 @@
--- What a plan's text says: TOML (version 1.0) of certain keys, each there once and of one type, and no others (profile).
+-- What a plan's text says: TOML (by the grammar of version 1.1) of certain keys, each there once and of one type, and no others (profile).
 use Rattle.std.specs.Prelude.{◌≡◌, ◌⊎◌, ℕ, ℤ, Bool, true, false, ◌&&◌, ◌||◌, if◌then◌else◌, List, [], ◌∷◌, codes, Option, Some, None, option_map, Result, Ok, Err}
 use Rattle.std.specs.Str.{bytes_eq}
 use Rattle.toml.specs.Data.{Data, Items, no_items, item, Members, no_members, member, get_member, as_integer, as_str, as_array, as_table}

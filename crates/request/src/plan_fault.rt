@@ -7,7 +7,7 @@ use std::alloc::{AllocError, AllocFailed};
 use thiserror::Error;
 
 /// Why a plan is refused. Of those that apply the one with the least number is answered, and want of memory only where
-/// none of the others applies.
+/// none of the others applies, or where memory ends before the text is read.
 #[derive(Clone, Copy, Debug, PartialEq, Eq, Error)]
 pub enum PlanFault {
     /// The text isn't TOML, or a key is missing, unknown or of another type, or the hex digits are wrong.
@@ -25,13 +25,14 @@ pub enum PlanFault {
     /// The input's PAT has no program of a service's number, or its PMT wasn't found.
     #[error("a program is not in its input")]
     NoProgram,
-    /// The input's SDT has no row of a service, or that row no service descriptor whose lengths fill it.
+    /// The input has no complete SDT, or it no row of a service, or the first such row no service descriptor whose lengths
+    /// fill it.
     #[error("a service is not described in its input")]
     NoSdtRow,
     /// A service is scrambled.
     #[error("a service is scrambled")]
     CaFound,
-    /// An elementary PID or the PCR PID of a program has no row in the plan.
+    /// An elementary PID of a service's program, or its PCR PID where that isn't 0x1FFF, has no row in the service.
     #[error("a stream of a program has no row in the plan")]
     RateMissing,
     /// A row of the plan has a PID that the program's PMT doesn't name.

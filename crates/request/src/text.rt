@@ -128,7 +128,8 @@ impl Parts {
     ghost use Rattle.request.specs.Parts.{parts_value};
 
     /// The parts that a text writes. It answers `BadText` where the text isn't TOML, or a key is missing, unknown or of
-    /// another type, or the hex digits are wrong, else perhaps `Memory`.
+    /// another type, or the hex digits are wrong, and `Memory` where memory ends
+    /// before that is known.
     pub fn read(alloc: Global, text: &str) -> Result<Parts, PlanFault>
         ensures parts { IfOk result (λ v. text_parts text.now ≡ Some (parts_value v)) }
         ensures fault { IfErr result (IsTextFault (text_parts text.now)) }

@@ -20,12 +20,13 @@ pub fn analyser_tells_only_what_was_taken()
     ensures { AnalyserTellsOnlyWhatWasTaken }
 {}
 
-/// Two runs of one plan over equal inputs write equal bytes, where nothing but their end stopped an input.
+/// Two runs of one plan, for as many slots, over equal known bytes write equal bytes, where nothing but their end stopped an input.
 pub fn equal_inputs_give_equal_bytes()
     ensures { EqualInputsGiveEqualBytes }
 {}
 
-/// Such a run writes the packets of every lawful history that takes the inputs' packets in their order to its end.
+/// Such a run writes the packets of every lawful history that is faithful to the inputs' packets and finished at the run's
+/// slots.
 pub fn bytes_are_of_every_history()
     ensures { BytesAreOfEveryHistory }
 {}

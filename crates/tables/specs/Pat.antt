@@ -1,4 +1,4 @@
--- The program association table: ISO/IEC 13818-1, 2.4.4.3 and 2.4.4.4.
+-- The program association table: ISO/IEC 13818-1, 2.4.4.3 to 2.4.4.5.
 use Rattle.std.specs.Prelude.{ℕ, ◌+◌, ◌*◌, ◌^◌, ◌<◌, List, [], ◌∷◌, Option, Some, None, option_map, Result, Ok, Err, false, drop, ◌/◌, ◌%◌}
 use Rattle.tspkt.specs.Bits.{field}
 use Rattle.tables.specs.Header.{header_of, body_of, AreOnes, HasReservedHeaderBits}

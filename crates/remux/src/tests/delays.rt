@@ -74,9 +74,10 @@ slots 24 tables 3 elementary 20 null 1 faults 0
     Ok(())
 }
 
-/// Two inputs with the example's service each. Tables go out in the slots 0, 2, 4 and 6; packet 3 of the first input in slot 3
-/// and of the second in slot 5; then packets 4 to 7 of both by turns in the slots 7 to 14. So packet 7 of the first goes out
-/// in slot 13, and of the second in slot 14. Slot 6 asks for packet 7 of each, and both have sent one of five by then.
+/// Two inputs with the example's service each, the second without its last packet. Tables go out in the slots 0, 2, 4 and 6;
+/// packet 3 of the first input in slot 3 and of the second in slot 5; then packets 4 to 6 of both by turns in the slots 7 to
+/// 12, and packet 7 of the first in slot 13. Slot 6 asks for packet 7 of the first, which has sent one of five by then; slot 5
+/// asks for packet 6 of the second, which has sent none.
 #[test]
 fn each_stream_has_a_line(rt: HostRuntime) -> Result<(), Fail> {
     let alloc = rt.alloc();
@@ -88,14 +89,15 @@ fn each_stream_has_a_line(rt: HostRuntime) -> Result<(), Fail> {
     let mut files = MemoryFiles::new(alloc)?;
     files.add("x.toml", text.as_bytes())?;
     files.add("x.ts", &eight_packets(alloc)?)?;
-    files.add("y.ts", &eight_packets(alloc)?)?;
+    let seven = eight_packets(alloc)?;
+    files.add("y.ts", seven.get(..1_316).unwrap_or(&seven))?;
     let lines =
         "input 0 framed 8 malformed 0 unmapped 3 bad 0 losses 0 lost 0 taken 5 sent 5 queued 0
-input 1 framed 8 malformed 0 unmapped 3 bad 0 losses 0 lost 0 taken 5 sent 5 queued 0
-slots 15 tables 4 elementary 10 null 1 faults 0
+input 1 framed 7 malformed 0 unmapped 3 bad 0 losses 0 lost 0 taken 4 sent 4 queued 0
+slots 14 tables 4 elementary 9 null 1 faults 0
 ";
     let told = "stream 0x0200 input 0 pid 0x0101 delay 162000 queue 4
-stream 0x0201 input 1 pid 0x0101 delay 189000 queue 4
+stream 0x0201 input 1 pid 0x0101 delay 162000 queue 4
 ";
     ends(&rt, &does(alloc, &RUN, &mut files)?, 0, lines, told);
     Ok(())

@@ -3,7 +3,8 @@
 use super::*;
 use crate::plain;
 
-/// The check value is the published one of this CRC; the other registers are the program's.
+/// The check value is the published one of this CRC; the other registers are from a script apart from this repository, which
+/// divides bit by bit.
 const VECTORS: [(&[u8], u32); 4] = [
     (b"123456789", 0x0376_E6E7),
     (b"", 0xFFFF_FFFF),
