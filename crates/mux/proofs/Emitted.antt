@@ -1,12 +1,12 @@
 -- The packets that went out, by number.
-use Rattle.std.proofs.Common.{ℕ, zero, suc, ◌+◌, ◌<◌, ◌≡◌, List, [], ◌∷◌, ◌++◌, length, Some, refl, ap, sym, ◌∙◌, arith, length-append}
+use Rattle.std.proofs.Common.{ℕ, zero, suc, ◌+◌, ◌-◌, ◌<◌, ◌≡◌, List, [], ◌∷◌, ◌++◌, length, Some, refl, ap, sym, ◌∙◌, arith, subst, length-append}
 use Rattle.std.specs.List.{slice_get}
-use Rattle.std.proofs.lemmas.Option.{same_Some}
-use Rattle.mux.specs.declared.content.Content.{Content}
 use Rattle.mux.specs.declared.event.Event.{Event}
 use Rattle.mux.specs.declared.event.Event.TheVariants.{Took, Full, Close, Slot}
 use Rattle.plan.specs.Build.{PlanValue}
-use Rattle.mux.specs.History.{slots, emitted, packet_behind}
+use Rattle.mux.specs.History.{History, slots, emitted, packet_behind}
+use Rattle.mux.specs.Answers.{SendAnswers}
+use Rattle.mux.specs.declared.sending.Sending.TheVariants as sending
 
 -- one packet a slot
 pub length-emitted : (p : PlanValue) (h : List Event) → length (emitted p h) ≡ slots h
@@ -26,9 +26,13 @@ pub at_end : {X : Type 0} (xs : List X) (y : X) → slice_get (xs ++ y ∷ []) (
 at_end [] y = refl
 at_end (x ∷ xs) y = at_end xs y
 
--- what stands at a slot's number is the packet that it sent
-pub sent_at_end : (p : PlanValue) (h : List Event) (c : Content) (m : ℕ) (packet : List ℕ) → m ≡ slots h → slice_get (emitted p (Slot c ∷ h)) m ≡ Some packet → packet ≡ packet_behind p h (emitted p h) c
-sent_at_end p h c m packet e there =
-    let at : m ≡ length (emitted p h) = e ∙ sym (length-emitted p h) in
-    let last : slice_get (emitted p (Slot c ∷ h)) (length (emitted p h)) ≡ Some (packet_behind p h (emitted p h) c) = at_end (emitted p h) (packet_behind p h (emitted p h) c) in
-    same_Some _ _ (sym there ∙ ap (slice_get (emitted p (Slot c ∷ h))) at ∙ last)
+-- the last of the packets that went out is that of the slot that was sent
+pub last_sent : (old new : History) (answer : SendAnswers old sending.Sent new)
+    → slice_get (emitted new.run.plan new.events) (slots new.events - 1) ≡ Some (packet_behind old.run.plan old.events (emitted old.run.plan old.events) answer.1.0)
+last_sent old new answer =
+    let p = old.run.plan in
+    let h = old.events in
+    let q = packet_behind p h (emitted p h) answer.1.0 in
+    let P : History → Type 0 = λ x. slice_get (emitted x.run.plan x.events) (slots x.events - 1) ≡ Some q in
+    let at : slots h + 1 - 1 ≡ length (emitted p h) = omega (arith, length-emitted p h) in
+    subst P (sym answer.1.2) (ap (slice_get (emitted p h ++ q ∷ [])) at ∙ at_end (emitted p h) q)

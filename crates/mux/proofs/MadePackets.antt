@@ -1,7 +1,7 @@
 -- Packets that went out, made again.
-use Rattle.std.proofs.Common.{ℕ, zero, suc, ◌<◌, ◌≡◌, List, [], ◌∷◌, ◌++◌, length, map, get_or, refl, ap, ◌∙◌, sym, subst, arith, All, length-append}
+use Rattle.std.proofs.Common.{ℕ, ◌<◌, ◌≡◌, List, [], ◌∷◌, ◌++◌, length, map, get_or, refl, ap, ◌∙◌, sym, subst, arith, All, length-append}
 use Rattle.std.specs.List.{slice_get}
-use Rattle.std.proofs.lemmas.List.{length-map, map-append}
+use Rattle.std.proofs.lemmas.List.{length-map, map-append, get_or_append_left}
 use Rattle.std.proofs.lemmas.List.Elements.{All-nil, All-push, All-head, All-tail}
 use Rattle.tspkt.specs.Packet.{IsPacket, pid_of, null_packet}
 use Rattle.tspkt.specs.Rewritten.{rewritten}
@@ -13,16 +13,11 @@ use Rattle.mux.specs.declared.sent_packet.SentPacket.TheVariants as kept
 use Rattle.mux.proofs.CounterLaws.{counted_more}
 use Rattle.mux.proofs.Emitted.{at_end}
 
--- an element that is there stays where more come behind it
-read_before : {X : Type 0} (xs ys : List X) (k : ℕ) (d : X) → k < length xs → get_or xs k d ≡ get_or (xs ++ ys) k d
-read_before [] ys k d l = absurd (omega arith)
-read_before (x ∷ xs) ys zero d l = refl
-read_before (x ∷ xs) ys (suc k) d l = read_before xs ys k d (omega arith)
-
+-- a packet is made of what is there, whatever comes behind it
 made_same : (taken more : List Stamped) (tables others : List (List ℕ)) (m : SentPacket) → IsMadeOf (length taken) (length tables) m → packet_of taken tables m ≡ packet_of (taken ++ more) (tables ++ others) m
 made_same taken more tables others kept.Null is = refl
-made_same taken more tables others (kept.Table k) is = read_before tables others k null_packet is
-made_same taken more tables others (kept.Elementary m) is = ap (λ (x : Stamped). rewritten x.packet m.pid m.delay) (read_before taken more m.place _ is.0)
+made_same taken more tables others (kept.Table k) is = sym (get_or_append_left tables others null_packet k is)
+made_same taken more tables others (kept.Elementary m) is = ap (λ (x : Stamped). rewritten x.packet m.pid m.delay) (sym (get_or_append_left taken more _ m.place is.0))
 
 made_still : (taken more : List Stamped) (tables others : List (List ℕ)) (m : SentPacket) → IsMadeOf (length taken) (length tables) m → IsMadeOf (length (taken ++ more)) (length (tables ++ others)) m
 made_still taken more tables others kept.Null is = tt
@@ -48,13 +43,18 @@ grown {taken} {tables} {sent} {last} {counters} is more others =
       counters_are = is.counters_are ∙ ap counters_of same;
     }
 
+-- the packets that went out, with one more
+pub packets_push : (taken : List Stamped) (tables : List (List ℕ)) (sent : List SentPacket) (m : SentPacket) (q : List ℕ) → packet_of taken tables m ≡ q
+    → map (packet_of taken tables) (sent ++ m ∷ []) ≡ map (packet_of taken tables) sent ++ q ∷ []
+packets_push taken tables sent m q same = map-append (packet_of taken tables) sent (m ∷ []) ∙ ap (λ x. map (packet_of taken tables) sent ++ x ∷ []) same
+
 -- one more packet goes out
 pub output_push : {taken : List Stamped} {tables : List (List ℕ)} {sent : List SentPacket} {last counters : List ℕ} → IsOutput taken tables sent last counters → (m : SentPacket) (q now : List ℕ)
     → IsMadeOf (length taken) (length tables) m → packet_of taken tables m ≡ q → IsPacket q → pid_of q < 8192 → now ≡ counted counters (pid_of q)
     → IsOutput taken tables (sent ++ m ∷ []) q now
 output_push {taken} {tables} {sent} {last} {counters} is m q now made same whole small count =
     let ps = map (packet_of taken tables) sent in
-    let more : map (packet_of taken tables) (sent ++ m ∷ []) ≡ ps ++ q ∷ [] = map-append (packet_of taken tables) sent (m ∷ []) ∙ ap (λ x. ps ++ x ∷ []) same in
+    let more = packets_push taken tables sent m q same in
     let P : List (List ℕ) → Type 0 = All IsPacket in
     record {
       made = All-push (IsMadeOf (length taken) (length tables)) sent m is.made made;
@@ -64,11 +64,6 @@ output_push {taken} {tables} {sent} {last} {counters} is m q now made same whole
           ap (λ qs. slice_get qs n) more ∙ ap (slice_get (ps ++ q ∷ [])) at ∙ at_end ps q;
       counters_are = count ∙ ap (λ xs. counted xs (pid_of q)) is.counters_are ∙ counted_more ps q small ∙ ap counters_of (sym more);
     }
-
--- the packets that went out, with one more
-pub packets_push : (taken : List Stamped) (tables : List (List ℕ)) (sent : List SentPacket) (m : SentPacket) (q : List ℕ) → packet_of taken tables m ≡ q
-    → map (packet_of taken tables) (sent ++ m ∷ []) ≡ map (packet_of taken tables) sent ++ q ∷ []
-packets_push taken tables sent m q same = map-append (packet_of taken tables) sent (m ∷ []) ∙ ap (λ x. map (packet_of taken tables) sent ++ x ∷ []) same
 
 -- where more packets were taken, or more table packets went out
 pub packets_grown : {taken : List Stamped} {tables : List (List ℕ)} {sent : List SentPacket} {last counters : List ℕ} → IsOutput taken tables sent last counters → (more : List Stamped) (others : List (List ℕ))

@@ -1,10 +1,10 @@
 -- Where the packets that wait lie, and what an event does to these places.
-use Rattle.std.proofs.Common.{ℕ, zero, suc, ◌<◌, ◌≡◌, ◌≢◌, List, [], ◌∷◌, ◌++◌, length, map, set, get_or, drop, refl, ap, ◌∙◌, sym, subst, arith, Some, inl, inr}
+use Rattle.std.proofs.Common.{ℕ, ◌≡◌, ◌≢◌, List, [], ◌∷◌, ◌++◌, length, map, set, get_or, drop, refl, ap, ◌∙◌, sym, subst, arith, Some, inl, inr}
 use Rattle.std.specs.List.{slice_get}
 use Rattle.std.proofs.lemmas.List.{length-map, length-set}
 use Rattle.std.proofs.lemmas.Bool.{cases_eq}
 use Rattle.std.specs.Option.{option_map}
-use Rattle.std.proofs.lemmas.Option.{slice_get_within, same_Some, slice_get-map}
+use Rattle.std.proofs.lemmas.Option.{slice_get_within, same_Some, slice_get-map, slice_get-get_or}
 use Rattle.circular_buffer.specs.Buffer.{Buffer, buffer}
 use Rattle.circular_buffer.proofs.Places.{slice_get-set_same, slice_get-set_other}
 use Rattle.tspkt.specs.declared.stamped.Stamped.{Stamped}
@@ -23,12 +23,6 @@ use Rattle.mux.proofs.Emitted.{before_end, at_end}
 use Rattle.mux.proofs.Plans.{IsAt}
 use Rattle.mux.proofs.Refusals.{IsTakenFor}
 use Rattle.mux.proofs.Queues.{queued, unqueued, sent_queue, unsent_queue}
-
--- the element at a place, read with any default
-slice_get_of : {X : Type 0} (xs : List X) (k : ℕ) (x : X) → k < length xs → x ≡ get_or xs k x → slice_get xs k ≡ Some x
-slice_get_of [] k x l e = absurd (omega arith)
-slice_get_of (y ∷ xs) zero x l e = ap Some (sym e)
-slice_get_of (y ∷ xs) (suc k) x l e = slice_get_of xs k x (omega arith) e
 
 -- places keep what lies at them where one more packet is taken
 reads_more : (taken : List Stamped) (item : Stamped) (ks : List ℕ) (ws : List Stamped) → map (slice_get taken) ks ≡ map Some ws → map (slice_get (taken ++ item ∷ [])) ks ≡ map Some ws
@@ -79,7 +73,7 @@ pub places_at : {p : PlanValue} {h : List Event} {taken : List Stamped} {places 
     → IsPlacesOf p.request.queue taken (queue st h) q
 places_at {p} {h} {taken} {places} kept k st q at is =
     let within = slice_get_within p.request.streams k st at in
-    kept.each k st q at (slice_get_of places k q (omega (arith, kept.count)) is)
+    kept.each k st q at (slice_get-get_or places k q (omega (arith, kept.count)) ∙ ap Some (sym is))
 
 -- at the opening
 pub places_none : (p : PlanValue) (h : List Event) (taken : List Stamped) (places : List (Buffer ℕ)) → h ≡ [] → places ≡ map (no_places p.request.queue) p.request.streams → KeepsPlaces p h taken places
@@ -97,7 +91,6 @@ places_none p h taken places none are =
 places_same : {p : PlanValue} {h : List Event} {taken : List Stamped} {places : List (Buffer ℕ)} → KeepsPlaces p h taken places → (e : Event) (after : List Event) (now : List Stamped) → after ≡ e ∷ h → now ≡ taken
     → ((st : Stream) → queue st (e ∷ h) ≡ queue st h) → KeepsPlaces p after now places
 places_same {p} {h} {taken} {places} kept e after now is same queues =
-    let P : List Event → List Stamped → Type 0 = λ es items. KeepsPlaces p es items places in
     let Q : List Stamped → Type 0 = λ items. KeepsPlaces p (e ∷ h) items places in
     let R : List Event → Type 0 = λ es. KeepsPlaces p es now places in
     subst R (sym is) (subst Q (sym same) (record {

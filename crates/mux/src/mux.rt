@@ -1,6 +1,6 @@
 //! The multiplex.
 
-ghost use Rattle.std.specs.Prelude.{◌≡◌, ℕ, ◌+◌, ◌*◌, ◌<◌, ◌≤◌, ◌==◌, ◌↔◌, [], map, ◌∷◌, Bool, true, false, IsTrue, IfOk, OnOk, OnErr, IsOk, IfSome, IfNone, Some, None, length};
+ghost use Rattle.std.specs.Prelude.{◌≡◌, ℕ, ◌+◌, ◌-◌, ◌*◌, ◌<◌, ◌≤◌, ◌==◌, ◌↔◌, [], map, ◌∷◌, Bool, true, false, IsTrue, IfOk, OnOk, OnErr, IsOk, IfSome, IfNone, Some, None, length, option_copied};
 ghost use Rattle.std.specs.List.{range_with_len, slice_get};
 ghost use Rattle.tspkt.specs.Packet.{IsPacket};
 ghost use Rattle.request.specs.declared.stream.Stream.{Stream};
@@ -198,9 +198,8 @@ impl Mux {
 
     /// The packet of the slot that was sent last, lent; none where none was sent.
     pub fn last(&self) -> Option<&Packet>
-        ensures some { IfSome result (λ packet. (slot : ℕ) → slot + 1 ≡ slots self.now.events
-            → slice_get (emitted self.now.run.plan self.now.events) slot ≡ Some packet.now) }
-        ensures none { IfNone result (slots self.now.events ≡ 0) }
+        ensures { option_copied result
+            ≡ slice_get (emitted self.now.run.plan self.now.events) (slots self.now.events - 1) }
     {
         self.output.last()
     }

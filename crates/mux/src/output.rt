@@ -1,6 +1,6 @@
 //! The packets that were taken, and those that went out.
 
-ghost use Rattle.std.specs.Prelude.{◌≡◌, ◌<◌, ◌+◌, ◌++◌, ◌∷◌, ℕ, [], ◌%◌, ◌^◌, length, Some, IfSome, IfNone, IfOk, OnOk, OnErr, All};
+ghost use Rattle.std.specs.Prelude.{◌≡◌, ◌<◌, ◌-◌, ◌++◌, ◌∷◌, [], ◌%◌, ◌^◌, length, Some, option_copied, IfOk, OnOk, OnErr, All};
 ghost use Rattle.tspkt.specs.Packet.{IsPacket, null_packet};
 ghost use Rattle.tspkt.specs.Rewritten.{rewritten};
 ghost use Rattle.tspkt.specs.declared.stamped.Stamped.{Stamped as TakenPacket};
@@ -64,9 +64,7 @@ impl Output {
 
     /// The packet that went out last.
     pub fn last(&self) -> Option<&Packet>
-        ensures some { IfSome result (λ packet. (slot : ℕ) → slot + 1 ≡ length self.now.packets
-            → slice_get self.now.packets slot ≡ Some packet.now) }
-        ensures none { IfNone result (length self.now.packets ≡ 0) }
+        ensures { option_copied result ≡ slice_get self.now.packets (length self.now.packets - 1) }
     {
         if self.sent.is_empty() {
             return None;

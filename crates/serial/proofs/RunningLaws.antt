@@ -1,7 +1,5 @@
 -- A run, step by step.
 use Rattle.std.proofs.Common.{ℕ, zero, suc, ◌+◌, ◌-◌, ◌*◌, ◌<◌, ◌≤◌, ◌≡◌, if◌then◌else◌, ◌||◌, List, [], ◌∷◌, ◌++◌, length, set, get_or, Option, Bor, None, Some, refl, ap, ◌∙◌, sym, subst, arith, inl, inr, append_assoc}
-use Rattle.std.specs.Prelude.{IfSome}
-use Rattle.mux.proofs.Lists.{of_some}
 use Rattle.std.specs.List.{slice_get, range_with_len, sum_by}
 use Rattle.std.specs.Io.KnownBytes.{Consumes, IsAtEnd, Appends}
 use Rattle.std.proofs.lemmas.Bool.{cases_eq, cases_Bool, ne_eqb}
@@ -18,7 +16,6 @@ use Rattle.mux.specs.History.{Run, History, with_event, slots, emitted, packet_b
 use Rattle.mux.specs.declared.slot.Slot.TheVariants.{Sent}
 use Rattle.mux.specs.declared.sending.Sending.TheVariants as sending
 use Rattle.mux.specs.Answers.{SendAnswers, SlotAnswers}
-use Rattle.mux.proofs.Emitted.{sent_at_end}
 use Rattle.mux.specs.Faithful.{IsFaithful}
 use Rattle.tspkt.specs.declared.stamped.Stamped.{Stamped}
 use Rattle.serial.specs.InputReading.{HasRead}
@@ -196,17 +193,6 @@ is_sent p old new packet plan answer =
       events = events;
       out = ap (emitted p) events ∙ ap (λ q. emitted p h ++ q ∷ []) (sym packet_is);
     }
-
--- the packet of the slot that was sent, as the multiplex lends it
-pub lent_last : (old new : History) (o : Option (Bor (List ℕ))) (r : Bor (List ℕ)) → SendAnswers old sending.Sent new → o ≡ Some r
-    → IfSome o (λ packet. (slot : ℕ) → slot + 1 ≡ slots new.events → slice_get (emitted new.run.plan new.events) slot ≡ Some packet.now)
-    → SlotAnswers old (Sent r.now) new
-lent_last old new o r answer is last =
-    let sent = answer.1 in
-    let n = slots old.events in
-    let P : History → Type 0 = λ h. slice_get (emitted h.run.plan h.events) n ≡ Some r.now in
-    let there = of_some o r _ is last n (sym (ap (λ (h : History). slots h.events) sent.2)) in
-    (answer.0, (sent.0, sent.1, (sent.2, sent_at_end old.run.plan old.events sent.0 n r.now refl (subst P sent.2 there))))
 
 pub runs_sent : {R : Type 0} (remaining : R → Option (List ℕ)) (run : Run) (starts : List (Option (List ℕ))) (old : SerialRun R) (mux : History) (output : SlotWriter) (packet : List ℕ)
     → IsRunning remaining run starts old → SlotAnswers old.mux (Sent packet) mux → mux.run ≡ old.mux.run

@@ -20,7 +20,8 @@ pub fn analyser_tells_only_what_was_taken()
     ensures { AnalyserTellsOnlyWhatWasTaken }
 {}
 
-/// Two runs of one plan, for as many slots, over equal known bytes write equal bytes, where nothing but their end stopped an input.
+/// Two runs of one plan, for as many slots, over equal known bytes write equal bytes, where nothing but their end stopped an
+/// input.
 pub fn equal_inputs_give_equal_bytes()
     ensures { EqualInputsGiveEqualBytes }
 {}

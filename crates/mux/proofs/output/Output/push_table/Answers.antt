@@ -8,7 +8,7 @@ use Rattle.mux.specs.declared.sent_packet.SentPacket.{SentPacket}
 use Rattle.mux.specs.declared.sent_packet.SentPacket.TheVariants as kept
 use Rattle.mux.proofs.MadePackets.{grown, output_push, packets_push, packets_grown}
 use Rattle.std.proofs.Common.{length-append}
-use Rattle.mux.proofs.Lists.{end_read}
+use Rattle.std.proofs.Math.Seq.{get_or-append_seam}
 use Rattle.mux.proofs.output.Output.push_table.Goals as goal
 
 pub invariant_of-self-2 : goal.invariant_of-self-2
@@ -24,7 +24,7 @@ invariant_of-self-2 c =
     (let G : List Stamped → Type 0 = λ xs. IsOutput xs (tables ++ q ∷ []) sent last c.self.inside.counters in subst G (append-nil taken) (grown c.self.invariant [] (q ∷ []))) in
     let pid = c.pid.ensures.value in
     let there : length tables < length (tables ++ q ∷ []) = omega (arith, length-append tables (q ∷ [])) in
-    let pushed = output_push more (kept.Table (length tables)) q c.count.new.self there (end_read tables q null_packet) c.bytes.ensures.packet (omega (arith, c.pid.ensures.fits)) (c.count.ensures ∙ ap (counted c.self.inside.counters) pid) in
+    let pushed = output_push more (kept.Table (length tables)) q c.count.new.self there (get_or-append_seam tables q [] null_packet) c.bytes.ensures.packet (omega (arith, c.pid.ensures.fits)) (c.count.ensures ∙ ap (counted c.self.inside.counters) pid) in
     let P : List (List ℕ) → Type 0 = λ xs. IsOutput taken xs (sent ++ kept.Table (length tables) ∷ []) q c.count.new.self in
     let R : List SentPacket → Type 0 = λ xs. IsOutput taken c.push_reserved.new.self.items xs q c.count.new.self in
     subst R (sym (c.in_ok-push.ensures.items ∙ ap (λ n. sent ++ kept.Table n ∷ []) at)) (subst P (sym are) pushed)
@@ -42,5 +42,5 @@ returns-clause-ok c =
     let still : map (packet_of taken (tables ++ q ∷ [])) sent ≡ map (packet_of taken tables) sent =
     ap (λ (xs : List Stamped). map (packet_of xs (tables ++ q ∷ [])) sent) (sym (append-nil taken)) ∙ packets_grown c.self.invariant [] (q ∷ []) in
     ap of (ap (map (packet_of taken c.push_reserved.new.self.items)) (c.in_ok-push.ensures.items ∙ ap (λ n. sent ++ kept.Table n ∷ []) at) ∙ ap T are
-    ∙ packets_push taken (tables ++ q ∷ []) sent (kept.Table (length tables)) q (end_read tables q null_packet) ∙ ap (λ (ps : List (List ℕ)). ps ++ q ∷ []) still)
+    ∙ packets_push taken (tables ++ q ∷ []) sent (kept.Table (length tables)) q (get_or-append_seam tables q [] null_packet) ∙ ap (λ (ps : List (List ℕ)). ps ++ q ∷ []) still)
     ∙ ap (λ (o : OutputValue). with_packet o q) c.self.view_is

@@ -2,30 +2,29 @@ use Rattle.std.proofs.Common.{◌≡◌, length, refl, ap, ◌∙◌, sym, subst
 use Rattle.std.specs.List.{length_refill}
 use Rattle.std.specs.Vec.{with_items}
 use Rattle.mux.specs.History.{Run, History, slots}
-use Rattle.mux.proofs.Lists.{some_unless}
+use Rattle.mux.proofs.Emitted.{last_sent}
+use Rattle.mux.proofs.Heads.{some_of, lent_last}
 use Rattle.serial.specs.Running.{AreBegun}
 use Rattle.serial.proofs.SendingLaws.{on_err_always}
-use Rattle.serial.proofs.RunningLaws.{lent_last, runs_sent, fewer_sent, written_sent, runs_pulled, fewer_pulled, begun, begun_sent, sent_begun}
+use Rattle.serial.proofs.RunningLaws.{runs_sent, fewer_sent, written_sent, runs_pulled, fewer_pulled, begun, begun_sent, sent_begun}
 use Rattle.serial.proofs.serial_run.SerialRun.step.Goals as goal
 
 pub unwrap-packet-requires : goal.unwrap-packet-requires
-unwrap-packet-requires g c =
-    let more = ap (λ (h : History). slots h.events) c.in-Sent.ensures.answer.1.2 in
-    some_unless c.last.result c.last.ensures.none (λ none. omega (arith, none, more))
+unwrap-packet-requires g c = some_of c.last.result _ (c.last.ensures ∙ last_sent c.args.self.now.mux c.send_next.new.self c.in-Sent.ensures.answer)
 
 pub returns-in_ok-put-in-Sent-clause-runs : goal.returns-in_ok-put-in-Sent-clause-runs
 returns-in_ok-put-in-Sent-clause-runs g c run starts is =
-    runs_sent g.R.Source.remaining run starts c.args.self.now c.send_next.new.self c.put.new.self c.unwrap-packet.result.now is (lent_last c.args.self.now.mux c.send_next.new.self c.last.result c.unwrap-packet.result c.in-Sent.ensures.answer c.unwrap-packet.ensures c.last.ensures.some) c.send_next.ensures.run c.in_ok-put-in-Sent.ensures.analysed
+    runs_sent g.R.Source.remaining run starts c.args.self.now c.send_next.new.self c.put.new.self c.unwrap-packet.result.now is (lent_last c.args.self.now.mux c.send_next.new.self c.last.result c.unwrap-packet.result c.in-Sent.ensures.answer c.unwrap-packet.ensures c.last.ensures) c.send_next.ensures.run c.in_ok-put-in-Sent.ensures.analysed
 
 pub returns-in_ok-put-in-Sent-clause-fewer : goal.returns-in_ok-put-in-Sent-clause-fewer
-returns-in_ok-put-in-Sent-clause-fewer g c e = fewer_sent c.args.self.now.mux c.send_next.new.self c.unwrap-packet.result.now (lent_last c.args.self.now.mux c.send_next.new.self c.last.result c.unwrap-packet.result c.in-Sent.ensures.answer c.unwrap-packet.ensures c.last.ensures.some)
+returns-in_ok-put-in-Sent-clause-fewer g c e = fewer_sent c.args.self.now.mux c.send_next.new.self c.unwrap-packet.result.now (lent_last c.args.self.now.mux c.send_next.new.self c.last.result c.unwrap-packet.result c.in-Sent.ensures.answer c.unwrap-packet.ensures c.last.ensures)
 
 pub returns-in_ok-put-in-Sent-clause-written : goal.returns-in_ok-put-in-Sent-clause-written
 returns-in_ok-put-in-Sent-clause-written g c before first =
     let is = c.requires.2 in
     let plan : c.args.self.now.mux.run.plan ≡ c.args.self.now.plan = ap (λ (r : Run). r.plan) is.run_is ∙ sym is.plan_is in
     written_sent c.args.self.now.plan c.args.self.now.mux c.send_next.new.self c.unwrap-packet.result.now before (g.W.Sink.contents c.args.sink.now) (g.W.Sink.contents c.put.new.sink)
-    c.args.self.now.output.writer c.put.new.self.writer plan (lent_last c.args.self.now.mux c.send_next.new.self c.last.result c.unwrap-packet.result c.in-Sent.ensures.answer c.unwrap-packet.ensures c.last.ensures.some) first c.in_ok-put-in-Sent.ensures.written
+    c.args.self.now.output.writer c.put.new.self.writer plan (lent_last c.args.self.now.mux c.send_next.new.self c.last.result c.unwrap-packet.result c.in-Sent.ensures.answer c.unwrap-packet.ensures c.last.ensures) first c.in_ok-put-in-Sent.ensures.written
 
 pub returns-in_ok-pull_at-in-NotReady-clause-runs :
     goal.returns-in_ok-pull_at-in-NotReady-clause-runs
@@ -50,7 +49,7 @@ pub returns-in_err-put-in-Sent-clause-begun : goal.returns-in_err-put-in-Sent-cl
 returns-in_err-put-in-Sent-clause-begun g c =
     let old = c.args.self.now in
     on_err_always c.from_residual.result
-    (λ run starts is. begun_sent run.plan old.mux c.send_next.new.self c.unwrap-packet.result.now starts (lent_last c.args.self.now.mux c.send_next.new.self c.last.result c.unwrap-packet.result c.in-Sent.ensures.answer c.unwrap-packet.ensures c.last.ensures.some)
+    (λ run starts is. begun_sent run.plan old.mux c.send_next.new.self c.unwrap-packet.result.now starts (lent_last c.args.self.now.mux c.send_next.new.self c.last.result c.unwrap-packet.result c.in-Sent.ensures.answer c.unwrap-packet.ensures c.last.ensures)
     (begun g.R.Source.remaining run.plan old.mux.events starts old.inputs.items is.fed))
 
 pub returns-in_err-put-in-Sent-clause-sent_begun :
@@ -61,7 +60,7 @@ returns-in_err-put-in-Sent-clause-sent_begun g c =
     let plan : old.mux.run.plan ≡ old.plan = ap (λ (r : Run). r.plan) is.run_is ∙ sym is.plan_is in
     on_err_always c.from_residual.result
     (λ before first. sent_begun old.plan old.mux c.send_next.new.self c.unwrap-packet.result.now before (g.W.Sink.contents c.args.sink.now) (g.W.Sink.contents c.put.new.sink) old.output.writer plan
-    (lent_last c.args.self.now.mux c.send_next.new.self c.last.result c.unwrap-packet.result c.in-Sent.ensures.answer c.unwrap-packet.ensures c.last.ensures.some) first c.in_err-put-in-Sent.ensures.begun)
+    (lent_last c.args.self.now.mux c.send_next.new.self c.last.result c.unwrap-packet.result c.in-Sent.ensures.answer c.unwrap-packet.ensures c.last.ensures) first c.in_err-put-in-Sent.ensures.begun)
 
 pub returns-in_err-pull_at-in-NotReady-clause-begun :
     goal.returns-in_err-pull_at-in-NotReady-clause-begun
