@@ -1,15 +1,18 @@
-//! Takes and sends packets of 4 inputs, as many as a run may have slots.
+//! Takes and sends packets of 4 inputs, as a run does.
 
 ghost use Rattle.std.specs.Prelude.{◌≤◌};
 ghost use Rattle.bench.specs.declared.workload.TheConstants.{MAX_STREAMS_AN_INPUT};
 
 use crate::workload::{INPUT_RATE, INPUTS, pids, plan};
 use anyhow::Result;
-use mux::{MAX_SLOTS, Mux, Slot, Taken};
+use mux::{Mux, Offered, Sending};
 use std::alloc::Global;
 use std::rt::Clock;
 use std::time::Instant;
 use tspkt::{Packet, Stamped, time};
+
+/// How many slots are sent.
+const SLOTS: u64 = 1_000_000;
 
 /// The last place of an input that is stamped, in bytes.
 const LAST_PLACE: u64 = 3_000_000_000;
@@ -20,7 +23,7 @@ pub fn run<R: Clock + Print + AllocGlobal>(rt: &R, streams_an_input: u8) -> Resu
     requires { streams_an_input ≤ MAX_STREAMS_AN_INPUT }
 {
     let alloc = rt.alloc();
-    let mut mux = Mux::open(alloc, plan(alloc, streams_an_input)?, MAX_SLOTS)?;
+    let mut mux = Mux::open(alloc, plan(alloc, streams_an_input)?, SLOTS)?;
     let packets = packets(alloc, streams_an_input)?;
     let start = Instant::now(rt)?;
     drive(&mut mux, &packets);
@@ -55,9 +58,9 @@ fn drive(mux: &mut Mux, packets: &[Packet]) {
     let streams = packets.len().max(1) as u64;
     let mut next = [0u64; INPUTS];
     for _ in 0..u64::MAX {
-        match mux.slot() {
-            Slot::Sent(_) => {}
-            Slot::NotReady(input) if input < INPUTS && next[input] < LAST_PLACE => {
+        match mux.send_next() {
+            Sending::Sent => {}
+            Sending::NotReady(input) if input < INPUTS && next[input] < LAST_PLACE => {
                 let place = next[input];
                 let Some(packet) = packets.get((place / 188 % streams) as usize) else {
                     break;
@@ -66,7 +69,7 @@ fn drive(mux: &mut Mux, packets: &[Packet]) {
                     packet: *packet,
                     stamp: time(place + 10, INPUT_RATE),
                 };
-                if !matches!(&mux.take(input, stamped), Taken::Ok) {
+                if mux.offer(input, &stamped) != Offered::Taken {
                     break;
                 }
                 next[input] = place + 188;

@@ -1,10 +1,10 @@
 -- Numbers of packets and slots, by the history.
-use Rattle.std.proofs.Common.{ℕ, zero, suc, ◌+◌, ◌≤◌, ◌≡◌, ◌≢◌, ◌∙◌, Bool, true, false, cond, nat_eq, List, [], ◌∷◌, length, drop, ap, sym, arith, refl, length-append, length-drop, Some, inl, inr, eq-eqb, zero-add}
+use Rattle.std.proofs.Common.{ℕ, zero, suc, ◌+◌, ◌≤◌, ◌≡◌, ◌≢◌, ◌∙◌, Bool, true, false, cond, nat_eq, List, [], ◌∷◌, length, drop, ap, sym, arith, refl, length-append, length-drop, Some, inl, inr, eq-eqb, zero-add, All, get_or}
 use Rattle.std.specs.Prelude.{sum_by, count_by, filter}
 use Rattle.std.specs.List.{slice_get}
-use Rattle.std.proofs.lemmas.List.Sums.{sum_by-cons, count_by-le-length}
+use Rattle.std.proofs.lemmas.List.Sums.{sum_by-cons, sum_by-le, count_by-le-length}
 use Rattle.std.proofs.lemmas.Bool.{cases_Bool, ne_eqb}
-use Rattle.std.proofs.lemmas.Option.{same_Some, slice_get_within}
+use Rattle.std.proofs.lemmas.Option.{same_Some, slice_get_within, slice_get-get_or}
 use Rattle.tspkt.specs.declared.stamped.Stamped.{Stamped}
 use Rattle.request.specs.declared.stream.Stream.{Stream}
 use Rattle.rounds.specs.declared.table_place.TablePlace.{TablePlace}
@@ -15,13 +15,13 @@ use Rattle.mux.specs.declared.event.Event.TheVariants.{Took, Full, Close, Slot}
 use Rattle.buffers.specs.QueueValue.{QueueValue}
 use Rattle.plan.specs.Build.{PlanValue}
 use Rattle.mux.specs.Plans.{IsMultiplexPlan}
-use Rattle.mux.specs.History.{taken, queue, slots}
+use Rattle.mux.specs.History.{taken, taken_for, sent, queue, slots}
 use Rattle.mux.specs.declared.counts.Counts.{Counts}
 use Rattle.mux.specs.Totals.{contents, is_table, is_elementary, is_null, is_of_input, queued, IsCounts}
 use Rattle.mux.specs.Keeping.{queue_of, counts_of}
 use Rattle.mux.specs.Lawful.{IsLawful}
 use Rattle.mux.proofs.Contents.{stream_choice}
-use Rattle.mux.proofs.Plans.{IsAt, has_of}
+use Rattle.mux.proofs.Plans.{IsAt, Has, has_of}
 use Rattle.mux.proofs.Refusals.{IsTakenFor, taken_for_of, goes_both}
 use Rattle.mux.proofs.Queues as queues
 
@@ -184,3 +184,20 @@ taken_is_sent_and_queued p i (Slot (Elementary st) ∷ h) plan law =
     let chosen = stream_choice p h st law.1.content in
     let has = has_of p st chosen.1.stream in
     omega (arith, count-cons (is_of_input i) (Elementary st) (contents h), queued_sent p i h chosen.0 has.0 st plan has.1 chosen.1.head)
+
+-- no more waits of a stream than its queue holds
+waits_at_most : (p : PlanValue) (i : ℕ) (h : List Event) (st : Stream) → IsMultiplexPlan p → IsLawful p h → Has p st → waiting i h st ≤ 1024
+waits_at_most p i h st plan law has =
+    let bound = queues.queue_bound p st h plan law has in
+    let rest = length-drop (sent st h) (taken_for st h) in
+    let capacity = plan.request.queue in
+    let short : length (queue st h) ≤ 1024 = omega (arith, capacity) in
+    elim (cases_Bool (nat_eq st.input i)) [ inl e ↦ rw e short | inr e ↦ rw e (omega arith) ]
+
+-- no more was taken of an input than slots were sent, and what all queues hold
+pub taken_within : (p : PlanValue) (i : ℕ) (h : List Event) → IsMultiplexPlan p → IsLawful p h → length (taken i h) ≤ slots h + 65536
+taken_within p i h plan law =
+    let all : All (λ (st : Stream). waiting i h st ≤ 1024) p.request.streams =
+    λ k d l. waits_at_most p i h (get_or p.request.streams k d) plan law (k, slice_get-get_or p.request.streams k d l) in
+    let count = plan.request.stream_count in
+    omega (arith, taken_is_sent_and_queued p i h plan law, queued-waiting p i h, sum_by-le (waiting i h) 1024 p.request.streams all, count_within (is_of_input i) h, count)

@@ -4,7 +4,6 @@ pub mod Contents
 pub mod Mapped
 pub mod Refusals
 pub mod Queues
-pub mod Stored
 pub mod Counting
 pub mod Emitted
 pub mod StreamPackets
@@ -14,9 +13,9 @@ pub mod Outputs
 pub mod Carried
 pub mod Nulls
 pub mod CounterLaws
+pub mod ClockLaws
 pub mod Sound
 pub mod Heads
-pub mod TablePlaces
 pub mod Steps
 pub mod Peaks
 pub mod Noted
@@ -26,5 +25,3 @@ pub mod Opening
 pub mod Fronts
 pub mod Same
 pub mod Ends
-pub mod MadePackets
-pub mod Places

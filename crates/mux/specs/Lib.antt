@@ -8,10 +8,8 @@ pub mod Headline
 pub mod Faithful
 pub mod SlotClock
 pub mod PidCounters
-pub mod Stored
 pub mod Buckets
 pub mod KeptBucket
 pub mod Keeping
 pub mod Choosing
 pub mod Output
-pub mod Places

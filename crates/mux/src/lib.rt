@@ -1,4 +1,4 @@
-//! The multiplex without threads: its state, and the history that it keeps.
+//! The multiplex without threads: its state, and the history that contracts see.
 //!
 //! A `Plan` says which streams go into the multiplex, how fast it runs, and which slots carry its tables. A `Mux` takes
 //! packets of the inputs, in the order of their times, and sends one packet a slot: the table packet whose turn it is, else
@@ -7,7 +7,8 @@
 //! depend on the order in which the inputs are read.
 //!
 //! Contracts see a `Mux` as its `History`: the plan, the limit of slots, and the events since it was opened. Each call
-//! adds exactly one event, or none.
+//! adds exactly one event, or none. Nothing of the history is stored: a multiplex takes the same memory whatever its length.
+//! A `RecordedMux` also keeps the packets that it sent.
 #![tactic(auto)]
 
 mod candidate;
@@ -18,18 +19,16 @@ mod event;
 mod input_state;
 mod kept_bucket;
 pub mod laws;
-mod moved_packet;
 mod mux;
 mod offered;
 mod output;
 mod peak;
 mod pid_counters;
 mod progress;
+mod recorded_mux;
 mod sending;
-mod sent_packet;
 mod slot;
 mod slot_clock;
-mod stored_event;
 mod taken;
 mod totals;
 
@@ -39,6 +38,7 @@ pub use event::Event;
 pub use mux::{MAX_SLOTS, Mux};
 pub use offered::Offered;
 pub use peak::Peak;
+pub use recorded_mux::RecordedMux;
 pub use sending::Sending;
 pub use slot::Slot;
 pub use taken::Taken;

@@ -1,5 +1,10 @@
 //! What `slot` answers.
 
+ghost use Rattle.std.specs.Prelude.{◌≢◌};
+ghost use Rattle.mux.specs.History.{History};
+ghost use Rattle.mux.specs.Answers.{SendAnswers, SlotAnswers};
+
+use crate::sending::Sending;
 use tspkt::Packet;
 
 /// What became of a slot. Only `Sent` changes the multiplex.
@@ -15,4 +20,18 @@ pub enum Slot {
     RunFull,
     /// The memory for the event was refused.
     Memory,
+}
+
+/// The same answer of `slot`, where no packet was sent.
+pub(crate) fn without_packet(answer: Sending) -> Slot
+    requires { answer ≢ Sending.Sent }
+    ensures { (h : History) → SendAnswers h answer h → SlotAnswers h result h }
+{
+    match answer {
+        Sending::Sent => unreachable!(),
+        Sending::NotReady(input) => Slot::NotReady(input),
+        Sending::Done => Slot::Done,
+        Sending::RunFull => Slot::RunFull,
+        Sending::Memory => Slot::Memory,
+    }
 }

@@ -5,11 +5,11 @@ ghost use Rattle.tspkt.specs.Stamps.{time_of};
 ghost use Rattle.mux.specs.SlotClock.{clock_at, advanced};
 
 use crate::mux::MAX_SLOTS;
-use request::MAX_RATE;
+use request::{MAX_RATE, MIN_RATE};
 use std::marker::Model;
 
 /// The time of a slot, and the step to the next: whole ticks of 27 MHz, and what is left over by rounding down, in
-/// parts of a tick, of which a tick has `rate`. So no slot needs a division.
+/// parts of a tick, of which a tick has `rate`. So no slot needs a division, and no number overflows up to slot 2^40.
 #[derive(Drop)]
 pub(crate) struct SlotClock {
     rate: u64,
@@ -33,7 +33,7 @@ impl Model for SlotClock {
 impl SlotClock {
     /// A clock that stands at slot 0 of a multiplex of this rate, in bits a second.
     pub fn new(rate: u64) -> SlotClock
-        requires positive { 0 < rate }
+        requires from { MIN_RATE ≤ rate }
         requires within { rate ≤ MAX_RATE }
         ensures { result ≡ clock_at rate 0 }
     {

@@ -4,8 +4,8 @@ ghost use Rattle.std.specs.Prelude.{◌≡◌, ◌<◌, ◌≤◌, length, IfOk}
 ghost use Rattle.mux.specs.declared.mux.TheConstants.{MAX_SLOTS};
 
 use crate::example;
-use anyhow::Result;
-use mux::{Mux, Slot, Taken};
+use anyhow::{Result, bail};
+use mux::{Mux, RecordedMux, Slot, Taken};
 use plan::Plan;
 use std::alloc::{AllocError, Global};
 use std::process::Abort;
@@ -87,7 +87,18 @@ pub fn opens(alloc: Global, queue: usize, offset: u64) -> Result<Mux>
     example::open(alloc, plan, 1, 10_000)
 }
 
-/// The same, with ample memory.
+/// The same, of a multiplex that keeps what it sends.
+pub fn opens_recorded(alloc: Global, queue: usize, offset: u64) -> Result<RecordedMux>
+    ensures { IfOk result (λ m. length m.run.plan.request.inputs ≡ 1) }
+{
+    let plan = plan(alloc, queue, &[offset])?;
+    if plan.inputs().len() != 1 {
+        bail!("the plan has another number of inputs");
+    }
+    Ok(RecordedMux::open(alloc, plan, 10_000)?)
+}
+
+/// A multiplex of one input, with ample memory.
 pub fn one_input(rt: &impl Abort, alloc: Global, queue: usize, offset: u64) -> Mux
     ensures { length result.run.plan.request.inputs ≡ 1 }
 {

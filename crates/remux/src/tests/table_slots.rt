@@ -5,10 +5,11 @@ ghost use Rattle.mux.specs.declared.mux.TheConstants.{MAX_SLOTS};
 
 use crate::example;
 use crate::tests::helpers::{
-    closes, input, item, marks, packet, plan, send_all, service, settings, takes, takes_five,
+    closes, input, item, marks, opens_recorded, packet, plan, send_all, service, settings, takes,
+    takes_five,
 };
 use anyhow::bail;
-use mux::{Counts, Mux, Slot};
+use mux::{Counts, Mux, Slot, Taken};
 use plan::Plan;
 use std::alloc::{AllocError, Global};
 use std::process::Abort;
@@ -126,18 +127,32 @@ fn a_run_ends_with_its_slots(rt: HostRuntime) {
 
 #[test]
 fn each_packet_is_given_again(rt: HostRuntime) {
+    let mut mux = opens_recorded(rt.alloc(), 64, 0).expect(&rt, "a multiplex");
+    for k in 0..5 {
+        assert!(rt; matches!(&mux.take(0, item(&rt, k, 0)), Taken::Ok));
+    }
+    assert!(rt; mux.close(0).is_ok());
+    for slot in 0..8 {
+        assert_eq!(rt; mux.mux().slots(), slot);
+        let Slot::Sent(packet) = mux.slot() else {
+            assert!(rt; false);
+            return;
+        };
+        let again = mux.emitted(slot);
+        assert_eq!(rt; again.bytes().as_slice(), packet.bytes().as_slice());
+    }
+    assert!(rt; matches!(&mux.slot(), Slot::Done));
+}
+
+/// The packet that went out last is lent; none before the first slot.
+#[test]
+fn the_last_packet_is_lent(rt: HostRuntime) {
     let plan = plan(rt.alloc(), 64, &[0]).expect(&rt, "a plan");
     let mut mux = opened(&rt, rt.alloc(), &plan, 1_000);
     assert!(rt; mux.last().is_none());
     takes_five(&rt, &mut mux, 0);
     closes(&rt, &mut mux, 0);
-    let (sent, _) = send_all(&rt, rt.alloc(), &mut mux);
-    assert_eq!(rt; mux.slots(), 8);
-    for slot in 0..mux.slots() {
-        let again = mux.emitted(slot);
-        let packet = sent.get(slot as usize).expect(&rt, "a packet");
-        assert_eq!(rt; again.bytes().as_slice(), packet.bytes().as_slice());
-    }
+    let _ = send_all(&rt, rt.alloc(), &mut mux);
     let last = mux.last().expect(&rt, "a packet");
     assert_eq!(rt; (last.pid(), last.counter()), (0x0200, 4));
 }

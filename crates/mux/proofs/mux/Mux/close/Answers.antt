@@ -2,11 +2,9 @@ use Rattle.std.proofs.Common.{◌<◌, refl, sym, ap, ◌∙◌, arith, length}
 use Rattle.std.proofs.lemmas.Bool.{false≢true}
 use Rattle.mux.specs.declared.input_state.InputState.{InputState}
 use Rattle.mux.specs.History.{History, is_closed}
-use Rattle.mux.proofs.Stored.{with_close}
 use Rattle.mux.proofs.Steps.{state_at, length_states, closing}
 use Rattle.mux.proofs.Peaks.{peaks_close}
 use Rattle.mux.proofs.Noted.{noted_same}
-use Rattle.mux.proofs.Places.{places_close}
 use Rattle.mux.proofs.mux.Mux.close.Goals as goal
 
 pub index-requires : goal.index-requires
@@ -21,28 +19,19 @@ index_mut-requires c =
     let v = ap (λ (h : History). length h.run.plan.request.inputs) c.self.view_is in
     omega (arith, c.self.inside.inputs.ok.0)
 
-pub invariant_of-self-then-not-index : goal.invariant_of-self-then-not-index
-invariant_of-self-then-not-index c =
+pub invariant_of-self : goal.invariant_of-self
+invariant_of-self c =
     let v = ap (λ (h : History). length h.run.plan.request.inputs) c.self.view_is in
     let l : c.args.input < length c.self.inside.plan.request.inputs = omega arith in
     let k = c.self.invariant.0.agrees in
-    let same = state_at k c.args.input c.index_mut.result.now l c.index_mut.ensures.value ∙ sym (state_at k c.args.input c.index.result.now l c.index.ensures) in
-    let e = with_close c.self.inside.plan.request.streams _ _ _ c.args.input c.in_ok-push.ensures.items in (
-      closing c.self.invariant.0 _ c.args.input c.index_mut.result.now e l c.index_mut.ensures.value (ap (λ (x : InputState). x.closed) same ∙ c.if-not-index.true),
-      peaks_close c.self.invariant.1 _ c.args.input e,
+    let same = state_at k c.args.input c.index_mut.result.now l c.index_mut.ensures.value ∙ sym (state_at k c.args.input c.index.result.now l c.index.ensures) in (
+      closing c.self.invariant.0 _ c.args.input c.index_mut.result.now c.add.ensures l c.index_mut.ensures.value (ap (λ (x : InputState). x.closed) same ∙ c.if-not-index.true),
+      peaks_close c.self.invariant.1 _ c.args.input c.add.ensures,
       noted_same c.self.invariant.2 c.args.input c.index_mut.result.now _ (omega (arith, length_states k)) c.index_mut.ensures.value refl,
-      places_close c.self.invariant.3 _ c.args.input e,
     )
 
-pub returns-in_ok-push-clause-again : goal.returns-in_ok-push-clause-again
-returns-in_ok-push-clause-again c closed =
-    let v = ap (λ (h : History). length h.run.plan.request.inputs) c.self.view_is in
-    let w = ap (λ (h : History). is_closed c.args.input h.events) c.self.view_is in
-    let is = state_at c.self.invariant.0.agrees c.args.input c.index.result.now (omega arith) c.index.ensures in
-    absurd (false≢true (sym c.if-not-index.true ∙ ap (λ (x : InputState). x.closed) is ∙ w ∙ closed))
-
-pub returns-in_err-push-clause-again : goal.returns-in_err-push-clause-again
-returns-in_err-push-clause-again c closed =
+pub returns-then-not-index-clause-again : goal.returns-then-not-index-clause-again
+returns-then-not-index-clause-again c closed =
     let v = ap (λ (h : History). length h.run.plan.request.inputs) c.self.view_is in
     let w = ap (λ (h : History). is_closed c.args.input h.events) c.self.view_is in
     let is = state_at c.self.invariant.0.agrees c.args.input c.index.result.now (omega arith) c.index.ensures in

@@ -1,14 +1,13 @@
-use Rattle.std.proofs.Common.{◌-◌, List, ℕ, length, reverse, ap, ◌∙◌}
+use Rattle.std.proofs.Common.{◌-◌, List, ℕ, length, ap, ◌∙◌}
 use Rattle.std.specs.List.{slice_get}
 use Rattle.mux.specs.History.{History, slots, emitted}
-use Rattle.mux.specs.Stored.{history_of}
 use Rattle.mux.proofs.Emitted.{length-emitted}
 use Rattle.mux.proofs.mux.Mux.last.Goals as goal
 
 pub returns : goal.returns
 returns c =
     let p = c.self.inside.plan in
-    let h = history_of p.request.streams (reverse c.self.inside.stored.items) (reverse c.self.inside.output.taken) in
+    let h = c.self.inside.past in
     c.last.ensures
     ∙ ap (λ (ps : List (List ℕ)). slice_get ps (length ps - 1)) c.self.invariant.0.packets_are
     ∙ ap (λ n. slice_get (emitted p h) (n - 1)) (length-emitted p h)

@@ -5,35 +5,29 @@ use Rattle.mux.specs.declared.event.Event.TheVariants.{Full}
 use Rattle.mux.specs.History.{History, with_event}
 use Rattle.mux.specs.Lawful.{MayNoteFull}
 use Rattle.mux.proofs.Plans.{stream_in}
-use Rattle.mux.proofs.Stored.{with_full}
 use Rattle.mux.proofs.Steps.{length_states, noting}
 use Rattle.mux.proofs.Peaks.{peaks_full}
 use Rattle.mux.proofs.Noted.{noted_now}
-use Rattle.mux.proofs.Places.{places_full}
 use Rattle.mux.proofs.mux.Mux.note_full.Goals as goal
 
 pub index_mut-requires : goal.index_mut-requires
 index_mut-requires c =
     let n = length_states c.self.invariant.0.agrees in
-    let at : slice_get c.self.inside.plan.request.streams c.args.place ≡ Some c.args.stream = ap (λ (h : History). slice_get h.run.plan.request.streams c.args.place) c.self.view_is ∙ c.requires.place in
-    let l = (stream_in c.self.inside.plan c.args.place c.args.stream c.self.invariant.0.agrees.plan at).input in
+    let at : slice_get c.self.inside.plan.request.streams c.args.index ≡ Some c.args.stream = ap (λ (h : History). slice_get h.run.plan.request.streams c.args.index) c.self.view_is ∙ c.requires.index in
+    let l = (stream_in c.self.inside.plan c.args.index c.args.stream c.self.invariant.0.agrees.plan at).input in
     omega (arith, c.self.inside.inputs.ok.0)
 
-pub invariant_of-self-2 : goal.invariant_of-self-2
-invariant_of-self-2 c =
-    let at : slice_get c.self.inside.plan.request.streams c.args.place ≡ Some c.args.stream = ap (λ (h : History). slice_get h.run.plan.request.streams c.args.place) c.self.view_is ∙ c.requires.place in
-    let l = (stream_in c.self.inside.plan c.args.place c.args.stream c.self.invariant.0.agrees.plan at).input in
-    let P : History → Type 0 = λ h. MayNoteFull h.run.plan h.events c.args.stream.input c.args.stream in
-    let e = with_full c.self.inside.plan _ _ _ c.args.place c.args.stream at c.in_ok-push.ensures.items in (
-      noting c.self.invariant.0 _ c.args.stream.input c.args.stream c.index_mut.result.now e l c.index_mut.ensures.value (subst P (sym c.self.view_is) c.requires.may),
-      peaks_full c.self.invariant.1 _ c.args.stream.input c.args.stream e,
+pub invariant_of-self : goal.invariant_of-self
+invariant_of-self c =
+    let at : slice_get c.self.inside.plan.request.streams c.args.index ≡ Some c.args.stream = ap (λ (h : History). slice_get h.run.plan.request.streams c.args.index) c.self.view_is ∙ c.requires.index in
+    let l = (stream_in c.self.inside.plan c.args.index c.args.stream c.self.invariant.0.agrees.plan at).input in
+    let P : History → Type 0 = λ h. MayNoteFull h.run.plan h.events c.args.stream.input c.args.stream in (
+      noting c.self.invariant.0 _ c.args.stream.input c.args.stream c.index_mut.result.now c.add.ensures l c.index_mut.ensures.value (subst P (sym c.self.view_is) c.requires.may),
+      peaks_full c.self.invariant.1 _ c.args.stream.input c.args.stream c.add.ensures,
       noted_now _,
-      places_full c.self.invariant.3 _ c.args.stream.input c.args.stream e,
     )
 
-pub returns-clause-ok : goal.returns-clause-ok
-returns-clause-ok c =
-    let at : slice_get c.self.inside.plan.request.streams c.args.place ≡ Some c.args.stream = ap (λ (h : History). slice_get h.run.plan.request.streams c.args.place) c.self.view_is ∙ c.requires.place in
+pub returns : goal.returns
+returns c =
     let opened : List Event → History = λ es. record { run = record { plan = c.self.inside.plan; limit = c.self.inside.limit }; events = es } in
-    ap opened (with_full c.self.inside.plan _ _ _ c.args.place c.args.stream at c.in_ok-push.ensures.items)
-    ∙ ap (λ (h : History). with_event h (Full c.args.stream.input c.args.stream)) c.self.view_is
+    ap opened c.add.ensures ∙ ap (λ (h : History). with_event h (Full c.args.stream.input c.args.stream)) c.self.view_is

@@ -1,4 +1,4 @@
-use Rattle.std.proofs.Common.{false, List, [], map, length, reverse, sym, ap, ◌∙◌, subst}
+use Rattle.std.proofs.Common.{false, List, [], map, length, sym, ap, ◌∙◌, subst}
 use Rattle.std.specs.List.{range_with_len}
 use Rattle.request.specs.declared.stream.Stream.{Stream}
 use Rattle.std.proofs.lemmas.List.{length-map}
@@ -6,18 +6,12 @@ use Rattle.request.specs.Request.{RequestValue, IsRequest, input_value}
 use Rattle.rounds.specs.Rounds.{RoundsValue, IsRounds}
 use Rattle.plan.specs.Build.{PlanValue}
 use Rattle.mux.specs.Plans.{IsMultiplexPlan}
-use Rattle.mux.specs.declared.stored_event.StoredEvent.{StoredEvent}
-use Rattle.mux.specs.Stored.{history_of}
 use Rattle.mux.specs.SlotClock.{clock_at}
 use Rattle.mux.specs.Keeping.{IsKept, state_of, queue_of, turn_at, no_peak, KeepsPeaks, KeepsNoted}
 use Rattle.mux.specs.Buckets.{empty_bucket}
 use Rattle.mux.proofs.Steps.{opening}
 use Rattle.mux.proofs.Noted.{noted_none}
 use Rattle.mux.proofs.Peaks.{peaks_none}
-use Rattle.mux.proofs.Places.{places_none}
-use Rattle.mux.specs.Places.{no_places, KeepsPlaces}
-use Rattle.mux.specs.Output.{OutputValue}
-use Rattle.tspkt.specs.declared.stamped.Stamped.{Stamped}
 use Rattle.mux.proofs.mux.Mux.open.Goals as goal
 
 pub invariant_of-result-2 : goal.invariant_of-result-2
@@ -29,22 +23,18 @@ invariant_of-result-2 c =
     let streams = p.request.streams in
     let queue = c.queue.ensures.value ∙ ap (λ (r : RequestValue). r.queue) c.request-2.ensures.value in
     let output = c.in_ok-new.ensures in
-    let taken = c.in_ok-new.field-0.taken in
-    let at_first = history_of streams (reverse c.new-2.result.items) (reverse taken) in
-    let none = ap (λ (es : List StoredEvent). history_of streams (reverse es) (reverse taken)) c.new-2.ensures.items ∙ ap (λ (xs : List Stamped). history_of streams [] (reverse xs)) (ap (λ (o : OutputValue). o.taken) output) in
+    let at_first = c.new-2.result in
+    let none = c.new-2.ensures in
     let P : PlanValue → Type 0 = λ x.
-    IsKept (record { plan = x; limit = c.args.slots }) (history_of x.request.streams (reverse c.new-2.result.items) (reverse taken)) c.in_ok-inputs.inputs.items c.in_ok-queues.queues.items c.in_ok-progress.progress.buckets c.in_ok-progress.progress.clock c.new-turn.result
-    c.in_ok-new.field-0.packets (record { tables = 0; elementary = 0; null = 0 })
-    × KeepsPeaks x (history_of x.request.streams (reverse c.new-2.result.items) (reverse taken)) c.in_ok-peaks.peaks.items
-    × KeepsNoted false c.in_ok-inputs.inputs.items
-    × KeepsPlaces x (history_of x.request.streams (reverse c.new-2.result.items) (reverse taken)) taken c.in_ok-places.places.items in
+    IsKept (record { plan = x; limit = c.args.slots }) at_first c.in_ok-inputs.inputs.items c.in_ok-queues.queues.items c.in_ok-progress.progress.buckets c.in_ok-progress.progress.clock c.new-turn.result
+    c.in_ok-new.field-0 (record { tables = 0; elementary = 0; null = 0 })
+    × KeepsPeaks x at_first c.in_ok-peaks.peaks.items
+    × KeepsNoted false c.in_ok-inputs.inputs.items in
     let kept = opening _ _ _ _ _ _ _ _ plan c.requires none
     (c.in_ok-inputs.ensures ∙ ap (λ n. map (state_of []) (range_with_len 0 n)) (sym (length-map c.inputs.result.now input_value) ∙ ap length c.inputs.ensures))
     (c.in_ok-queues.ensures ∙ ap (λ (xs : List Stream). map (queue_of c.queue.result []) xs) c.streams.ensures ∙ ap (λ n. map (queue_of n []) streams) queue)
-    (c.in_ok-progress.ensures.buckets ∙ ap (λ (xs : List Stream). map (empty_bucket c.rate-3.result) xs) c.streams-4.ensures ∙ ap (λ n. map (empty_bucket n) streams) c.rate-3.ensures)
-    (c.in_ok-progress.ensures.clock ∙ ap (λ n. clock_at n 0) c.rate-3.ensures) (c.new-turn.ensures ∙ ap (λ (r : RoundsValue). turn_at (record p { rounds = r }) 0) c.rounds-2.ensures) (ap (λ (o : OutputValue). o.packets) output) in
-    let peaks = peaks_none p at_first c.in_ok-peaks.peaks.items none (c.in_ok-peaks.ensures ∙ ap (λ (xs : List Stream). map no_peak xs) c.streams-3.ensures) in
+    (c.in_ok-progress.ensures.buckets ∙ ap (λ (xs : List Stream). map (empty_bucket c.rate-3.result) xs) c.streams-3.ensures ∙ ap (λ n. map (empty_bucket n) streams) c.rate-3.ensures)
+    (c.in_ok-progress.ensures.clock ∙ ap (λ n. clock_at n 0) c.rate-3.ensures) (c.new-turn.ensures ∙ ap (λ (r : RoundsValue). turn_at (record p { rounds = r }) 0) c.rounds-2.ensures) output in
+    let peaks = peaks_none p at_first c.in_ok-peaks.peaks.items none (c.in_ok-peaks.ensures ∙ ap (λ (xs : List Stream). map no_peak xs) c.streams-2.ensures) in
     let noted = noted_none false _ c.in_ok-inputs.inputs.items c.in_ok-inputs.ensures in
-    let queue_again = c.queue-2.ensures.value ∙ ap (λ (r : RequestValue). r.queue) c.request-3.ensures.value in
-    let places = places_none p at_first taken c.in_ok-places.places.items none (c.in_ok-places.ensures ∙ ap (λ (xs : List Stream). map (no_places c.queue-2.result) xs) c.streams-2.ensures ∙ ap (λ n. map (no_places n) streams) queue_again) in
-    subst P (sym c.plan.view_is) (kept, peaks, noted, places)
+    subst P (sym c.plan.view_is) (kept, peaks, noted)

@@ -1,4 +1,4 @@
-use Rattle.std.proofs.Common.{ℕ, ◌≡◌, ◌%◌, ◌<◌, List, length, get_or, reverse, sym, ap, ◌∙◌, subst, arith}
+use Rattle.std.proofs.Common.{ℕ, ◌≡◌, ◌%◌, ◌<◌, List, length, get_or, sym, ap, ◌∙◌, subst, arith}
 use Rattle.rounds.specs.declared.table_place.TablePlace.{TablePlace}
 use Rattle.rounds.specs.Rounds.{IsPlace}
 use Rattle.emission.proofs.PlanFacts.{plan_facts}
@@ -6,7 +6,6 @@ use Rattle.tspkt.specs.Packet.{null_packet}
 use Rattle.tspkt.specs.Counted.{with_counter}
 use Rattle.output_tables.specs.TableSet.{fast_packets, slow_packets}
 use Rattle.emission.specs.Emission.{of_pid, table_packet_at, counted_behind}
-use Rattle.mux.specs.Stored.{history_of}
 use Rattle.std.proofs.lemmas.List.{get_or_default}
 use Rattle.mux.specs.History.{History, emitted}
 use Rattle.mux.proofs.mux.Mux.table_packet.Goals.{in-Fast, in-Slow}
@@ -33,7 +32,7 @@ bounds-slow_packets-k c =
 pub returns : goal.returns
 returns c =
     let p = c.self.inside.plan in
-    let h = history_of p.request.streams (reverse c.self.inside.stored.items) (reverse c.self.inside.output.taken) in
+    let h = c.self.inside.past in
     let k = c.self.invariant.0.agrees.plan in
     let facts = plan_facts p k.request k.tables in
     let R : History → Type 0 = λ x. IsPlace x.run.plan.rounds c.args.place in
@@ -50,9 +49,9 @@ returns c =
           w.packet-is ∙ w.index-slow_packets-k.is ∙ ap (λ (xs : List (List ℕ)). get_or xs w.in-Slow.k w.index-slow_packets-k.result) w.slow_packets.ensures
           ∙ get_or_default (slow_packets p.tables) w.in-Slow.k w.index-slow_packets-k.result null_packet (omega (arith, facts.basics.slow_len)) ∙ ap (table_packet_at p.tables) (sym w.in-Slow.is))
     ] in
-    let out : c.self.inside.output.packets ≡ emitted p h = c.self.invariant.0.packets_are in
+    let out : c.self.inside.output ≡ emitted p h = c.self.invariant.0.packets_are in
     c.with_counter.ensures.value
-    ∙ ap (with_counter c.match-place.packet) (c.counter.ensures.value ∙ ap (λ n. length (of_pid n c.self.inside.output.packets) % 16) c.pid.ensures.value)
-    ∙ ap (counted_behind c.self.inside.output.packets) packet
+    ∙ ap (with_counter c.match-place.packet) (c.counter.ensures.value ∙ ap (λ n. length (of_pid n c.self.inside.output) % 16) c.pid.ensures.value)
+    ∙ ap (counted_behind c.self.inside.output) packet
     ∙ ap (λ xs. counted_behind xs (table_packet_at p.tables c.args.place)) out
     ∙ ap (λ (x : History). counted_behind (emitted x.run.plan x.events) (table_packet_at x.run.plan.tables c.args.place)) c.self.view_is

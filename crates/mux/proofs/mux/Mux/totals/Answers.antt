@@ -1,7 +1,6 @@
-use Rattle.std.proofs.Common.{◌-◌, ap, arith, length, reverse, subst}
+use Rattle.std.proofs.Common.{◌-◌, ap, arith, length, subst}
 use Rattle.mux.specs.declared.input_state.InputState.{InputState}
 use Rattle.mux.specs.History.{History}
-use Rattle.mux.specs.Stored.{history_of}
 use Rattle.mux.specs.Totals.{IsTotals}
 use Rattle.mux.proofs.Counting.{taken_is_sent_and_queued}
 use Rattle.mux.proofs.Steps.{length_states, state_at}
@@ -18,7 +17,7 @@ overflow_sub-result c =
     let v = ap (λ (h : History). length h.run.plan.request.inputs) c.self.view_is in
     let k = c.self.invariant.0.agrees in
     let is = state_at k c.args.input c.index-state.result.now (omega arith) c.index-state.ensures in
-    let h = history_of c.self.inside.plan.request.streams (reverse c.self.inside.stored.items) (reverse c.self.inside.output.taken) in
+    let h = c.self.inside.past in
     omega (arith, taken_is_sent_and_queued c.self.inside.plan c.args.input h k.plan k.lawful, ap (λ (x : InputState). x.taken) is, ap (λ (x : InputState). x.sent) is)
 
 pub returns : goal.returns
@@ -26,7 +25,7 @@ returns c =
     let v = ap (λ (h : History). length h.run.plan.request.inputs) c.self.view_is in
     let k = c.self.invariant.0.agrees in
     let is = state_at k c.args.input c.index-state.result.now (omega arith) c.index-state.ensures in
-    let h = history_of c.self.inside.plan.request.streams (reverse c.self.inside.stored.items) (reverse c.self.inside.output.taken) in
+    let h = c.self.inside.past in
     let whole = taken_is_sent_and_queued c.self.inside.plan c.args.input h k.plan k.lawful in
     let t = ap (λ (x : InputState). x.taken) is in
     let s = ap (λ (x : InputState). x.sent) is in
