@@ -10,6 +10,7 @@ pub mod TableIdLaws
 pub mod GapsLaws
 pub mod ProgramsLaws
 pub mod PmtLaws
+pub mod UnreadLaws
 pub mod PmtWatchLaws
 pub mod PmtWatchesLaws
 pub mod WatchedLaws

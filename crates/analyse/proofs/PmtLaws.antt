@@ -8,7 +8,8 @@ use Rattle.std.proofs.lemmas.List.Elements.{filter_map-append}
 use Rattle.section.specs.declared.told.Told.{Told}
 use Rattle.tables.specs.Pmt.{PmtValue, pmt_of}
 use Rattle.tables.specs.OnPid.{section_in, value_of}
-use Rattle.analyse.specs.PmtWatching.{PmtPids, pids_kept, without, elementary_pids, newest_of, KeepsNewest, pmt_in, pmts_in}
+use Rattle.analyse.specs.PmtWatching.{PmtPids, pids_kept, without, elementary_pids, newest_of, KeepsNewest}
+use Rattle.analyse.specs.ToldPmts.{pmt_in, pmts_in}
 
 pub on_from_not : (b : Bool) → not b ≡ false → b ≡ true
 on_from_not true e = refl

@@ -9,8 +9,10 @@ use Rattle.tspkt.specs.Packet.{pid_of, transport_scrambling_control_of}
 use Rattle.tables.specs.OnPid.{packets_on}
 use Rattle.analyse.specs.Slots.{packets_in, is_packet}
 use Rattle.analyse.specs.Faults.{grew_at, pmt_count}
-use Rattle.analyse.specs.SectionWatching.{is_on}
-use Rattle.analyse.specs.PmtWatching.{PmtState, PmtPids, boxed_state, state_of, pids_kept, pids_of_program, HasSeenPidPmts, HaveSeenPmts}
+use Rattle.section.specs.Assembled.{fresh}
+use Rattle.analyse.specs.SectionWatching.{is_on, state_behind}
+use Rattle.analyse.specs.PmtAssembling.{StandsFor}
+use Rattle.analyse.specs.PmtWatching.{PmtState, PmtPids, boxed_state, state_of, pids_kept, pids_of_program, HasSeenPmts, HaveSeenPmts}
 use Rattle.analyse.proofs.SlotLaws.{packets_more, packets_same}
 use Rattle.analyse.proofs.PmtLaws.{no_newest}
 use Rattle.analyse.proofs.PatWatchLaws.{grew_last}
@@ -25,17 +27,11 @@ none_read : (pid : ℕ) (slots : List (List ℕ)) (x : List ℕ) → is_packet x
 none_read pid slots x h = ap (packets_on pid) (packets_same slots x h)
 
 module _ (pid : ℕ) (slots : List (List ℕ)) (x : List ℕ) (same : packets_on pid (packets_in (slots ++ x ∷ [])) ≡ packets_on pid (packets_in slots)) where
-  stays : (w : Option PmtState) → HasSeenPidPmts pid w slots → HasSeenPidPmts pid w (slots ++ x ∷ [])
-  stays w s =
-      let e : packets_on (state_of pid w).sections.pid (packets_in (slots ++ x ∷ [])) ≡ packets_on (state_of pid w).sections.pid (packets_in slots) =
-      ap (λ (k : ℕ). packets_on k (packets_in (slots ++ x ∷ []))) s.pid_is ∙ same ∙ ap (λ (k : ℕ). packets_on k (packets_in slots)) (sym s.pid_is) in
-      record {
-        pid_is = s.pid_is;
-        seen = record {
-          sections = record { assembler = rw e s.seen.sections.assembler };
-          newest = rw e s.seen.newest;
-        };
-      }
+  stays : (w : PmtState) → HasSeenPmts pid w slots → HasSeenPmts pid w (slots ++ x ∷ [])
+  stays w s = record {
+    sections = subst (λ (packets : List (List ℕ)). StandsFor w.assembly (state_behind fresh packets)) (sym same) s.sections;
+    newest = rw same s.newest;
+  }
 
   no_growth : grew_at (pmt_count pid) (slots ++ x ∷ []) (length slots + 1) ≡ false
   no_growth =
@@ -45,7 +41,7 @@ module _ (pid : ℕ) (slots : List (List ℕ)) (x : List ℕ) (same : packets_on
       grew_last (pmt_count pid) slots x ∙ ap (λ (k : ℕ). not (k == n)) e ∙ ap not t
 
 pub none_stays : (ws : List (Option PmtState)) (slots : List (List ℕ)) (x : List ℕ) → is_packet x ≡ false → HaveSeenPmts ws slots → HaveSeenPmts ws (slots ++ x ∷ [])
-none_stays ws slots x h s = record { pids = λ pid. stays pid slots x (none_read pid slots x h) (get_or ws pid None) (s.pids pid) }
+none_stays ws slots x h s = record { pids = λ pid. stays pid slots x (none_read pid slots x h) (state_of (get_or ws pid None)) (s.pids pid) }
 
 pub none_grows : (slots : List (List ℕ)) (x : List ℕ) (pid : ℕ) → is_packet x ≡ false → grew_at (pmt_count pid) (slots ++ x ∷ []) (length slots + 1) ≡ false
 none_grows slots x pid h = no_growth pid slots x (none_read pid slots x h)
@@ -57,14 +53,17 @@ other_off : (pid : ℕ) (x : List ℕ) → pid_of x ≢ pid → is_on pid x ≡ 
 other_off pid x e = grind (arith, nat_tests)
 
 pub scrambled_stays : (ws : List (Option PmtState)) (slots : List (List ℕ)) (x : List ℕ) → is_packet x ≡ true → transport_scrambling_control_of x ≢ 0 → HaveSeenPmts ws slots → HaveSeenPmts ws (slots ++ x ∷ [])
-scrambled_stays ws slots x h e s = record { pids = λ pid. stays pid slots x (unread pid slots x h (scrambled_off pid x e)) (get_or ws pid None) (s.pids pid) }
+scrambled_stays ws slots x h e s = record { pids = λ pid. stays pid slots x (unread pid slots x h (scrambled_off pid x e)) (state_of (get_or ws pid None)) (s.pids pid) }
 
 pub scrambled_grows : (slots : List (List ℕ)) (x : List ℕ) (pid : ℕ) → is_packet x ≡ true → transport_scrambling_control_of x ≢ 0 → grew_at (pmt_count pid) (slots ++ x ∷ []) (length slots + 1) ≡ false
 scrambled_grows slots x pid h e = no_growth pid slots x (unread pid slots x h (scrambled_off pid x e))
 
 -- ---- the packet of a PID
 
-pub watch_seen : (ws : List (Option PmtState)) (place : ℕ) (new : Option PmtState) (slots : List (List ℕ)) (x : List ℕ) → place < length ws → is_packet x ≡ true → pid_of x ≡ place → (HasSeenPidPmts place (get_or ws place None) slots → HasSeenPidPmts place new (slots ++ x ∷ [])) → HaveSeenPmts ws slots → HaveSeenPmts (set ws place new) (slots ++ x ∷ [])
+pub clear_on : (pid : ℕ) (x : List ℕ) → pid_of x ≡ pid → transport_scrambling_control_of x ≡ 0 → is_on pid x ≡ true
+clear_on pid x p e = grind (arith, nat_tests)
+
+pub watch_seen : (ws : List (Option PmtState)) (place : ℕ) (new : Option PmtState) (slots : List (List ℕ)) (x : List ℕ) → place < length ws → is_packet x ≡ true → pid_of x ≡ place → (HasSeenPmts place (state_of (get_or ws place None)) slots → HasSeenPmts place (state_of new) (slots ++ x ∷ [])) → HaveSeenPmts ws slots → HaveSeenPmts (set ws place new) (slots ++ x ∷ [])
 watch_seen ws place new slots x small h e one s = record {
   pids = λ pid.
       ⊎_elim
@@ -73,7 +72,7 @@ watch_seen ws place new slots x small h e one s = record {
       rw (now, same) (one (s.pids place)))
       (λ (differ : pid ≢ place).
       let kept : get_or (set ws place new) pid None ≡ get_or ws pid None = get_or-set_other ws place pid new None differ in
-      rw kept (stays pid slots x (unread pid slots x h (other_off pid x (λ q. differ (sym q ∙ e)))) (get_or ws pid None) (s.pids pid)))
+      rw kept (stays pid slots x (unread pid slots x h (other_off pid x (λ q. differ (sym q ∙ e)))) (state_of (get_or ws pid None)) (s.pids pid)))
       (cases_eq pid place);
 }
 
@@ -96,14 +95,14 @@ watch_came place pid slots x came h e c =
     and_not true b t = sym t
     and_not false b t = refl
 
-pub watch_same : (ws : List (Option PmtState)) (place : ℕ) (new : Option PmtState) (pid program : ℕ) → place < length ws → (state_of place new).newest ≡ (state_of place (get_or ws place None)).newest → pids_of_program (set ws place new) pid program ≡ pids_of_program ws pid program
+pub watch_same : (ws : List (Option PmtState)) (place : ℕ) (new : Option PmtState) (pid program : ℕ) → place < length ws → (state_of new).newest ≡ (state_of (get_or ws place None)).newest → pids_of_program (set ws place new) pid program ≡ pids_of_program ws pid program
 watch_same ws place new pid program small e =
     ⊎_elim
     (λ (same : pid ≡ place).
     let now : get_or (set ws place new) pid None ≡ new = ap (λ (k : ℕ). get_or (set ws place new) k None) same ∙ get_or-set_same ws place new None small in
     rw (now, same) (ap (λ (l : List PmtPids). pids_kept l program) e))
     (λ (differ : pid ≢ place).
-    ap (λ (o : Option PmtState). pids_kept (state_of pid o).newest program) (get_or-set_other ws place pid new None differ))
+    ap (λ (o : Option PmtState). pids_kept (state_of o).newest program) (get_or-set_other ws place pid new None differ))
     (cases_eq pid place)
 
 -- ---- no slot yet
@@ -116,6 +115,6 @@ none_at (suc n) (suc pid) = none_at n pid
 pub none_seen : (n : ℕ) → HaveSeenPmts (map boxed_state (replicate n None)) []
 none_seen n = record {
   pids = λ pid.
-      subst (λ (o : Option PmtState). HasSeenPidPmts pid o []) (sym (none_at n pid))
-      (record { pid_is = refl; seen = record { sections = record { assembler = refl }; newest = no_newest } });
+      subst (λ (o : Option PmtState). HasSeenPmts pid (state_of o) []) (sym (none_at n pid))
+      (record { sections = record { begun = refl; last = refl }; newest = no_newest });
 }

@@ -46,7 +46,7 @@ listed_row : (pmts : List (Option PmtState)) (slots : List (List ℕ)) (pid prog
 listed_row pmts slots pid program None s = refl
 listed_row pmts slots pid program (Some r) s =
     let one = s.pids r.pid in
-    ap (is_listed pid) (one.seen.newest.pids program ∙ ap (λ (k : ℕ). option_map (λ (v : PmtValue). elementary_pids v.rows) (newest_pmt_on slots k program)) one.pid_is)
+    ap (is_listed pid) (one.newest.pids program)
     ∙ listed_pmt pid (newest_pmt_on slots r.pid program)
 
 any_same : {X : Type 0} (s t : X → Bool) (xs : List X) → ((x : X) → s x ≡ t x) → list_any s xs ≡ list_any t xs

@@ -11,6 +11,9 @@ pub mod SectionWatching
 pub mod PatWatching
 pub mod GapsWatching
 pub mod ProgramsWatching
+pub mod ToldPmts
+pub mod UnreadSections
+pub mod PmtAssembling
 pub mod PmtWatching
 pub mod WatchedPids
 pub mod TablesWatching

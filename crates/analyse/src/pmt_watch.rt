@@ -1,10 +1,10 @@
 //! The watch of the PMTs of one PID.
 
 ghost use Rattle.std.specs.Prelude.{◌≡◌, IfOk};
-ghost use Rattle.analyse.specs.PmtWatching.{pmt_in};
+ghost use Rattle.analyse.specs.ToldPmts.{pmt_in};
 
 use crate::newest_pmts::NewestPmts;
-use crate::section_watch::SectionWatch;
+use crate::pmt_assembly::PmtAssembly;
 use crate::table_seen::TableSeen;
 use section::Told;
 use std::alloc::{AllocError, Global};
@@ -26,11 +26,11 @@ fn read_pmt(alloc: Global, told: &Told) -> Result<Option<Pmt>, AllocError>
     }
 }
 
-/// Makes the sections of one PID, and keeps what its newest PMTs say.
+/// Makes the PMTs of one PID out of its packets that aren't scrambled, and keeps what its newest PMTs say.
 #[derive(Drop)]
 pub struct PmtWatch {
     alloc: Global,
-    sections: SectionWatch,
+    assembly: PmtAssembly,
     newest: NewestPmts,
 }
 
@@ -39,24 +39,26 @@ impl Model for PmtWatch {
 
     ghost Value = { PmtState };
 
-    ghost view = { λ w. record { sections = w.sections; newest = w.newest } };
+    ghost view = { λ w. record { assembly = w.assembly; newest = w.newest } };
 }
 
 impl PmtWatch {
-    ghost use Rattle.std.specs.Prelude.{◌≡◌, ◌∷◌, ◌++◌, [], ◌+◌, ℕ, List, length, Some, false, IfOk, OnOk, option_map, option_to_list};
+    ghost use Rattle.std.specs.Prelude.{◌≡◌, ◌∷◌, ◌++◌, [], ◌+◌, ℕ, List, length, Some, true, false, IfOk, OnOk, option_map, option_to_list};
     ghost use Rattle.std.specs.List.{list_any};
     ghost use Rattle.tables.specs.Pmt.{PmtValue};
     ghost use Rattle.analyse.specs.SlotReading.{IsReadAs};
     ghost use Rattle.analyse.specs.Faults.{grew_at, pmt_count};
-    ghost use Rattle.analyse.specs.PmtWatching.{new_pmt_watch, pmt_in, pmts_in, is_pmt_in, pids_kept, KeepsNewest, HasSeenPmts};
+    ghost use Rattle.analyse.specs.SectionWatching.{is_on};
+    ghost use Rattle.analyse.specs.ToldPmts.{pmt_in, pmts_in, is_pmt_in};
+    ghost use Rattle.analyse.specs.PmtWatching.{new_pmt_watch, pids_kept, KeepsNewest, HasSeenPmts};
 
-    /// A watch of this PID that has seen no packet.
-    pub fn new(alloc: Global, pid: u16) -> PmtWatch
-        ensures { result ≡ new_pmt_watch pid }
+    /// A watch that has seen no packet.
+    pub fn new(alloc: Global) -> PmtWatch
+        ensures { result ≡ new_pmt_watch }
     {
         PmtWatch {
             alloc,
-            sections: SectionWatch::new(pid),
+            assembly: PmtAssembly::Between,
             newest: NewestPmts::new(alloc),
         }
     }
@@ -68,24 +70,25 @@ impl PmtWatch {
         self.newest.pids(program)
     }
 
-    /// Sees the next slot's packet, of whatever PID. `told` is room for its sections. An `Err` is want of memory.
+    /// Sees the next slot's packet, which is of the PID and not scrambled. `told` is room for its sections. An `Err` is want
+    /// of memory.
     pub fn push(&mut self, packet: &Packet, told: &mut Vec<Told>) -> Result<TableSeen, AllocError>
-        ensures pid { self.new.sections.pid ≡ self.old.sections.pid }
         ensures changed { IfOk result (λ seen. seen.changed ≡ false → self.new.newest ≡ self.old.newest) }
-        ensures seen { OnOk result ((slots : List (List ℕ)) (slot : List ℕ) → HasSeenPmts self.old slots
-            → IsReadAs slot (Some packet.now) → HasSeenPmts self.new (slots ++ slot ∷ [])) }
-        ensures came { IfOk result (λ seen. (slots : List (List ℕ)) (slot : List ℕ) → HasSeenPmts self.old slots
-            → IsReadAs slot (Some packet.now)
-            → seen.came ≡ grew_at (pmt_count self.old.sections.pid) (slots ++ slot ∷ []) (length slots + 1)) }
+        ensures seen { OnOk result ((slots : List (List ℕ)) (slot : List ℕ) (pid : ℕ) → HasSeenPmts pid self.old slots
+            → IsReadAs slot (Some packet.now) → is_on pid packet.now ≡ true
+            → HasSeenPmts pid self.new (slots ++ slot ∷ [])) }
+        ensures came { IfOk result (λ seen. (slots : List (List ℕ)) (slot : List ℕ) (pid : ℕ)
+            → HasSeenPmts pid self.old slots → IsReadAs slot (Some packet.now) → is_on pid packet.now ≡ true
+            → seen.came ≡ grew_at (pmt_count pid) (slots ++ slot ∷ []) (length slots + 1)) }
     {
-        self.sections.see(Some(packet), told)?;
+        self.assembly.push(self.alloc, packet, told)?;
         let seen = self.push_all(told)?;
         Ok(seen)
     }
 
     /// Takes the PMTs among what was told.
     fn push_all(&mut self, told: &[Told]) -> Result<TableSeen, AllocError>
-        ensures sections { self.new.sections ≡ self.old.sections }
+        ensures assembly { self.new.assembly ≡ self.old.assembly }
         ensures came { IfOk result (λ seen. seen.came ≡ list_any is_pmt_in told.now) }
         ensures changed { IfOk result (λ seen. seen.changed ≡ false → self.new.newest ≡ self.old.newest) }
         ensures newest { OnOk result ((pmts : List PmtValue) → KeepsNewest self.old.newest pmts
@@ -107,7 +110,7 @@ impl PmtWatch {
 
     /// Takes what was told, where it is a PMT.
     fn push_one(&mut self, told: &Told) -> Result<TableSeen, AllocError>
-        ensures sections { self.new.sections ≡ self.old.sections }
+        ensures assembly { self.new.assembly ≡ self.old.assembly }
         ensures came { IfOk result (λ seen. seen.came ≡ is_pmt_in told.now) }
         ensures changed { IfOk result (λ seen. seen.changed ≡ false → self.new.newest ≡ self.old.newest) }
         ensures newest { OnOk result ((pmts : List PmtValue) → KeepsNewest self.old.newest pmts

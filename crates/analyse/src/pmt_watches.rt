@@ -1,10 +1,10 @@
 //! The watches of the PMTs of all PIDs.
 
-ghost use Rattle.std.specs.Prelude.{◌≡◌, ◌∷◌, ◌++◌, [], ◌+◌, ℕ, List, length, Some, false, IfOk, OnOk};
+ghost use Rattle.std.specs.Prelude.{◌≡◌, ◌∷◌, ◌++◌, [], ◌+◌, ℕ, List, length, Some, true, false, IfOk, OnOk};
 ghost use Rattle.analyse.specs.SlotReading.{IsReadAs};
 ghost use Rattle.analyse.specs.Faults.{grew_at, pmt_count};
-ghost use Rattle.tspkt.specs.Packet.{pid_of};
-ghost use Rattle.analyse.specs.PmtWatching.{HasSeenPidPmts, new_pmt_watch, state_of, boxed_state};
+ghost use Rattle.analyse.specs.SectionWatching.{is_on};
+ghost use Rattle.analyse.specs.PmtWatching.{HasSeenPmts, new_pmt_watch, state_of, boxed_state};
 
 use crate::pmt_watch::PmtWatch;
 use crate::table_seen::TableSeen;
@@ -16,35 +16,35 @@ use tspkt::Packet;
 /// PIDs are below this.
 const PID_COUNT: usize = 8192;
 
-/// A watch of this PID that has seen no packet. It is large, and made here so that no other call keeps room for it. An
-/// `Err` is want of memory.
-fn boxed_watch(alloc: Global, pid: u16) -> Result<Box<PmtWatch>, AllocError>
-    ensures { IfOk result (λ w. w.value ≡ new_pmt_watch pid) }
+/// A watch that has seen no packet. An `Err` is want of memory.
+fn boxed_watch(alloc: Global) -> Result<Box<PmtWatch>, AllocError>
+    ensures { IfOk result (λ w. w.value ≡ new_pmt_watch) }
 {
-    Ok(Box::new(alloc, PmtWatch::new(alloc, pid))?)
+    Ok(Box::new(alloc, PmtWatch::new(alloc))?)
 }
 
-/// Sees the next packet of a PID. The first one makes the PID's watch.
+/// Sees the next packet of a PID, which isn't scrambled. The first one makes the PID's watch.
 fn see_packet(
     alloc: Global,
     watch: &mut Option<Box<PmtWatch>>,
     packet: &Packet,
     told: &mut Vec<Told>,
 ) -> Result<TableSeen, AllocError>
-    ensures changed { IfOk result (λ seen. (pid : ℕ) → seen.changed ≡ false
-        → (state_of pid (boxed_state watch.new)).newest ≡ (state_of pid (boxed_state watch.old)).newest) }
-    ensures seen { OnOk result ((slots : List (List ℕ)) (slot : List ℕ) (pid : ℕ) → pid_of packet.now ≡ pid
-        → HasSeenPidPmts pid (boxed_state watch.old) slots
-        → IsReadAs slot (Some packet.now) → HasSeenPidPmts pid (boxed_state watch.new) (slots ++ slot ∷ [])) }
-    ensures came { IfOk result (λ seen. (slots : List (List ℕ)) (slot : List ℕ) (pid : ℕ) → pid_of packet.now ≡ pid
-        → HasSeenPidPmts pid (boxed_state watch.old) slots
-        → IsReadAs slot (Some packet.now)
+    ensures changed { IfOk result (λ seen. seen.changed ≡ false
+        → (state_of (boxed_state watch.new)).newest ≡ (state_of (boxed_state watch.old)).newest) }
+    ensures seen { OnOk result ((slots : List (List ℕ)) (slot : List ℕ) (pid : ℕ)
+        → HasSeenPmts pid (state_of (boxed_state watch.old)) slots
+        → IsReadAs slot (Some packet.now) → is_on pid packet.now ≡ true
+        → HasSeenPmts pid (state_of (boxed_state watch.new)) (slots ++ slot ∷ [])) }
+    ensures came { IfOk result (λ seen. (slots : List (List ℕ)) (slot : List ℕ) (pid : ℕ)
+        → HasSeenPmts pid (state_of (boxed_state watch.old)) slots
+        → IsReadAs slot (Some packet.now) → is_on pid packet.now ≡ true
         → seen.came ≡ grew_at (pmt_count pid) (slots ++ slot ∷ []) (length slots + 1)) }
 {
     match watch {
         Some(watch) => watch.push(packet, told),
         None => {
-            let mut first = boxed_watch(alloc, packet.pid())?;
+            let mut first = boxed_watch(alloc)?;
             let seen = first.push(packet, told)?;
             *watch = Some(first);
             Ok(seen)

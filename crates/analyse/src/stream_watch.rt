@@ -105,19 +105,8 @@ impl StreamWatch {
         })
     }
 
-    /// Sees the next slot, and tells its faults behind those of `out`. An `Err` is want of memory, or a stream of
-    /// 2^64 - 1 slots.
-    pub fn push(&mut self, slot: &[u8; 188], out: &mut Vec<Fault>) -> Result<(), AllocError>
-        ensures seen { OnOk result ((rate period : ℕ) (slots : List (List ℕ)) → HaveSeenStream rate period self.old slots
-            → HaveSeenStream rate period self.new (slots ++ slot.now ∷ [])) }
-        ensures told { OnOk result ((rate period : ℕ) (slots : List (List ℕ)) → HaveSeenStream rate period self.old slots
-            → out.new.items ≡ out.old.items ++ faults_at rate period (slots ++ slot.now ∷ []) (length slots)) }
-    {
-        let packet = read_slot(slot);
-        self.see(slot, packet.as_ref(), out)
-    }
-
-    /// The same of a slot that is read as this packet, or as none.
+    /// Sees the next slot, which is read as this packet, or as none, and tells its faults behind those of `out`. An `Err` is
+    /// want of memory, or a stream of 2^64 - 1 slots.
     pub(crate) fn see(
         &mut self,
         slot: &[u8; 188],

@@ -83,7 +83,7 @@ stuffing_none (suc n) zero = sections_nil
 stuffing_none (suc n) (suc m) = sections_stuffing 255 (take n (replicate m 255)) refl
 
 -- ---- the packets behind the first
-payload_ending : (begun payload : List ℕ) → payload_told begun false payload ≡ ending begun payload
+pub payload_ending : (begun payload : List ℕ) → payload_told begun false payload ≡ ending begun payload
 unfolding payload_told
 payload_ending begun payload = refl
 

@@ -351,11 +351,11 @@ all_from Q s p packets x e h k =
     let P : Step → Type 0 = λ y. All Q (y.told ++ assembled_from y.state packets) in
     subst P (sym e) (All-append Q x.told (assembled_from x.state packets) h k)
 
-and_left : (a b : Bool) → (a && b) ≡ true → a ≡ true
+pub and_left : (a b : Bool) → (a && b) ≡ true → a ≡ true
 and_left true b h = refl
 and_left false b h = h
 
-and_right : (a b : Bool) → (a && b) ≡ true → b ≡ true
+pub and_right : (a b : Bool) → (a && b) ≡ true → b ≡ true
 and_right true b h = h
 and_right false b h = absurd (false≢true h)
 

@@ -54,7 +54,7 @@ impl Model for Assembler {
 }
 
 impl Assembler {
-    ghost use Rattle.std.specs.Prelude.{◌≡◌, ◌+◌, ◌<◌, ◌++◌, OnOk, OnErr, vec_len, vec_capacity};
+    ghost use Rattle.std.specs.Prelude.{◌≡◌, ◌+◌, ◌<◌, ◌==◌, ◌++◌, not, length, OnOk, OnErr, vec_len, vec_capacity};
     ghost use Rattle.section.specs.Assembled.{fresh, packet_told};
 
     /// An assembler that has seen no packet.
@@ -66,6 +66,13 @@ impl Assembler {
             last: None,
             skipped: false,
         }
+    }
+
+    /// Whether a section was begun whose end has yet to come.
+    pub fn has_begun(&self) -> bool
+        ensures { result ≡ not (length self.now.begun == 0) }
+    {
+        !self.begun.is_empty()
     }
 
     /// Reads the next packet of the PID, and appends what it tells to `out`.

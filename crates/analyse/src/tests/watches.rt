@@ -1,6 +1,8 @@
 //! Each watch by itself.
 
-use crate::{CounterWatch, GapWatch, SyncSeen, SyncWatch};
+use crate::counter_watch::CounterWatch;
+use crate::gap_watch::GapWatch;
+use crate::sync_watch::{SyncSeen, SyncWatch};
 use std::process::Abort;
 use tspkt::{Packet, null};
 

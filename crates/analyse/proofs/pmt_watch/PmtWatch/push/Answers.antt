@@ -1,27 +1,38 @@
-use Rattle.std.proofs.Common.{List, [], ◌∷◌, ◌++◌, length, ◌+◌, ap, sym, subst, ◌∙◌}
+use Rattle.std.proofs.Common.{◌≡◌, ℕ, List, [], ◌∷◌, ◌++◌, ap, sym, subst, ◌∙◌}
 use Rattle.std.specs.List.{list_any}
+use Rattle.section.specs.Assembled.{AssemblerState, packet_told}
 use Rattle.section.specs.declared.told.Told.{Told}
+use Rattle.tables.specs.OnPid.{pmts_on}
+use Rattle.analyse.specs.declared.pmt_assembly.PmtAssembly.{PmtAssembly}
 use Rattle.analyse.specs.Slots.{packets_in}
-use Rattle.analyse.specs.Faults.{grew_at, pmt_count}
-use Rattle.analyse.specs.SectionWatching.{SectionState, HasSeenOnPid}
-use Rattle.analyse.specs.PmtWatching.{PmtState, HasSeenPmts, KeepsNewest, is_pmt_in, pmts_in}
-use Rattle.analyse.proofs.PmtWatchLaws.{came_last, seen_pmts}
+use Rattle.analyse.specs.SectionWatching.{is_on}
+use Rattle.analyse.specs.ToldPmts.{is_pmt_in, pmts_in}
+use Rattle.analyse.specs.PmtAssembling.{StandsFor}
+use Rattle.analyse.specs.PmtWatching.{PmtState, HasSeenPmts, KeepsNewest, assembler_behind}
+use Rattle.analyse.proofs.PmtWatchLaws.{assembler_more, pmts_more, came_last}
 use Rattle.analyse.proofs.pmt_watch.PmtWatch.push.Goals as goal
 
 pub returns-clause-seen : goal.returns-clause-seen
-returns-clause-seen c slots slot s r =
-    let t = subst (λ (w : PmtState). HasSeenPmts w slots) (sym c.self.view_is) s in
-    let sections = c.in_ok-seen.ensures.sections in
-    seen_pmts (record { sections = c.self.inside.sections; newest = c.self.inside.newest }) c.push_all.new.self.sections c.push_all.new.self.newest
-    slots slot c.see.new.told.items t
-    (ap (λ (w : SectionState). w.pid) sections ∙ c.in_ok-see.ensures.pid)
-    (subst (λ (w : SectionState). HasSeenOnPid w (packets_in (slots ++ slot ∷ []))) (sym sections) (c.in_ok-see.ensures.seen slots slot t.sections r))
-    (c.in_ok-see.ensures.sections slots slot t.sections r)
-    (λ pmts k. subst (λ (l : List Told). KeepsNewest c.push_all.new.self.newest (pmts ++ pmts_in l)) c.deref.ensures.value (c.in_ok-seen.ensures.newest pmts k))
+returns-clause-seen c slots slot pid s r on =
+    let before = subst (λ (w : PmtState). HasSeenPmts pid w slots) (sym c.self.view_is) s in
+    let here = ap (is_on pid) (sym r.0) ∙ on in
+    let state = assembler_behind pid slots in
+    let told = c.in_ok-push.ensures.told state before.sections ∙ ap (λ (x : List ℕ). pmts_in (packet_told state x).told) r.0 in
+    let after = c.in_ok-push.ensures.seen state before.sections in
+    let more = pmts_more pid slots slot r.1 here c.push.new.told.items told in
+    let newest = c.in_ok-seen.ensures.newest (pmts_on pid (packets_in slots)) before.newest in
+    record {
+      sections = subst (λ (a : PmtAssembly). StandsFor a (assembler_behind pid (slots ++ slot ∷ []))) (sym c.in_ok-seen.ensures.assembly)
+          (subst (λ (t : AssemblerState). StandsFor c.push.new.self t) (ap (λ (x : List ℕ). (packet_told state x).state) r.0 ∙ sym (assembler_more pid slots slot r.1 here)) after);
+      newest = subst (KeepsNewest c.push_all.new.self.newest) (ap (λ (l : List Told). pmts_on pid (packets_in slots) ++ pmts_in l) c.deref.ensures.value ∙ sym more) newest;
+    }
 
 pub returns-clause-came : goal.returns-clause-came
-returns-clause-came c slots slot s r =
-    let t = subst (λ (w : PmtState). HasSeenPmts w slots) (sym c.self.view_is) s in
+returns-clause-came c slots slot pid s r on =
+    let before = subst (λ (w : PmtState). HasSeenPmts pid w slots) (sym c.self.view_is) s in
+    let here = ap (is_on pid) (sym r.0) ∙ on in
+    let state = assembler_behind pid slots in
+    let told = c.in_ok-push.ensures.told state before.sections ∙ ap (λ (x : List ℕ). pmts_in (packet_told state x).told) r.0 in
+    let more = pmts_more pid slots slot r.1 here c.push.new.told.items told in
     c.in_ok-seen.ensures.came ∙ ap (λ (l : List Told). list_any is_pmt_in l) c.deref.ensures.value
-    ∙ came_last c.self.inside.sections.pid slots slot c.see.new.told.items (c.in_ok-see.ensures.sections slots slot t.sections r)
-    ∙ ap (λ (w : PmtState). grew_at (pmt_count w.sections.pid) (slots ++ slot ∷ []) (length slots + 1)) c.self.view_is
+    ∙ came_last pid slots slot c.push.new.told.items more

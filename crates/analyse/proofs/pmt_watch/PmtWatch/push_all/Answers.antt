@@ -1,5 +1,5 @@
 use Rattle.std.proofs.Common.{◌∙◌}
-use Rattle.analyse.specs.PmtWatching.{is_pmt_in}
+use Rattle.analyse.specs.ToldPmts.{is_pmt_in}
 use Rattle.analyse.proofs.ProgramsLaws.{came_more, parts_false}
 use Rattle.analyse.proofs.PmtLaws.{newest_step}
 use Rattle.analyse.proofs.pmt_watch.PmtWatch.push_all.Goals as goal
@@ -10,7 +10,7 @@ loop-item-preserved c =
     let i = c.loop-item.item-index in
     let x = c.item-item.result in
     let one = c.in_ok-one.ensures in (
-      one.sections ∙ c.loop-item.invariant.0,
+      one.assembly ∙ c.loop-item.invariant.0,
       came_more is_pmt_in told i x c.loop-item.seen.came c.in_ok-one.one.came c.loop-item-test.true c.item-item.is c.loop-item.invariant.1 one.came,
       (λ same.
           let parts = parts_false c.loop-item.seen.changed c.in_ok-one.one.changed same in
