@@ -1,6 +1,7 @@
 //! Where a command's files come from.
 
-use serial::{Sink, Source};
+use reading::Source;
+use serial::Sink;
 
 /// Gives readers and writers for names, so that a test can stand in for the system's files.
 pub trait Files {

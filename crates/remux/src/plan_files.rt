@@ -1,17 +1,18 @@
 //! A plan from its file and the files of its inputs.
 
-ghost use Rattle.std.specs.Prelude.{◌≡◌, length, IfOk};
+ghost use Rattle.std.specs.Prelude.{◌≡◌, [], Ok, false, length, IfOk};
 
 use crate::command_fault::CommandFault;
 use crate::files::Files;
 use acquire::{Acquire, Found};
 use plan::Plan;
+use reading::{Source, Stop, StreamReader};
 use request::{PlanFault, Request};
 use selection::seek;
-use serial::Source;
+use serial::INPUT_LIMIT;
 use std::alloc::{AllocError, Global};
 use std::str;
-use tspkt::{FeedFault, Framer, Item, Packet};
+use tspkt::{Item, Packet};
 
 /// How many bytes are read at once.
 const PIECE: usize = 1 << 16;
@@ -48,13 +49,30 @@ fn read_request<F: Files>(
     Ok(Request::read(alloc, text)?)
 }
 
-/// Pushes the packets of these items, until all that is wanted was found.
-fn push_items(acquire: &mut Acquire, items: &[Item]) -> Result<bool, AllocError> {
-    for item in items {
-        if let Item::Packet(_, bytes) = item
-            && let Ok(packet) = Packet::read(bytes)
-            && acquire.push(&packet)?
-        {
+/// Pushes the packet of an item, where it is one, and answers whether all that is wanted was found.
+fn push_item(acquire: &mut Acquire, item: &Item) -> Result<bool, AllocError> {
+    if let Item::Packet(_, bytes) = item
+        && let Ok(packet) = Packet::read(bytes)
+    {
+        return acquire.push(&packet);
+    }
+    Ok(false)
+}
+
+/// Pushes the packets among the items that a stream has told, until all that is wanted was found.
+fn push_told<R: Source>(
+    acquire: &mut Acquire,
+    stream: &mut StreamReader<R>,
+) -> Result<bool, AllocError>
+    ensures none { result ≡ Ok false → stream.new.items.ahead ≡ [] }
+    ensures stays { stream.new ≡ record stream.old {
+      items = record stream.old.items { ahead = stream.new.items.ahead };
+    } }
+{
+    while let Some(item) = stream.peek() {
+        let is_found = push_item(acquire, item)?;
+        stream.pass();
+        if is_found {
             return Ok(true);
         }
     }
@@ -62,31 +80,24 @@ fn push_items(acquire: &mut Acquire, items: &[Item]) -> Result<bool, AllocError>
 }
 
 /// Reads an input until all that is wanted was found or it ends, and answers whether it could be read: it can't where a read
-/// fails, or where it is too long. At its end framing holds no packet back.
-fn read_tables<R: Source>(
+/// fails, or where it is too long.
+fn read_tables<R: Source + Drop>(
     alloc: Global,
     acquire: &mut Acquire,
-    source: &mut R,
+    source: R,
 ) -> Result<bool, AllocError> {
     let mut piece = vec![in alloc; 0; PIECE]?;
-    let mut items = Vec::new(alloc);
-    let mut framer = Framer::new();
-    for _ in 0..u64::MAX {
-        match source.read(piece.as_mut_slice()) {
-            Err(_) => return Ok(false),
-            Ok(0) => return Ok(true),
-            Ok(count) => match framer.feed(&piece[..count], &mut items) {
-                Ok(()) => {}
-                Err(FeedFault::TooMuch) => return Ok(false),
-                Err(FeedFault::Memory) => return Err(AllocError),
-            },
-        }
-        if push_items(acquire, &items)? {
+    let mut stream = StreamReader::new(alloc, source, INPUT_LIMIT);
+    loop {
+        if push_told(acquire, &mut stream)? || stream.is_over() {
             return Ok(true);
         }
-        items.clear();
+        match stream.read(piece.as_mut_slice()) {
+            Ok(()) => {}
+            Err(Stop::Memory) => return Err(AllocError),
+            Err(_) => return Ok(false),
+        }
     }
-    Ok(false)
 }
 
 /// What is found in an input.
@@ -97,11 +108,11 @@ fn find<F: Files>(
     input: usize,
     name: &str,
 ) -> Result<Found, CommandFault> {
-    let Some(mut source) = files.reader(name) else {
+    let Some(source) = files.reader(name) else {
         return Err(CommandFault::file(alloc, name));
     };
     let mut acquire = seek(alloc, request, input)?;
-    if read_tables(alloc, &mut acquire, &mut source)? {
+    if read_tables(alloc, &mut acquire, source)? {
         Ok(acquire.found())
     } else {
         Err(CommandFault::file(alloc, name))

@@ -2,7 +2,8 @@
 
 use mux::Counts;
 use plan::Plan;
-use serial::{InputSummary, Report, Stop, Summary};
+use reading::{Report, Stop};
+use serial::{InputSummary, Summary};
 use std::io;
 use std::io::Write;
 

@@ -4,7 +4,7 @@ ghost use Rattle.std.specs.Prelude.{◌≡◌, ◌≤◌, length, IfSome};
 
 use crate::command_fault::CommandFault;
 use analyse::{Analyser, Fault};
-use serial::Source;
+use reading::Source;
 use std::alloc::{AllocError, Global};
 use std::io::Write;
 

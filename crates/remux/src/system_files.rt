@@ -1,7 +1,8 @@
 //! The files of the system.
 
 use crate::files::Files;
-use serial::{ReadSource, WriteSink};
+use reading::ReadSource;
+use serial::WriteSink;
 use std::fs::File;
 use std::rt;
 

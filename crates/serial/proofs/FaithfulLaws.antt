@@ -16,15 +16,12 @@ use Rattle.mux.specs.declared.event.Event.{Event}
 use Rattle.mux.specs.declared.event.Event.TheVariants.{Took, Full, Close, Slot}
 use Rattle.mux.specs.History.{is_mapped_to, taken, is_closed}
 use Rattle.mux.specs.Faithful.{PacketLists, IsNext, IsFaithful}
-use Rattle.serial.specs.declared.report.Report.{Report}
-use Rattle.serial.specs.declared.report.Stop.{Stop}
 use Rattle.serial.specs.declared.serial_input.SerialInput.{SerialInput}
-use Rattle.serial.specs.Takeable.{OriginValue, takeable}
-use Rattle.serial.specs.Reading.{ReaderValue}
-use Rattle.serial.specs.InputReading.{HasTold, HasLooked, BeginsTakeable, IsDone}
+use Rattle.reading.specs.Takeable.{OriginValue, takeable}
+use Rattle.reading.specs.PacketReading.{BeginsTakeable, IsSpent}
 use Rattle.serial.specs.Feeding.{HasGiven, Feeds, packet_list, packet_lists, AreKnown, AreUnstopped, Holds, IsOfInput}
 use Rattle.serial.specs.Running.{AreFed}
-use Rattle.serial.proofs.InputLaws.{given_begins, released}
+use Rattle.reading.proofs.PacketLaws.{given_begins, held_begins, whole_read}
 use Rattle.serial.proofs.RunningLaws.{set_here, set_there}
 
 -- What an input gave, of a source whose bytes are known.
@@ -38,49 +35,30 @@ consumed_all all None bytes used end = absurd used
 consumed_all all (Some more) bytes used end = sym (used ∙ ap (λ v. bytes ++ v) end ∙ append-nil bytes)
 
 begun_given : {R : Type 0} (remaining : R → Option (List ℕ)) (p : PlanValue) (i : ℕ) (all : List ℕ) (x : SerialInput R) (given : List Stamped)
-    → HasGiven remaining p i (Some all) x given → (later : List Stamped) × (given ++ later ≡ takeable p x.origin (framed 188 all))
+    → HasGiven remaining p i (Some all) x given → (later : List Stamped) × (given ++ later ≡ takeable p x.reader.origin (framed 188 all))
 begun_given remaining p i all x given has =
     let b = has.read in
-    let more = consumed all (remaining x.source) b.0 b.1 in
-    let later = given_begins p x.origin x.reader x.held x.report (IsAtEnd (remaining x.source)) b.0 given b.2.0 b.2.1 more.0 in
-    (later.0, later.1 ∙ ap (λ v. takeable p x.origin (framed 188 v)) (sym more.1))
+    let more = consumed all (remaining x.reader.stream.source) b.0 b.1 in
+    let later = given_begins remaining p x.reader b.0 given b.2 more.0 in
+    (later.0, later.1 ∙ ap (λ v. takeable p x.reader.origin (framed 188 v)) (sym more.1))
 
 -- what is held comes next
-held_begins : (plan : PlanValue) (o : OriginValue) (reader : ReaderValue) (held : Option Stamped) (item : Stamped) (report : Report) (at_end : Type 0) (bytes : List ℕ) (given : List Stamped) (looked : List Item)
-    → held ≡ Some item → HasLooked plan o reader held report at_end bytes given looked → BeginsTakeable plan o bytes (given ++ item ∷ [])
-held_begins plan o reader held item report at_end bytes given looked is has =
-    let P : Option Stamped → Type 0 = λ v. HasLooked plan o reader v report at_end bytes given looked in
-    given_begins plan o reader None report at_end bytes (given ++ item ∷ []) looked (released plan o reader (Some item) report at_end bytes given looked (subst P is has))
-
 next_given : {R : Type 0} (remaining : R → Option (List ℕ)) (p : PlanValue) (i : ℕ) (all : List ℕ) (x : SerialInput R) (given : List Stamped) (item : Stamped)
-    → x.held ≡ Some item → HasGiven remaining p i (Some all) x given → (later : List Stamped) × ((given ++ item ∷ []) ++ later ≡ takeable p x.origin (framed 188 all))
+    → x.reader.held ≡ Some item → HasGiven remaining p i (Some all) x given → (later : List Stamped) × ((given ++ item ∷ []) ++ later ≡ takeable p x.reader.origin (framed 188 all))
 next_given remaining p i all x given item held has =
     let b = has.read in
-    let more = consumed all (remaining x.source) b.0 b.1 in
-    let later = held_begins p x.origin x.reader x.held item x.report (IsAtEnd (remaining x.source)) b.0 given b.2.0 held b.2.1 more.0 in
-    (later.0, later.1 ∙ ap (λ v. takeable p x.origin (framed 188 v)) (sym more.1))
+    let more = consumed all (remaining x.reader.stream.source) b.0 b.1 in
+    let P : Option Stamped → Type 0 = λ o. BeginsTakeable p x.reader.origin b.0 (given ++ option_to_list o) in
+    let later = subst P held (held_begins remaining p x.reader b.0 given b.2) more.0 in
+    (later.0, later.1 ∙ ap (λ v. takeable p x.reader.origin (framed 188 v)) (sym more.1))
 
 -- what was given of an input that ended by itself is all
-all_told : (plan : PlanValue) (o : OriginValue) (framer : Option FramerState) (told : List Item) (bytes : List ℕ) (stopped : Option Stop) (at_end : Type 0)
-    → framer ≡ None → stopped ≡ None → HasTold plan o framer told bytes stopped at_end → (told ≡ framed 188 bytes) × at_end
-all_told plan o None told bytes stopped at_end over goes has = has.ended goes
-all_told plan o (Some f) told bytes stopped at_end over goes has = cc
-
-all_looked : (plan : PlanValue) (o : OriginValue) (reader : ReaderValue) (held : Option Stamped) (report : Report) (at_end : Type 0) (bytes : List ℕ) (given : List Stamped) (looked : List Item)
-    → reader.framer ≡ None → reader.ahead ≡ [] → held ≡ None → report.stopped ≡ None → HasLooked plan o reader held report at_end bytes given looked
-    → (given ≡ takeable plan o (framed 188 bytes)) × at_end
-all_looked plan o reader held report at_end bytes given looked over ahead none goes has =
-    let told = all_told plan o reader.framer (looked ++ reader.ahead) bytes report.stopped at_end over goes has.told in
-    let looked_is : looked ≡ framed 188 bytes = sym (append-nil looked) ∙ ap (λ v. looked ++ v) (sym ahead) ∙ told.0 in
-    let given_is : takeable plan o looked ≡ given = has.given_is ∙ ap (λ v. given ++ option_to_list v) none ∙ append-nil given in
-    (sym given_is ∙ ap (takeable plan o) looked_is, told.1)
-
 all_given : {R : Type 0} (remaining : R → Option (List ℕ)) (p : PlanValue) (i : ℕ) (all : List ℕ) (x : SerialInput R) (given : List Stamped)
-    → IsDone x → x.report.stopped ≡ None → HasGiven remaining p i (Some all) x given → given ≡ takeable p x.origin (framed 188 all)
+    → IsSpent x.reader → x.reader.report.stopped ≡ None → HasGiven remaining p i (Some all) x given → given ≡ takeable p x.reader.origin (framed 188 all)
 all_given remaining p i all x given done goes has =
     let b = has.read in
-    let whole = all_looked p x.origin x.reader x.held x.report (IsAtEnd (remaining x.source)) b.0 given b.2.0 done.framer done.ahead done.held goes b.2.1 in
-    whole.0 ∙ ap (λ v. takeable p x.origin (framed 188 v)) (consumed_all all (remaining x.source) b.0 b.1 whole.1)
+    let whole = whole_read remaining p x.reader b.0 given b.2 done goes in
+    whole.given_is ∙ ap (λ v. takeable p x.reader.origin (framed 188 v)) (consumed_all all (remaining x.reader.stream.source) b.0 b.1 whole.at_end)
 
 -- An event of an input is faithful, where nothing stopped the input behind it.
 
@@ -88,8 +66,8 @@ is_next : (lists : PacketLists) (i : ℕ) (h : List Event) (item : Stamped) (lat
 is_next lists i h item later e = (later, sym e ∙ append_assoc (taken i h) (item ∷ []) later)
 
 faithful_event : {R : Type 0} (remaining : R → Option (List ℕ)) (p : PlanValue) (h : List Event) (e : Event) (i : ℕ) (all : List ℕ) (x : SerialInput R) (lists : PacketLists)
-    → IsOfInput i e → ((st : Stream) → e ≡ Full i st → Holds i st x) → Feeds remaining p (e ∷ h) i (Some all) x → x.report.stopped ≡ None
-    → lists i ≡ takeable p x.origin (framed 188 all) → IsFaithful lists h → IsFaithful lists (e ∷ h)
+    → IsOfInput i e → ((st : Stream) → e ≡ Full i st → Holds i st x) → Feeds remaining p (e ∷ h) i (Some all) x → x.reader.report.stopped ≡ None
+    → lists i ≡ takeable p x.reader.origin (framed 188 all) → IsFaithful lists h → IsFaithful lists (e ∷ h)
 faithful_event remaining p h (Took j item) i all x lists is noted feeds goes list before =
     let F : ℕ → Type 0 = λ k. Feeds remaining p (Took k item ∷ h) i (Some all) x in
     let N : ℕ → Type 0 = λ k. IsNext lists k h item in
@@ -115,7 +93,7 @@ known None h = let bad : false ≡ true = h in cc
 known (Some all) h = (all, refl)
 
 list_is : {R : Type 0} (remaining : R → Option (List ℕ)) (p : PlanValue) (h : List Event) (starts : List (Option (List ℕ))) (i : ℕ) (start : Option (List ℕ)) (x : SerialInput R) (all : List ℕ)
-    → slice_get starts i ≡ Some start → start ≡ Some all → Feeds remaining p h i start x → packet_lists p starts i ≡ takeable p x.origin (framed 188 all)
+    → slice_get starts i ≡ Some start → start ≡ Some all → Feeds remaining p h i start x → packet_lists p starts i ≡ takeable p x.reader.origin (framed 188 all)
 list_is remaining p h starts i start x all at start_is feeds =
     let o = feeds.given.origin in
     ap (λ v. packet_list p i v (slice_get starts i)) o.1
@@ -133,13 +111,13 @@ faithful_on remaining p h e i starts inputs x at is noted fed are goes before =
 
 -- an input that isn't stopped after its turn wasn't before
 pub unstopped_before : {R : Type 0} (inputs : List (SerialInput R)) (i : ℕ) (x y : SerialInput R) → x ≡ get_or inputs i x → i < length inputs
-    → (y.report.stopped ≡ None → x.report.stopped ≡ None) → AreUnstopped (set inputs i y) → AreUnstopped inputs
+    → (y.reader.report.stopped ≡ None → x.reader.report.stopped ≡ None) → AreUnstopped (set inputs i y) → AreUnstopped inputs
 unstopped_before inputs i x y at within goes are j z there =
     elim (cases_eq i j) [
       | inl same ↦
           (let here : slice_get inputs i ≡ Some x = slice_get-get_or inputs i x within ∙ ap Some (sym at) in
           let old : x ≡ z = same_Some x z (sym here ∙ ap (slice_get inputs) same ∙ there) in
-          let P : SerialInput _ → Type 0 = λ v. v.report.stopped ≡ None in
+          let P : SerialInput _ → Type 0 = λ v. v.reader.report.stopped ≡ None in
           subst P old (goes (are i y (set_here inputs i y within))))
       | inr ne ↦ are j z (set_there inputs i j y ne ∙ there)
     ]

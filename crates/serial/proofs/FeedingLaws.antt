@@ -20,14 +20,13 @@ use Rattle.mux.specs.History.{History, slots, slot_time, taken, last_stamp, is_c
 use Rattle.mux.specs.Lawful.{is_mapped, is_queue_full, is_ready}
 use Rattle.mux.proofs.Mapped.{planned_some}
 use Rattle.mux.proofs.Refusals.{goes_from, mapped_at, is_refused_full, is_unrefused}
-use Rattle.serial.specs.Takeable.{OriginValue, takeable, is_well_formed, is_named}
+use Rattle.reading.specs.Takeable.{OriginValue, takeable, is_well_formed, is_named}
 use Rattle.serial.specs.Order.{ComeFrom}
-use Rattle.serial.specs.InputReading.{HasLooked, ReadsOn, IsDone}
-use Rattle.serial.specs.Reading.{ReaderValue}
-use Rattle.serial.specs.declared.report.Report.{Report}
+use Rattle.reading.specs.PacketReading.{HasLooked, ReadsOn, IsSpent}
 use Rattle.serial.specs.declared.serial_input.SerialInput.{SerialInput}
 use Rattle.serial.specs.Feeding.{IsOrigin, HasGiven, IsOwnStop, Feeds, MayBeTaken, IsOfInput, IsGivenOrHeld, turns_left}
-use Rattle.serial.proofs.InputLaws.{told_inside, takeable-append, released}
+use Rattle.reading.proofs.PacketLaws.{given_inside, released}
+use Rattle.reading.proofs.KnownLaws.{consumes_on}
 use Rattle.serial.proofs.OrderLaws.{come_in_order, are_few}
 
 -- Each packet that can be taken is one that the plan names.
@@ -84,22 +83,6 @@ last_taken i (Slot c ∷ h) = last_taken i h
 abbrev pub IsInside : PlanValue → OriginValue → List Stamped → Type 0
 IsInside plan origin given = (inside : List ℕ) × (later : List Stamped) × (length inside ≤ 3154116608) × (given ++ later ≡ takeable plan origin (framed 188 inside))
 
-pub given_inside : (plan : PlanValue) (o : OriginValue) (reader : ReaderValue) (held : Option Stamped) (report : Report) (at_end : Type 0) (bytes : List ℕ) (given : List Stamped) (looked : List Item)
-    → HasLooked plan o reader held report at_end bytes given looked → IsInside plan o given
-given_inside plan o reader held report at_end bytes given looked has =
-    let told = told_inside plan o reader.framer (looked ++ reader.ahead) bytes report.stopped at_end has.told in
-    let rest = takeable plan o reader.ahead ++ takeable plan o told.1 in (
-      told.0,
-      option_to_list held ++ rest,
-      told.2,
-      sym (append_assoc given (option_to_list held) rest)
-          ∙ ap (λ xs. xs ++ rest) (sym has.given_is)
-          ∙ sym (append_assoc (takeable plan o looked) (takeable plan o reader.ahead) (takeable plan o told.1))
-          ∙ ap (λ xs. xs ++ takeable plan o told.1) (sym (takeable-append plan o looked reader.ahead))
-          ∙ sym (takeable-append plan o (looked ++ reader.ahead) told.1)
-          ∙ ap (takeable plan o) told.3,
-    )
-
 pub few : (plan : PlanValue) (o : OriginValue) (given : List Stamped) → IsInside plan o given → length given ≤ 16777216
 few plan o given is =
     let all = takeable plan o (framed 188 is.0) in
@@ -143,31 +126,28 @@ closed_other i j (Slot c) h is ne = absurd is
 
 -- An input that goes on.
 
-consumes_on : (a b c : Option (List ℕ)) (xs ys : List ℕ) → Consumes a b xs → Consumes b c ys → Consumes a c (xs ++ ys)
-consumes_on None b c xs ys f g = tt
-consumes_on (Some first) None c xs ys f g = absurd f
-consumes_on (Some first) (Some second) None xs ys f g = absurd g
-consumes_on (Some first) (Some second) (Some third) xs ys f g = f ∙ ap (λ zs. xs ++ zs) g ∙ sym (append_assoc xs ys third)
-
 pub given_on : {R : Type 0} (remaining : R → Option (List ℕ)) (p : PlanValue) (i : ℕ) (start : Option (List ℕ)) (old new : SerialInput R) (given : List Stamped)
-    → HasGiven remaining p i start old given → ReadsOn remaining p old new → new.origin ≡ old.origin → HasGiven remaining p i start new given
-given_on remaining p i start old new given has reads origin =
+    → HasGiven remaining p i start old given → ReadsOn remaining p old.reader new.reader → new.reader.origin ≡ old.reader.origin
+    → new.reader.stream.items.limit ≡ old.reader.stream.items.limit → HasGiven remaining p i start new given
+given_on remaining p i start old new given has reads origin limit =
     let b = has.read in
     let on = reads b.0 given b.2 in
     let P : OriginValue → Type 0 = IsOrigin p i in
     record {
       origin = subst P (sym origin) has.origin;
-      read = (b.0 ++ on.0, consumes_on start (remaining old.source) (remaining new.source) b.0 on.0 b.1 on.1, on.2);
+      limit = limit ∙ has.limit;
+      read = (b.0 ++ on.0, consumes_on start (remaining old.reader.stream.source) (remaining new.reader.stream.source) b.0 on.0 b.1 on.1, on.2);
     }
 
 -- what an input held was given
 pub given_released : {R : Type 0} (remaining : R → Option (List ℕ)) (p : PlanValue) (i : ℕ) (start : Option (List ℕ)) (x : SerialInput R) (given : List Stamped) (item : Stamped)
-    → x.held ≡ Some item → HasGiven remaining p i start x given → HasGiven remaining p i start (record x { held = None }) (given ++ item ∷ [])
+    → x.reader.held ≡ Some item → HasGiven remaining p i start x given → HasGiven remaining p i start (record x { reader = record x.reader { held = None } }) (given ++ item ∷ [])
 given_released remaining p i start x given item held has =
     let b = has.read in
-    let now = released p x.origin x.reader x.held x.report (IsAtEnd (remaining x.source)) b.0 given b.2.0 b.2.1 in
-    let P : Option Stamped → Type 0 = λ o. HasLooked p x.origin x.reader None x.report (IsAtEnd (remaining x.source)) b.0 (given ++ option_to_list o) b.2.0 in
-    record { origin = has.origin; read = (b.0, b.1, (b.2.0, subst P held now)) }
+    let r = x.reader in
+    let now = released remaining p r.origin r.stream r.held r.report b.0 given b.2.0 b.2.1 in
+    let P : Option Stamped → Type 0 = λ o. HasLooked remaining p r.origin r.stream None r.report b.0 (given ++ option_to_list o) b.2.0 in
+    record { origin = has.origin; limit = has.limit; read = (b.0, b.1, (b.2.0, subst P held now)) }
 
 pub some_held : (held : Option Stamped) → IsSome held → (item : Stamped) × (held ≡ Some item)
 some_held None some = let bad : false ≡ true = some in cc
@@ -175,10 +155,12 @@ some_held (Some item) some = (item, refl)
 
 -- what was given isn't too much
 inside_given : {R : Type 0} (remaining : R → Option (List ℕ)) (p : PlanValue) (i : ℕ) (start : Option (List ℕ)) (x : SerialInput R) (given : List Stamped)
-    → HasGiven remaining p i start x given → IsInside p x.origin given
+    → HasGiven remaining p i start x given → IsInside p x.reader.origin given
 inside_given remaining p i start x given has =
     let b = has.read in
-    given_inside p x.origin x.reader x.held x.report (IsAtEnd (remaining x.source)) b.0 given b.2.0 b.2.1
+    let is = given_inside remaining p x.reader b.0 given b.2 in
+    let held = option_to_list x.reader.held in
+    (is.0, held ++ is.1, omega (arith, is.2, has.limit), sym (append_assoc given held is.1) ∙ is.3)
 
 or_false : (a b : Bool) → a || b ≡ false → (a ≡ false) × (b ≡ false)
 or_false true b e = cc
@@ -199,16 +181,16 @@ pub next_may_be_taken : {R : Type 0} (remaining : R → Option (List ℕ)) (p : 
     → is_closed i h ≡ false → HasGiven remaining p i start x (taken i h ++ item ∷ []) → MayBeTaken p h i item
 next_may_be_taken remaining p h i start x item opened has =
     let o = has.origin in
-    let number : x.origin.number ≡ i = ap (λ (v : OriginValue). v.number) o.3 in
-    let rate : x.origin.rate ≡ o.0.rate = ap (λ (v : OriginValue). v.rate) o.3 in
+    let number : x.reader.origin.number ≡ i = ap (λ (v : OriginValue). v.number) o.3 in
+    let rate : x.reader.origin.rate ≡ o.0.rate = ap (λ (v : OriginValue). v.rate) o.3 in
     let least = o.2.rate.0 in
-    may_be_taken p h i x.origin item number (omega (arith, rate, least)) opened (inside_given remaining p i start x (taken i h ++ item ∷ []) has)
+    may_be_taken p h i x.reader.origin item number (omega (arith, rate, least)) opened (inside_given remaining p i start x (taken i h ++ item ∷ []) has)
 
 -- it is closed in the multiplex, where nothing is left of it
 pub feeds_closed : {R : Type 0} (remaining : R → Option (List ℕ)) (p : PlanValue) (h : List Event) (i : ℕ) (start : Option (List ℕ)) (x : SerialInput R)
-    → HasGiven remaining p i start x (taken i h) → IsDone x → IsOwnStop x.report.stopped → Feeds remaining p (Close i ∷ h) i start (record x { is_closed = true })
+    → HasGiven remaining p i start x (taken i h) → IsSpent x.reader → IsOwnStop x.reader.report.stopped → Feeds remaining p (Close i ∷ h) i start (record x { is_closed = true })
 feeds_closed remaining p h i start x has done own = record {
-  given = record { origin = has.origin; read = has.read };
+  given = record { origin = has.origin; limit = has.limit; read = has.read };
   closed = sym (ap (λ b. b || is_closed i h) (eq-eqb i i refl));
   over = λ e. record { framer = done.framer; ahead = done.ahead; held = done.held };
   own = own;
@@ -216,10 +198,10 @@ feeds_closed remaining p h i start x has done own = record {
 
 -- the packet that it held is taken
 feeds_taken : {R : Type 0} (remaining : R → Option (List ℕ)) (p : PlanValue) (h : List Event) (i : ℕ) (start : Option (List ℕ)) (x : SerialInput R) (item : Stamped)
-    → x.held ≡ Some item → HasGiven remaining p i start x (taken i h) → is_closed i h ≡ false → x.is_closed ≡ is_closed i h → IsOwnStop x.report.stopped
-    → Feeds remaining p (Took i item ∷ h) i start (record x { held = None })
+    → x.reader.held ≡ Some item → HasGiven remaining p i start x (taken i h) → is_closed i h ≡ false → x.is_closed ≡ is_closed i h → IsOwnStop x.reader.report.stopped
+    → Feeds remaining p (Took i item ∷ h) i start (record x { reader = record x.reader { held = None } })
 feeds_taken remaining p h i start x item held has opened closed own =
-    let P : List Stamped → Type 0 = HasGiven remaining p i start (record x { held = None }) in
+    let P : List Stamped → Type 0 = HasGiven remaining p i start (record x { reader = record x.reader { held = None } }) in
     let now : taken i (Took i item ∷ h) ≡ taken i h ++ item ∷ [] = ap (λ b. if b then taken i h ++ item ∷ [] else taken i h) (eq-eqb i i refl) in
     record {
       given = subst P (sym now) (given_released remaining p i start x (taken i h) item held has);
@@ -230,7 +212,7 @@ feeds_taken remaining p h i start x item held has opened closed own =
 
 -- it is still held
 feeds_held : {R : Type 0} (remaining : R → Option (List ℕ)) (p : PlanValue) (h : List Event) (i : ℕ) (start : Option (List ℕ)) (x : SerialInput R) (st : Stream)
-    → HasGiven remaining p i start x (taken i h) → is_closed i h ≡ false → x.is_closed ≡ is_closed i h → IsOwnStop x.report.stopped → Feeds remaining p (Full i st ∷ h) i start x
+    → HasGiven remaining p i start x (taken i h) → is_closed i h ≡ false → x.is_closed ≡ is_closed i h → IsOwnStop x.reader.report.stopped → Feeds remaining p (Full i st ∷ h) i start x
 feeds_held remaining p h i start x st has opened closed own = record {
   given = has;
   closed = closed;
@@ -239,8 +221,8 @@ feeds_held remaining p h i start x st has opened closed own = record {
 }
 
 pub feeds_given : {R : Type 0} (remaining : R → Option (List ℕ)) (p : PlanValue) (before after : History) (i : ℕ) (start : Option (List ℕ)) (x y : SerialInput R) (item : Stamped)
-    → IsGivenOrHeld before after i x y item → x.held ≡ Some item → HasGiven remaining p i start x (taken i before.events) → is_closed i before.events ≡ false
-    → x.is_closed ≡ is_closed i before.events → IsOwnStop x.report.stopped → Feeds remaining p after.events i start y
+    → IsGivenOrHeld before after i x y item → x.reader.held ≡ Some item → HasGiven remaining p i start x (taken i before.events) → is_closed i before.events ≡ false
+    → x.is_closed ≡ is_closed i before.events → IsOwnStop x.reader.report.stopped → Feeds remaining p after.events i start y
 feeds_given remaining p before after i start x y item (inl is) held has opened closed own =
     let P : History → Type 0 = λ v. Feeds remaining p v.events i start y in
     let Q : SerialInput _ → Type 0 = Feeds remaining p (Took i item ∷ before.events) i start in
@@ -269,7 +251,7 @@ fewer before after i x y item (inr is) within none =
 
 pub few_given : {R : Type 0} (remaining : R → Option (List ℕ)) (p : PlanValue) (i : ℕ) (start : Option (List ℕ)) (x : SerialInput R) (given : List Stamped)
     → HasGiven remaining p i start x given → length given ≤ 16777216
-few_given remaining p i start x given has = few p x.origin given (inside_given remaining p i start x given has)
+few_given remaining p i start x given has = few p x.reader.origin given (inside_given remaining p i start x given has)
 
 -- from two clauses of a result
 pub on_ok_two : {T E P Q S : Type 0} (r : Result T E) → OnOk r P → OnOk r Q → (P → Q → S) → OnOk r S

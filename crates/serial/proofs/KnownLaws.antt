@@ -1,9 +1,9 @@
--- Known bytes, over one call after another.
+-- Known bytes that are written, over one call after another.
 use Rattle.std.proofs.Common.{ℕ, ◌+◌, ◌-◌, List, [], ◌++◌, length, take, drop, refl, sym, ◌∙◌, ap, subst, append_assoc}
 use Rattle.std.specs.Prelude.{Option, Some, None}
 use Rattle.std.proofs.lemmas.List.{append-nil, take-append-drop, take_rest}
 use Rattle.std.proofs.Math.Seq.{take-add}
-use Rattle.std.specs.Io.KnownBytes.{Appends, Consumes, Keeps}
+use Rattle.std.specs.Io.KnownBytes.{Appends, Keeps}
 use Rattle.serial.specs.Written.{Sends, SendsBeginning}
 
 pub appends_nothing : (old : Option (List ℕ)) → Appends old old []
@@ -42,18 +42,3 @@ sends_waiting a b bytes more h = (bytes, h, refl)
 -- a beginning of what waited is one of that and more
 pub beginning_on : (a b : Option (List ℕ)) (bytes more : List ℕ) → SendsBeginning a b bytes → SendsBeginning a b (bytes ++ more)
 beginning_on a b bytes more h = (h.0 ++ more, (h.1.0, h.1.1, ap (λ v. v ++ more) h.1.2 ∙ append_assoc h.1.0 h.0 more))
-
-pub consumes_nothing : (old : Option (List ℕ)) → Consumes old old []
-consumes_nothing None = tt
-consumes_nothing (Some xs) = refl
-
-pub keeps_consumes : (old new : Option (List ℕ)) → Keeps old new → Consumes old new []
-keeps_consumes None new h = tt
-keeps_consumes (Some xs) None h = h
-keeps_consumes (Some xs) (Some ys) h = sym h
-
-pub consumes_on : (a b c : Option (List ℕ)) (x y : List ℕ) → Consumes a b x → Consumes b c y → Consumes a c (x ++ y)
-consumes_on None b c x y h k = tt
-consumes_on (Some xs) None c x y h k = absurd h
-consumes_on (Some xs) (Some ys) None x y h k = k
-consumes_on (Some xs) (Some ys) (Some zs) x y h k = h ∙ ap (λ v. x ++ v) k ∙ sym (append_assoc x y zs)

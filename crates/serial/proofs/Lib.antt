@@ -1,6 +1,4 @@
 pub mod KnownLaws
-pub mod ItemLaws
-pub mod InputLaws
 pub mod FailureLaws
 pub mod OrderLaws
 pub mod FeedingLaws

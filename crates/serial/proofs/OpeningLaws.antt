@@ -9,14 +9,14 @@ use Rattle.std.proofs.KnownBytes.{Consumes-nil}
 use Rattle.request.specs.Request.{InputValue, IsInput, input_value}
 use Rattle.request.specs.declared.input.Input.{Input}
 use Rattle.plan.specs.Build.{PlanValue}
-use Rattle.serial.specs.Counting.{nothing_counted}
-use Rattle.serial.specs.Takeable.{origin_of}
-use Rattle.serial.specs.InputReading.{HasRead}
-use Rattle.serial.specs.InputReading.{TellsFailures, AllTellFailures}
+use Rattle.reading.specs.Counting.{nothing_counted}
+use Rattle.reading.specs.Takeable.{origin_of}
+use Rattle.reading.specs.PacketReading.{HasRead}
+use Rattle.reading.specs.PacketReading.{TellsFailures}
 use Rattle.mux.specs.declared.event.Event.{Event}
 use Rattle.mux.specs.History.{History, opened, emitted}
 use Rattle.mux.specs.Faithful.{IsFaithful}
-use Rattle.serial.specs.Feeding.{packet_lists}
+use Rattle.serial.specs.Feeding.{packet_lists, AllTellFailures}
 use Rattle.serial.specs.Sending.{HasAnalysed}
 use Rattle.serial.specs.Opening.{IsOpened, AreOpened}
 use Rattle.serial.specs.Running.{AreFed, IsRunning}
@@ -73,7 +73,7 @@ pub told_of_opened : {R : Type 0} (remaining : R → Option (List ℕ)) (failure
     → AreOpened remaining failures p readers inputs → AllTellFailures failures (map failures readers) inputs
 told_of_opened remaining failures p readers inputs are i x before at from =
     let r = from_map failures readers i before from in
-    let P : ℕ → Type 0 = λ n. TellsFailures failures n x in
+    let P : ℕ → Type 0 = λ n. TellsFailures failures n x.reader in
     subst P r.2 ((are.each i r.0 x r.1 at).told)
 
 -- an input of a plan, as its number and its parts give it
@@ -84,14 +84,15 @@ input_at p inputs i x same at =
     subst P same (slice_get-map input_value inputs i ∙ ap (option_map input_value) at)
 
 pub opened_input : {R : Type 0} (remaining : R → Option (List ℕ)) (failures : R → ℕ) (p : PlanValue) (i : ℕ) (input : InputValue) (reader : R) (x : SerialInput R)
-    → slice_get p.request.inputs i ≡ Some input → IsInput input → x.origin ≡ origin_of i input → x.source ≡ reader → x.report ≡ nothing_counted → x.is_closed ≡ false
-    → HasRead remaining p x [] [] → TellsFailures failures (failures reader) x → IsOpened remaining failures p i reader x
-opened_input {R} remaining failures p i input reader x at is origin source report opened read tells =
+    → slice_get p.request.inputs i ≡ Some input → IsInput input → x.reader.origin ≡ origin_of i input → x.reader.stream.items.limit ≡ 3154116608 → x.reader.stream.source ≡ reader
+    → x.reader.report ≡ nothing_counted → x.is_closed ≡ false → HasRead remaining p x.reader [] [] → TellsFailures failures (failures reader) x.reader → IsOpened remaining failures p i reader x
+opened_input {R} remaining failures p i input reader x at is origin limit source report opened read tells =
     let C : R → Type 0 = λ v. Consumes (remaining reader) (remaining v) [] in
     record {
       feeds = record {
         given = record {
           origin = (input, at, is, origin);
+          limit = limit;
           read = ([], subst C (sym source) (Consumes-nil (remaining reader)), read);
         };
         closed = opened;

@@ -14,7 +14,7 @@ use Rattle.tspkt.specs.declared.mode.Mode.{Mode}
 use Rattle.tspkt.specs.declared.mode.Mode.TheVariants.{Hunting, Synced}
 use Rattle.tspkt.specs.declared.stamped.Stamped.{Stamped}
 use Rattle.plan.specs.Build.{PlanValue}
-use Rattle.serial.specs.Takeable.{OriginValue, takeable, stamp_at, is_well_formed, is_named}
+use Rattle.reading.specs.Takeable.{OriginValue, takeable, stamp_at, is_well_formed, is_named}
 use Rattle.serial.specs.Order.{ComeFrom, PacketsComeInOrder, PacketsAreFew}
 
 -- packets stand at this place or behind it, and each behind those before it

@@ -25,24 +25,24 @@ use Rattle.mux.specs.Peaks.{IsPeak}
 use Rattle.mux.specs.Headline.{IsSound}
 use Rattle.mux.proofs.Emitted.{length-emitted}
 use Rattle.analyse.specs.Faults.{faults}
-use Rattle.serial.specs.Failures.{FailsOnce}
-use Rattle.serial.specs.Takeable.{OriginValue, takeable, origin_of, CountsItems}
-use Rattle.serial.specs.Reading.{ReaderValue}
-use Rattle.serial.specs.InputReading.{HasTold, HasLooked, BeginsTakeable, BeginsFramed, AllTellFailures}
-use Rattle.serial.specs.Feeding.{Feeds, AreUnstopped}
+use Rattle.reading.specs.Failures.{FailsOnce}
+use Rattle.reading.specs.Takeable.{OriginValue, takeable, origin_of, CountsItems}
+use Rattle.reading.specs.PacketReading.{BeginsTakeable}
+use Rattle.reading.specs.StreamReading.{BeginsFramed}
+use Rattle.serial.specs.Feeding.{Feeds, AreUnstopped, AllTellFailures}
 use Rattle.serial.specs.Written.{Sends}
 use Rattle.serial.specs.Sending.{bytes_of, fault_count}
 use Rattle.serial.specs.Running.{AreFed, IsRunning, IsOver}
 use Rattle.serial.specs.Ending.{IsLast, AreReported, ArePeaks}
 use Rattle.serial.specs.Outcome.{HasEnded, IsCounted, IsInputSummary, IsReadOn, AreReadOn, AreUnfailed, FailuresAreTold, HasRun, HasBegun}
-use Rattle.serial.specs.declared.report.Report.{Report}
-use Rattle.serial.specs.declared.report.Stop.{Stop}
-use Rattle.serial.specs.declared.report.Stop.TheVariants.{Gate, Memory, ReadFailed, TooMuch}
+use Rattle.reading.specs.declared.report.Report.{Report}
+use Rattle.reading.specs.declared.stop.Stop.{Stop}
+use Rattle.reading.specs.declared.stop.Stop.TheVariants.{Gate, Memory, ReadFailed, TooMuch}
 use Rattle.serial.specs.declared.serial_input.SerialInput.{SerialInput}
 use Rattle.serial.specs.declared.summary.InputSummary.{InputSummary}
 use Rattle.serial.specs.declared.summary.Summary.{Summary}
 use Rattle.serial.specs.declared.serial_run.SerialRun.{SerialRun}
-use Rattle.serial.proofs.InputLaws.{told_too_much, looked_framed, given_begins}
+use Rattle.reading.proofs.PacketLaws.{too_much, looked_framed, given_begins, whole_read, failed_read}
 use Rattle.serial.proofs.RunningLaws.{begun}
 use Rattle.serial.proofs.FaultBounds.{few_faults}
 use Rattle.serial.proofs.OpeningLaws.{push_cases, from_map}
@@ -50,11 +50,11 @@ use Rattle.serial.proofs.OpeningLaws.{push_cases, from_map}
 -- ---- the reports
 
 pub reported_push : {R : Type 0} (p : PlanValue) (h : List Event) (inputs : List (SerialInput R)) (summaries : List InputSummary) (sources : List R) (x : SerialInput R) (s : InputSummary) (source : R)
-    → AreReported p h inputs summaries sources → source ≡ x.source → IsTotals p (length summaries) h s.totals → IsLast x s.report
+    → AreReported p h inputs summaries sources → source ≡ x.reader.stream.source → IsTotals p (length summaries) h s.totals → IsLast x s.report
     → AreReported p h (inputs ++ x ∷ []) (summaries ++ s ∷ []) (sources ++ source ∷ [])
 reported_push {R} p h inputs summaries sources x s source are same totals last = record {
   length_is = omega (arith, are.length_is, length-append summaries (s ∷ []), length-append inputs (x ∷ []));
-  sources_are = ap (λ v. v ++ source ∷ []) are.sources_are ∙ ap (λ v. map (λ y. y.source) inputs ++ v ∷ []) same ∙ sym (map-append (λ (y : SerialInput R). y.source) inputs (x ∷ []));
+  sources_are = ap (λ v. v ++ source ∷ []) are.sources_are ∙ ap (λ v. map (λ y. y.reader.stream.source) inputs ++ v ∷ []) same ∙ sym (map-append (λ (y : SerialInput R). y.reader.stream.source) inputs (x ∷ []));
   totals = λ i t at.
       elim (push_cases summaries s i t at) [
         | inl there ↦ are.totals i t there
@@ -98,7 +98,7 @@ peaks_push p h count peaks x are next = record {
       ];
 }
 
-open_stopped : {R : Type 0} (x : SerialInput R) (report : Report) (cause : Stop) (stopped : Option Stop) → x.report.stopped ≡ stopped → x.is_closed ≡ false → IsLast x report → report.stopped ≡ Some cause → (cause ≡ Gate → ⊥) → report ≡ x.report
+open_stopped : {R : Type 0} (x : SerialInput R) (report : Report) (cause : Stop) (stopped : Option Stop) → x.reader.report.stopped ≡ stopped → x.is_closed ≡ false → IsLast x report → report.stopped ≡ Some cause → (cause ≡ Gate → ⊥) → report ≡ x.reader.report
 open_stopped x report cause None is opened last e other =
     absurd (other (same_Some cause Gate (sym e ∙ ap (λ v. v.stopped) (last.left opened is))))
 open_stopped x report cause (Some s) is opened last e other =
@@ -106,15 +106,15 @@ open_stopped x report cause (Some s) is opened last e other =
     last.stopped (subst P (sym is) refl)
 
 -- what stopped the input stands in its last report, but for the end of the run
-pub stopped_before : {R : Type 0} (x : SerialInput R) (report : Report) (cause : Stop) → IsLast x report → report.stopped ≡ Some cause → (cause ≡ Gate → ⊥) → report ≡ x.report
+pub stopped_before : {R : Type 0} (x : SerialInput R) (report : Report) (cause : Stop) → IsLast x report → report.stopped ≡ Some cause → (cause ≡ Gate → ⊥) → report ≡ x.reader.report
 stopped_before x report cause last e other =
     elim (cases_Bool x.is_closed) [
       | inl closed ↦ last.closed closed
-      | inr opened ↦ open_stopped x report cause x.report.stopped refl opened last e other
+      | inr opened ↦ open_stopped x report cause x.reader.report.stopped refl opened last e other
     ]
 
 -- an input that nothing stopped is closed, and its report is the last one
-pub unstopped : {R : Type 0} (x : SerialInput R) (report : Report) (stopped : Option Stop) → x.report.stopped ≡ stopped → IsLast x report → report.stopped ≡ None → (x.is_closed ≡ true) × (report ≡ x.report)
+pub unstopped : {R : Type 0} (x : SerialInput R) (report : Report) (stopped : Option Stop) → x.reader.report.stopped ≡ stopped → IsLast x report → report.stopped ≡ None → (x.is_closed ≡ true) × (report ≡ x.reader.report)
 unstopped x report None is last e =
     elim (cases_Bool x.is_closed) [
       | inl closed ↦ (closed, last.closed closed)
@@ -126,36 +126,6 @@ unstopped x report (Some s) is last e =
     let bad = sym e ∙ ap (λ v. v.stopped) same ∙ is in cc
 
 -- ---- an input that ended
-
-whole_of : (plan : PlanValue) (o : OriginValue) (framer : Option FramerState) (told : List Item) (bytes : List ℕ) (stopped : Option Stop) (at_end : Type 0)
-    → framer ≡ None → stopped ≡ None → HasTold plan o framer told bytes stopped at_end → (told ≡ framed 188 bytes) × at_end
-whole_of plan o None told bytes stopped at_end e s h = h.ended s
-whole_of plan o (Some f) told bytes stopped at_end e s h = cc
-
-failed_of : (plan : PlanValue) (o : OriginValue) (framer : Option FramerState) (told : List Item) (bytes : List ℕ) (stopped : Option Stop) (at_end : Type 0)
-    → framer ≡ None → stopped ≡ Some ReadFailed → HasTold plan o framer told bytes stopped at_end → takeable plan o told ≡ takeable plan o (framed 188 bytes)
-failed_of plan o None told bytes stopped at_end e s h = h.failed s
-failed_of plan o (Some f) told bytes stopped at_end e s h = cc
-
-failed_input : (plan : PlanValue) (o : OriginValue) (reader : ReaderValue) (held : Option Stamped) (report : Report) (at_end : Type 0) (bytes : List ℕ) (given : List Stamped) (looked : List Item)
-    → HasLooked plan o reader held report at_end bytes given looked → reader.framer ≡ None → reader.ahead ≡ [] → held ≡ None → report.stopped ≡ Some ReadFailed
-    → given ≡ takeable plan o (framed 188 bytes)
-failed_input plan o reader held report at_end bytes given looked has framer ahead free stopped =
-    sym (append-nil given) ∙ ap (λ v. given ++ option_to_list v) (sym free) ∙ sym has.given_is
-    ∙ ap (takeable plan o) (sym (append-nil looked) ∙ ap (λ xs. looked ++ xs) (sym ahead))
-    ∙ failed_of plan o reader.framer (looked ++ reader.ahead) bytes report.stopped at_end framer stopped has.told
-
-pub whole_input : (plan : PlanValue) (o : OriginValue) (reader : ReaderValue) (held : Option Stamped) (report : Report) (at_end : Type 0) (bytes : List ℕ) (given : List Stamped) (looked : List Item)
-    → HasLooked plan o reader held report at_end bytes given looked → reader.framer ≡ None → reader.ahead ≡ [] → held ≡ None → report.stopped ≡ None
-    → (given ≡ takeable plan o (framed 188 bytes)) × CountsItems plan o (framed 188 bytes) report × at_end
-whole_input plan o reader held report at_end bytes given looked has framer ahead free stopped =
-    let w = whole_of plan o reader.framer (looked ++ reader.ahead) bytes report.stopped at_end framer stopped has.told in
-    let all : looked ≡ framed 188 bytes = sym (append-nil looked) ∙ ap (λ xs. looked ++ xs) (sym ahead) ∙ w.0 in
-    let C : List Item → Type 0 = λ xs. CountsItems plan o xs report in (
-      sym (append-nil given) ∙ ap (λ v. given ++ option_to_list v) (sym free) ∙ sym has.given_is ∙ ap (takeable plan o) all,
-      subst C all has.counts,
-      w.1,
-    )
 
 -- all bytes were read where the source is at its end
 pub all_read : (start rest : Option (List ℕ)) (bytes all : List ℕ) → start ≡ Some all → Consumes start rest bytes → IsAtEnd rest → all ≡ bytes
@@ -171,31 +141,31 @@ some_read (Some first) (Some more) bytes all e used =
 
 -- the origin of an input that is fed is that of the plan's input
 origin_same : {R : Type 0} (remaining : R → Option (List ℕ)) (p : PlanValue) (h : List Event) (i : ℕ) (input : InputValue) (start : Option (List ℕ)) (x : SerialInput R)
-    → slice_get p.request.inputs i ≡ Some input → Feeds remaining p h i start x → x.origin ≡ origin_of i input
+    → slice_get p.request.inputs i ≡ Some input → Feeds remaining p h i start x → x.reader.origin ≡ origin_of i input
 origin_same remaining p h i input start x at f =
     let o = f.given.origin in
     o.3 ∙ ap (origin_of i) (same_Some o.0 input (sym o.1 ∙ at))
 
 pub ended : {R : Type 0} (remaining : R → Option (List ℕ)) (p : PlanValue) (h : List Event) (i : ℕ) (input : InputValue) (start : Option (List ℕ)) (x : SerialInput R) (s : InputSummary) (all : List ℕ)
-    → slice_get p.request.inputs i ≡ Some input → Feeds remaining p h i start x → x.is_closed ≡ true → s.report ≡ x.report → s.report.stopped ≡ None → start ≡ Some all
+    → slice_get p.request.inputs i ≡ Some input → Feeds remaining p h i start x → x.is_closed ≡ true → s.report ≡ x.reader.report → s.report.stopped ≡ None → start ≡ Some all
     → HasEnded p h i input all s
 ended remaining p h i input start x s all at f closed same unstopped known =
     let origin = origin_same remaining p h i input start x at f in
     let r = f.given.read in
     let done = f.over closed in
-    let w = whole_input p x.origin x.reader x.held x.report (IsAtEnd (remaining x.source)) r.0 (taken i h) r.2.0 r.2.1 done.framer done.ahead done.held (ap (λ v. v.stopped) (sym same) ∙ unstopped) in
-    let bytes : all ≡ r.0 = all_read start (remaining x.source) r.0 all known r.1 w.2 in
+    let w = whole_read remaining p x.reader r.0 (taken i h) r.2 done (ap (λ v. v.stopped) (sym same) ∙ unstopped) in
+    let bytes : all ≡ r.0 = all_read start (remaining x.reader.stream.source) r.0 all known r.1 w.at_end in
     let P : List ℕ → Type 0 = λ v. taken i h ≡ takeable p (origin_of i input) (framed 188 v) in
     let Q : OriginValue → Type 0 = λ v. taken i h ≡ takeable p v (framed 188 r.0) in
     let C : List ℕ → Type 0 = λ v. CountsItems p (origin_of i input) (framed 188 v) s.report in
     let D : OriginValue → Type 0 = λ v. CountsItems p v (framed 188 r.0) s.report in
-    let E : Report → Type 0 = λ v. CountsItems p x.origin (framed 188 r.0) v in
-    record { taken_is = subst P (sym bytes) (subst Q origin w.0); counts = subst C (sym bytes) (subst D origin (subst E (sym same) w.1)) }
+    let E : Report → Type 0 = λ v. CountsItems p x.reader.origin (framed 188 r.0) v in
+    record { taken_is = subst P (sym bytes) (subst Q origin w.given_is); counts = subst C (sym bytes) (subst D origin (subst E (sym same) w.counts)) }
 
 -- ---- what is said of each input
 
 open_counts : {R : Type 0} (p : PlanValue) (o : OriginValue) (items : List Item) (x : SerialInput R) (report : Report) (stopped : Option Stop)
-    → x.report.stopped ≡ stopped → x.is_closed ≡ false → IsLast x report → CountsItems p o items x.report → CountsItems p o items report
+    → x.reader.report.stopped ≡ stopped → x.is_closed ≡ false → IsLast x report → CountsItems p o items x.reader.report → CountsItems p o items report
 open_counts p o items x report None is opened last has =
     let C : Report → Type 0 = CountsItems p o items in
     subst C (sym (last.left opened is))
@@ -207,12 +177,12 @@ open_counts p o items x report (Some s) is opened last has =
 
 -- the last report has the counts
 last_counts : {R : Type 0} (p : PlanValue) (o : OriginValue) (items : List Item) (x : SerialInput R) (report : Report)
-    → IsLast x report → CountsItems p o items x.report → CountsItems p o items report
+    → IsLast x report → CountsItems p o items x.reader.report → CountsItems p o items report
 last_counts p o items x report last has =
     let C : Report → Type 0 = CountsItems p o items in
     elim (cases_Bool x.is_closed) [
       | inl closed ↦ subst C (sym (last.closed closed)) has
-      | inr opened ↦ open_counts p o items x report x.report.stopped refl opened last has
+      | inr opened ↦ open_counts p o items x report x.reader.report.stopped refl opened last has
     ]
 
 -- what begins the framing of the bytes that were read begins that of all bytes
@@ -231,15 +201,15 @@ counted remaining p h i input start x s all at f last known =
     let r = f.given.read in
     let items = r.2.0 in
     let has = r.2.1 in
-    let begins = looked_framed p x.origin x.reader x.held x.report (IsAtEnd (remaining x.source)) r.0 (taken i h) items has in
-    let framing = framed_all start (remaining x.source) r.0 all items known r.1 begins in
+    let begins = looked_framed remaining p x.reader r.0 (taken i h) r.2 in
+    let framing = framed_all start (remaining x.reader.stream.source) r.0 all items known r.1 begins in
     let C : OriginValue → Type 0 = λ v. CountsItems p v items s.report in
     record {
       looked = items;
       later = framing.0;
       framing = framing.1;
-      counts = subst C origin (last_counts p x.origin items x s.report last has.counts);
-      held = x.held;
+      counts = subst C origin (last_counts p x.reader.origin items x s.report last has.counts);
+      held = x.reader.held;
       taken_is = ap (λ v. takeable p v items) (sym origin) ∙ has.given_is;
       closed = λ e. (f.over (f.closed ∙ e)).held;
     }
@@ -249,9 +219,9 @@ pub input_summary : {R : Type 0} (remaining : R → Option (List ℕ)) (p : Plan
     → IsInputSummary p h i input start s
 input_summary remaining p h i input start x s at f totals last = record {
   totals = totals;
-  closed = λ e. sym f.closed ∙ (unstopped x s.report x.report.stopped refl last e).0;
+  closed = λ e. sym f.closed ∙ (unstopped x s.report x.reader.report.stopped refl last e).0;
   ended = λ e all known.
-      let u = unstopped x s.report x.report.stopped refl last e in
+      let u = unstopped x s.report x.reader.report.stopped refl last e in
       ended remaining p h i input start x s all at f u.0 u.1 e known;
   counted = λ all known. counted remaining p h i input start x s all at f last known;
   left = λ e.
@@ -265,32 +235,31 @@ input_summary remaining p h i input start x s at f totals last = record {
   too_much = λ e all known.
       let same = stopped_before x s.report TooMuch last e (λ bad. cc) in
       let r = f.given.read in
-      let much = told_too_much p x.origin x.reader.framer (r.2.0 ++ x.reader.ahead) r.0 x.report.stopped (IsAtEnd (remaining x.source)) r.2.1.told (ap (λ v. v.stopped) (sym same) ∙ e) in
-      let some = some_read start (remaining x.source) r.0 all known r.1 in
-      omega (arith, much, some);
+      let much = too_much remaining p x.reader r.0 (taken i h) r.2 (ap (λ v. v.stopped) (sym same) ∙ e) in
+      let some = some_read start (remaining x.reader.stream.source) r.0 all known r.1 in
+      omega (arith, much, some, f.given.limit);
 }
 
 -- the source of an input was read on
 read_on : {R : Type 0} (remaining : R → Option (List ℕ)) (p : PlanValue) (h : List Event) (i : ℕ) (input : InputValue) (start : Option (List ℕ)) (x : SerialInput R) (s : InputSummary)
-    → slice_get p.request.inputs i ≡ Some input → Feeds remaining p h i start x → IsLast x s.report → IsReadOn p h i input start (remaining x.source) s
+    → slice_get p.request.inputs i ≡ Some input → Feeds remaining p h i start x → IsLast x s.report → IsReadOn p h i input start (remaining x.reader.stream.source) s
 read_on remaining p h i input start x s at f last =
     let r = f.given.read in
-    let end = IsAtEnd (remaining x.source) in
     let B : OriginValue → Type 0 = λ v. BeginsTakeable p v r.0 (taken i h) in
     record {
       bytes = r.0;
       read = r.1;
-      begins = subst B (origin_same remaining p h i input start x at f) (given_begins p x.origin x.reader x.held x.report end r.0 (taken i h) r.2.0 r.2.1);
+      begins = subst B (origin_same remaining p h i input start x at f) (given_begins remaining p x.reader r.0 (taken i h) r.2);
       ended = λ e.
-          let u = unstopped x s.report x.report.stopped refl last e in
+          let u = unstopped x s.report x.reader.report.stopped refl last e in
           let done = f.over u.0 in
-          (whole_input p x.origin x.reader x.held x.report end r.0 (taken i h) r.2.0 r.2.1 done.framer done.ahead done.held (ap (λ v. v.stopped) (sym u.1) ∙ e)).2;
+          (whole_read remaining p x.reader r.0 (taken i h) r.2 done (ap (λ v. v.stopped) (sym u.1) ∙ e)).at_end;
       failed = λ e closed.
           let same = stopped_before x s.report ReadFailed last e (λ bad. cc) in
           let done = f.over (f.closed ∙ closed) in
           let O : OriginValue → Type 0 = λ v. taken i h ≡ takeable p v (framed 188 r.0) in
           subst O (origin_same remaining p h i input start x at f)
-          (failed_input p x.origin x.reader x.held x.report end r.0 (taken i h) r.2.0 r.2.1 done.framer done.ahead done.held (ap (λ v. v.stopped) (sym same) ∙ e));
+          (failed_read remaining p x.reader r.0 (taken i h) r.2 done (ap (λ v. v.stopped) (sym same) ∙ e));
     }
 
 pub all_read_on : {R : Type 0} (remaining : R → Option (List ℕ)) (p : PlanValue) (h : List Event) (starts : List (Option (List ℕ))) (inputs : List (SerialInput R)) (summaries : List InputSummary) (sources : List R)
@@ -298,7 +267,7 @@ pub all_read_on : {R : Type 0} (remaining : R → Option (List ℕ)) (p : PlanVa
 all_read_on {R} remaining p h starts inputs summaries sources fed are i input start left s at from to told =
     let l = from_map remaining sources i left to in
     let M : List R → Type 0 = λ v. slice_get v i ≡ Some l.0 in
-    let m = from_map (λ (y : SerialInput R). y.source) inputs i l.0 (subst M are.sources_are l.1) in
+    let m = from_map (λ (y : SerialInput R). y.reader.stream.source) inputs i l.0 (subst M are.sources_are l.1) in
     let x = m.0 in
     let f = fed.each i x m.1 in
     let P : Option (List ℕ) → Type 0 = λ v. Feeds remaining p h i v x in
@@ -306,8 +275,8 @@ all_read_on {R} remaining p h starts inputs summaries sources fed are i input st
     subst Q (ap remaining m.2 ∙ l.2)
     (read_on remaining p h i input start x s at (subst P (same_Some f.0 start (sym f.1 ∙ from)) f.2) (are.reports i x s m.1 told))
 
-unstopped_one : {R : Type 0} (x : SerialInput R) (report : Report) (stopped : Option Stop) → x.report.stopped ≡ stopped → IsLast x report → (x.report.stopped ≡ Some Gate → ⊥)
-    → (report.stopped ≡ None) ⊎ (report.stopped ≡ Some Gate) → x.report.stopped ≡ None
+unstopped_one : {R : Type 0} (x : SerialInput R) (report : Report) (stopped : Option Stop) → x.reader.report.stopped ≡ stopped → IsLast x report → (x.reader.report.stopped ≡ Some Gate → ⊥)
+    → (report.stopped ≡ None) ⊎ (report.stopped ≡ Some Gate) → x.reader.report.stopped ≡ None
 unstopped_one x report None is last unleft cause = is
 unstopped_one x report (Some s) is last unleft cause =
     let P : Option Stop → Type 0 = IsSome in
@@ -324,7 +293,7 @@ unstopped_all remaining p h starts inputs summaries sources fed are unfailed i x
     elim (slice_get_cases summaries i).1 [
       | inl found ↦
           (let last = are.reports i x found.0 at found.2 in
-          unstopped_one x found.0.report x.report.stopped refl last (fed.each i x at).2.own.unleft (unfailed i found.0 found.2))
+          unstopped_one x found.0.report x.reader.report.stopped refl last (fed.each i x at).2.own.unleft (unfailed i found.0 found.2))
       | inr past ↦ absurd (omega (arith, slice_get_within inputs i x at, past.0, are.length_is))
     ]
 
@@ -334,7 +303,7 @@ pub failures_told : {R : Type 0} (failures : R → ℕ) (p : PlanValue) (h : Lis
     → AllTellFailures failures (map failures before) inputs → AreReported p h inputs summaries after → FailuresAreTold failures before after summaries
 failures_told {R} failures p h inputs summaries before after tell are i s old new ats atb ata =
     let M : List R → Type 0 = λ v. slice_get v i ≡ Some new in
-    let m = from_map (λ (y : SerialInput R). y.source) inputs i new (subst M are.sources_are ata) in
+    let m = from_map (λ (y : SerialInput R). y.reader.stream.source) inputs i new (subst M are.sources_are ata) in
     let x = m.0 in
     let last = are.reports i x s m.1 ats in
     let told = tell i x (failures old) m.1 (slice_get-map failures before i ∙ ap (option_map failures) atb) in

@@ -18,13 +18,13 @@ use Rattle.mux.specs.declared.sending.Sending.TheVariants as sending
 use Rattle.mux.specs.Answers.{SendAnswers, SlotAnswers}
 use Rattle.mux.specs.Faithful.{IsFaithful}
 use Rattle.tspkt.specs.declared.stamped.Stamped.{Stamped}
-use Rattle.serial.specs.InputReading.{HasRead}
+use Rattle.reading.specs.PacketReading.{HasRead}
 use Rattle.serial.specs.Feeding.{Feeds, AreKnown, AreUnstopped, packet_lists, IsOfInput, turns_left}
 use Rattle.serial.specs.Running.{AreFed, AreBegun, IsRunning, steps_left}
 use Rattle.serial.specs.Sending.{bytes_of, HasAnalysed}
 use Rattle.serial.specs.Written.{Sends, SendsBeginning}
-use Rattle.serial.specs.Takeable.{takeable, origin_of}
-use Rattle.serial.proofs.InputLaws.{given_begins}
+use Rattle.reading.specs.Takeable.{takeable, origin_of}
+use Rattle.reading.proofs.PacketLaws.{given_begins}
 use Rattle.tspkt.specs.Framed.{framed}
 use Rattle.serial.specs.declared.slot_writer.SlotWriter.{SlotWriter}
 use Rattle.serial.specs.declared.serial_run.SerialRun.{SerialRun}
@@ -52,16 +52,16 @@ fed_slot remaining p h c starts inputs fed = record {
   count = fed.count;
   each = λ i x at.
       let f = fed.each i x at in
-      (f.0, f.1, record { given = record { origin = f.2.given.origin; read = f.2.given.read }; closed = f.2.closed; over = f.2.over; own = f.2.own });
+      (f.0, f.1, record { given = record { origin = f.2.given.origin; limit = f.2.given.limit; read = f.2.given.read }; closed = f.2.closed; over = f.2.over; own = f.2.own });
 }
 
 -- an input goes on, and the others stay
 pub feeds_other : {R : Type 0} (remaining : R → Option (List ℕ)) (p : PlanValue) (i j : ℕ) (e : Event) (h : List Event) (start : Option (List ℕ)) (x : SerialInput R)
     → IsOfInput i e → (i ≡ j → ⊥) → Feeds remaining p h j start x → Feeds remaining p (e ∷ h) j start x
 feeds_other {R} remaining p i j e h start x is ne f =
-    let P : List Stamped → Type 0 = λ (xs : List Stamped). (bytes : List ℕ) × Consumes start (remaining x.source) bytes × HasRead remaining p x bytes xs in
+    let P : List Stamped → Type 0 = λ (xs : List Stamped). (bytes : List ℕ) × Consumes start (remaining x.reader.stream.source) bytes × HasRead remaining p x.reader bytes xs in
     record {
-      given = record { origin = f.given.origin; read = subst P (sym (taken_other i j e h is ne)) f.given.read };
+      given = record { origin = f.given.origin; limit = f.given.limit; read = subst P (sym (taken_other i j e h is ne)) f.given.read };
       closed = f.closed ∙ sym (closed_other i j e h is ne);
       over = f.over;
       own = f.own;
@@ -303,8 +303,8 @@ begun remaining p h starts inputs fed i input all at start =
           let o = f.2.given.origin in
           let known : f.0 ≡ Some all = same_Some f.0 (Some all) (sym f.1 ∙ start) in
           let b = f.2.given.read in
-          let more = consumed f.0 (remaining x.source) b.0 all known b.1 in
-          let later = given_begins p x.origin x.reader x.held x.report (IsAtEnd (remaining x.source)) b.0 (taken i h) b.2.0 b.2.1 more.0 in
+          let more = consumed f.0 (remaining x.reader.stream.source) b.0 all known b.1 in
+          let later = given_begins remaining p x.reader b.0 (taken i h) b.2 more.0 in
           let same : o.0 ≡ input = same_Some o.0 input (sym o.1 ∙ at) in
           (later.0, later.1 ∙ ap (λ v. takeable p v (framed 188 (b.0 ++ more.0))) (o.3 ∙ ap (origin_of i) same) ∙ ap (λ v. takeable p (origin_of i input) (framed 188 v)) (sym more.1)))
       | inr past ↦ absurd (omega (arith, within, past.0, fed.count))

@@ -7,21 +7,21 @@ use Rattle.request.specs.declared.stream.Stream.{Stream}
 use Rattle.mux.specs.Totals.{IsTotals}
 use Rattle.mux.specs.declared.peak.Peak.{Peak}
 use Rattle.mux.specs.Peaks.{IsPeak}
-use Rattle.serial.specs.declared.report.Report.{Report}
-use Rattle.serial.specs.declared.report.Stop.TheVariants.{Gate}
+use Rattle.reading.specs.declared.report.Report.{Report}
+use Rattle.reading.specs.declared.stop.Stop.TheVariants.{Gate}
 use Rattle.serial.specs.declared.serial_input.SerialInput.{SerialInput}
 use Rattle.serial.specs.declared.summary.InputSummary.{InputSummary}
 
 -- the input's report, where the run that ends leaves an input that it didn't close and that nothing stopped
 pub record IsLast {R : Type 0} (x : SerialInput R) (report : Report) : Type 0 where
-  pub left : x.is_closed ≡ false → x.report.stopped ≡ None → report ≡ record x.report { stopped = Some Gate }
-  pub closed : x.is_closed ≡ true → report ≡ x.report
-  pub stopped : IsSome x.report.stopped → report ≡ x.report
+  pub left : x.is_closed ≡ false → x.reader.report.stopped ≡ None → report ≡ record x.reader.report { stopped = Some Gate }
+  pub closed : x.is_closed ≡ true → report ≡ x.reader.report
+  pub stopped : IsSome x.reader.report.stopped → report ≡ x.reader.report
 
 -- each input's report and totals
 pub record AreReported {R : Type 0} (p : PlanValue) (h : List Event) (inputs : List (SerialInput R)) (summaries : List InputSummary) (sources : List R) : Type 0 where
   pub length_is : length summaries ≡ length inputs
-  pub sources_are : sources ≡ map (λ x. x.source) inputs
+  pub sources_are : sources ≡ map (λ x. x.reader.stream.source) inputs
   pub totals : (i : ℕ) (s : InputSummary) → slice_get summaries i ≡ Some s → IsTotals p i h s.totals
   pub reports : (i : ℕ) (x : SerialInput R) (s : InputSummary)
       → slice_get inputs i ≡ Some x → slice_get summaries i ≡ Some s → IsLast x s.report

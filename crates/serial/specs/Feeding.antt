@@ -13,10 +13,10 @@ use Rattle.mux.specs.History.{History, with_event, is_mapped_to, taken, is_close
 use Rattle.mux.specs.Lawful.{Refusal, refusal_of}
 use Rattle.mux.specs.Lawful as refusals
 use Rattle.mux.specs.Faithful.{PacketLists}
-use Rattle.serial.specs.Takeable.{OriginValue, origin_of, takeable}
-use Rattle.serial.specs.InputReading.{HasRead, IsDone}
-use Rattle.serial.specs.declared.report.Stop.{Stop}
-use Rattle.serial.specs.declared.report.Stop.TheVariants.{Gate, Memory}
+use Rattle.reading.specs.Takeable.{OriginValue, origin_of, takeable}
+use Rattle.reading.specs.PacketReading.{HasRead, IsSpent, TellsFailures}
+use Rattle.reading.specs.declared.stop.Stop.{Stop}
+use Rattle.reading.specs.declared.stop.Stop.TheVariants.{Gate, Memory}
 use Rattle.serial.specs.declared.serial_input.SerialInput.{SerialInput}
 
 -- where the packets of the plan's input i come from
@@ -26,8 +26,9 @@ IsOrigin p i origin =
 
 -- The input gave these packets, of a source that had these bytes to give at first.
 pub record HasGiven {R : Type 0} (remaining : R → Option (List ℕ)) (p : PlanValue) (i : ℕ) (start : Option (List ℕ)) (x : SerialInput R) (given : List Stamped) : Type 0 where
-  pub origin : IsOrigin p i x.origin
-  pub read : (bytes : List ℕ) × Consumes start (remaining x.source) bytes × HasRead remaining p x bytes given
+  pub origin : IsOrigin p i x.reader.origin
+  pub limit : x.reader.stream.items.limit ≡ 3154116608
+  pub read : (bytes : List ℕ) × Consumes start (remaining x.reader.stream.source) bytes × HasRead remaining p x.reader bytes given
 
 -- What stopped an input, if anything, came of the input: the run didn't leave it, and had memory for it.
 pub record IsOwnStop (stopped : Option Stop) : Type 0 where
@@ -39,8 +40,8 @@ pub record IsOwnStop (stopped : Option Stop) : Type 0 where
 pub record Feeds {R : Type 0} (remaining : R → Option (List ℕ)) (p : PlanValue) (h : List Event) (i : ℕ) (start : Option (List ℕ)) (x : SerialInput R) : Type 0 where
   pub given : HasGiven remaining p i start x (taken i h)
   pub closed : x.is_closed ≡ is_closed i h
-  pub over : x.is_closed ≡ true → IsDone x
-  pub own : IsOwnStop x.report.stopped
+  pub over : x.is_closed ≡ true → IsSpent x.reader
+  pub own : IsOwnStop x.reader.report.stopped
 
 -- the packets that an input gives, as far as the bytes of its source are known
 abbrev pub packet_list : PlanValue → ℕ → Option InputValue → Option (Option (List ℕ)) → List Stamped
@@ -58,7 +59,7 @@ AreKnown starts = (i : ℕ) (start : Option (List ℕ)) → slice_get starts i �
 
 -- nothing stopped the inputs so far
 abbrev pub AreUnstopped : {R : Type 0} → List (SerialInput R) → Type 0
-AreUnstopped {R} inputs = (i : ℕ) (x : SerialInput R) → slice_get inputs i ≡ Some x → x.report.stopped ≡ None
+AreUnstopped {R} inputs = (i : ℕ) (x : SerialInput R) → slice_get inputs i ≡ Some x → x.reader.report.stopped ≡ None
 
 -- the event is one of the input
 abbrev pub IsOfInput : ℕ → Event → Type 0
@@ -79,10 +80,16 @@ turns_left i h =
 
 -- the input holds a packet of the stream
 abbrev pub Holds : {R : Type 0} → ℕ → Stream → SerialInput R → Type 0
-Holds i st x = (item : Stamped) × (x.held ≡ Some item) × (is_mapped_to st i item ≡ true)
+Holds i st x = (item : Stamped) × (x.reader.held ≡ Some item) × (is_mapped_to st i item ≡ true)
 
 -- The item that the input held was taken of it, or is still held, where the queue of its stream was found full.
 abbrev pub IsGivenOrHeld : {R : Type 0} → History → History → ℕ → SerialInput R → SerialInput R → Stamped → Type 0
 IsGivenOrHeld before after i old new item =
-    ((after ≡ with_event before (Took i item)) × (new ≡ record old { held = None }))
+    ((after ≡ with_event before (Took i item)) × (new ≡ record old { reader = record old.reader { held = None } }))
     ⊎ ((st : Stream) × (after ≡ with_event before (Full i st)) × (new ≡ old) × (is_mapped_to st i item ≡ true))
+
+-- the failures of all inputs are told
+abbrev pub AllTellFailures : {R : Type 0} → (R → ℕ) → List ℕ → List (SerialInput R) → Type 0
+AllTellFailures {R} failures befores inputs =
+    (i : ℕ) (x : SerialInput R) (before : ℕ) → slice_get inputs i ≡ Some x → slice_get befores i ≡ Some before
+    → TellsFailures failures before x.reader

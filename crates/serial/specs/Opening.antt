@@ -3,13 +3,13 @@ use Rattle.std.specs.Prelude.{◌≡◌, ℕ, List, [], length, Option, Some}
 use Rattle.std.specs.List.{slice_get}
 use Rattle.plan.specs.Build.{PlanValue}
 use Rattle.serial.specs.Feeding.{Feeds}
-use Rattle.serial.specs.InputReading.{TellsFailures}
+use Rattle.reading.specs.PacketReading.{TellsFailures}
 use Rattle.serial.specs.declared.serial_input.SerialInput.{SerialInput}
 
 -- the plan's input i is to be read from the reader
 pub record IsOpened {R : Type 0} (remaining : R → Option (List ℕ)) (failures : R → ℕ) (p : PlanValue) (i : ℕ) (reader : R) (x : SerialInput R) : Type 0 where
   pub feeds : Feeds remaining p [] i (remaining reader) x
-  pub told : TellsFailures failures (failures reader) x
+  pub told : TellsFailures failures (failures reader) x.reader
 
 -- each input is to be read from the reader at its place
 pub record AreOpened {R : Type 0} (remaining : R → Option (List ℕ)) (failures : R → ℕ) (p : PlanValue) (readers : List R) (inputs : List (SerialInput R)) : Type 0 where

@@ -3,7 +3,7 @@ use Rattle.std.specs.Prelude.{ℕ, ◌<◌, ◌≤◌, List, [], ◌∷◌, leng
 use Rattle.tspkt.specs.declared.stamped.Stamped.{Stamped}
 use Rattle.tspkt.specs.Framed.{framed}
 use Rattle.plan.specs.Build.{PlanValue}
-use Rattle.serial.specs.Takeable.{OriginValue, takeable}
+use Rattle.reading.specs.Takeable.{OriginValue, takeable}
 
 -- none comes before this time, and none before one that stands before it
 abbrev pub ComeFrom : ℕ → List Stamped → Type 0

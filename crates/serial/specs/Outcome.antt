@@ -15,15 +15,15 @@ use Rattle.mux.specs.Totals.{IsTotals, IsCounts}
 use Rattle.mux.specs.Lawful.{IsLawfulRun}
 use Rattle.mux.specs.Headline.{IsSound}
 use Rattle.mux.specs.Faithful.{IsFaithful, IsFinished}
-use Rattle.serial.specs.Failures.{FailsOnce}
-use Rattle.serial.specs.Takeable.{takeable, origin_of, CountsItems}
-use Rattle.serial.specs.InputReading.{BeginsTakeable}
+use Rattle.reading.specs.Failures.{FailsOnce}
+use Rattle.reading.specs.Takeable.{takeable, origin_of, CountsItems}
+use Rattle.reading.specs.PacketReading.{BeginsTakeable}
 use Rattle.serial.specs.Feeding.{AreKnown, packet_lists}
 use Rattle.serial.specs.Running.{AreBegun}
 use Rattle.serial.specs.Ending.{ArePeaks}
 use Rattle.serial.specs.Written.{SendsBeginning}
 use Rattle.serial.specs.Sending.{bytes_of}
-use Rattle.serial.specs.declared.report.Stop.TheVariants.{Gate, Memory, ReadFailed, TooMuch}
+use Rattle.reading.specs.declared.stop.Stop.TheVariants.{Gate, Memory, ReadFailed, TooMuch}
 use Rattle.serial.specs.declared.summary.InputSummary.{InputSummary}
 use Rattle.serial.specs.declared.summary.Summary.{Summary}
 

@@ -8,7 +8,7 @@ use Rattle.plan.specs.Build.{PlanValue}
 use Rattle.mux.specs.declared.event.Event.{Event}
 use Rattle.mux.specs.History.{Run, slots, taken, emitted}
 use Rattle.mux.specs.Lawful.{IsDone}
-use Rattle.serial.specs.Takeable.{takeable, origin_of}
+use Rattle.reading.specs.Takeable.{takeable, origin_of}
 use Rattle.mux.specs.Faithful.{IsFaithful}
 use Rattle.serial.specs.Feeding.{Feeds, AreKnown, AreUnstopped, packet_lists, turns_left}
 use Rattle.serial.specs.Sending.{HasAnalysed}

@@ -5,10 +5,10 @@ ghost use Rattle.mux.specs.Totals.{IsCounts};
 ghost use Rattle.serial.specs.Ending.{AreReported, ArePeaks};
 
 use crate::serial_input::SerialInput;
-use crate::source::Source;
 use crate::summary::{InputSummary, Summary};
 use mux::{Mux, Peak};
 use plan::Plan;
+use reading::Source;
 use std::alloc::{AllocError, Global};
 
 /// What became of each input, and what it was read from. An input that wasn't closed is left.
@@ -25,10 +25,10 @@ pub(crate) fn end_inputs<R: Source + Drop>(
     for mut input in inputs {
         input.leave();
         summaries.push(InputSummary {
-            report: input.report(),
+            report: input.reader.report(),
             totals: mux.totals(summaries.len()),
         })?;
-        sources.push(input.into_source())?;
+        sources.push(input.reader.into_source())?;
     }
     Ok((summaries, sources))
 }

@@ -8,14 +8,14 @@ ghost use Rattle.mux.specs.Answers.{IsLeastUnready};
 ghost use Rattle.mux.specs.Faithful.{IsFaithful};
 ghost use Rattle.tspkt.specs.declared.stamped.Stamped.{Stamped as GivenPacket};
 ghost use Rattle.request.specs.declared.stream.Stream.{Stream};
-ghost use Rattle.serial.specs.Feeding.{Feeds, AreKnown, AreUnstopped, packet_lists, IsOfInput, MayBeTaken, Holds, IsGivenOrHeld, turns_left};
+ghost use Rattle.serial.specs.Feeding.{Feeds, AreKnown, AreUnstopped, packet_lists, IsOfInput, MayBeTaken, Holds, IsGivenOrHeld, AllTellFailures, turns_left};
 ghost use Rattle.serial.specs.Running.{AreFed};
-ghost use Rattle.serial.specs.InputReading.{TellsFailures, AllTellFailures};
+ghost use Rattle.reading.specs.PacketReading.{TellsFailures};
 
 use crate::serial_input::SerialInput;
-use crate::source::Source;
 use mux::{Mux, Offered};
 use plan::Plan;
+use reading::Source;
 use std::alloc::AllocError;
 
 /// Gives the multiplex the next packet of an input that it waits for, or closes the input where there is none. A packet
@@ -33,16 +33,16 @@ pub(crate) fn pull<R: Source>(
     requires feeds { (start : Option (List ℕ)) × Feeds R.remaining plan.now mux.old.events number start input.old }
     ensures feeds { OnOk result ((start : Option (List ℕ)) → Feeds R.remaining plan.now mux.old.events number start input.old
         → Feeds R.remaining plan.now mux.new.events number start input.new) }
-    ensures going { OnOk result (input.new.report.stopped ≡ None → input.old.report.stopped ≡ None) }
+    ensures going { OnOk result (input.new.reader.report.stopped ≡ None → input.old.reader.report.stopped ≡ None) }
     ensures noted { OnOk result ((st : Stream) → mux.new ≡ with_event mux.old (Event.Full number st)
         → Holds number st input.new) }
     ensures event { OnOk result ((e : Event) × (mux.new ≡ with_event mux.old e) × IsOfInput number e) }
     ensures fewer { OnOk result (turns_left number mux.new.events < turns_left number mux.old.events) }
-    ensures failures { OnOk result ((before : ℕ) → TellsFailures R.failures before input.old
-        → TellsFailures R.failures before input.new) }
+    ensures failures { OnOk result ((before : ℕ) → TellsFailures R.failures before input.old.reader
+        → TellsFailures R.failures before input.new.reader) }
     ensures err { OnErr result (mux.new ≡ mux.old) }
 {
-    if input.find(plan, piece)? {
+    if input.reader.find(plan, piece)? {
         give(mux, number, input)
     } else {
         close(mux, number, input)
@@ -93,7 +93,7 @@ fn close<R: Source>(
     ensures err { OnErr result (mux.new ≡ mux.old) }
 {
     mux.close(number)?;
-    input.close();
+    input.is_closed = true;
     Ok(())
 }
 
@@ -104,17 +104,17 @@ fn give<R: Source>(
     input: &mut SerialInput<R>,
 ) -> Result<(), AllocError>
     requires number { number < length mux.old.run.plan.request.inputs }
-    requires may { (item : GivenPacket) × (input.old.held ≡ Some item)
+    requires may { (item : GivenPacket) × (input.old.reader.held ≡ Some item)
         × MayBeTaken mux.old.run.plan mux.old.events number item }
     requires noted { full_noted number mux.old.events ≡ false }
-    ensures ok { OnOk result ((item : GivenPacket) → input.old.held ≡ Some item
+    ensures ok { OnOk result ((item : GivenPacket) → input.old.reader.held ≡ Some item
         → IsGivenOrHeld mux.old mux.new number input.old input.new item) }
     ensures err { OnErr result (mux.new ≡ mux.old) }
 {
-    let stamped = input.held().unwrap();
+    let stamped = input.reader.held().unwrap();
     match mux.offer(number, stamped) {
         Offered::Taken => {
-            input.release();
+            input.reader.release();
             Ok(())
         }
         Offered::Full => Ok(()),

@@ -32,7 +32,7 @@ impl Model for PacketWriter {
 impl PacketWriter {
     ghost use Rattle.std.specs.Prelude.{◌≡◌, ◌≤◌, ◌+◌, ◌++◌, ◌↔◌, List, ℕ, [], length, IsTrue, OnOk, OnErr, IfOk};
     ghost use Rattle.std.specs.Io.KnownBytes.{Appends};
-    ghost use Rattle.serial.specs.Failures.{FailsOnce};
+    ghost use Rattle.reading.specs.Failures.{FailsOnce};
     ghost use Rattle.serial.specs.Written.{Sends, SendsBeginning};
 
     /// One with nothing in its buffer.
@@ -103,7 +103,7 @@ impl PacketWriter {
 
 ghost use Rattle.std.specs.Prelude.{◌≡◌, OnOk, OnErr};
 ghost use Rattle.std.specs.Io.KnownBytes.{Appends};
-ghost use Rattle.serial.specs.Failures.{FailsOnce};
+ghost use Rattle.reading.specs.Failures.{FailsOnce};
 ghost use Rattle.serial.specs.Written.{SendsBeginning};
 
 /// Writes all of these bytes, in as many writes as it takes.

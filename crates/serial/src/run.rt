@@ -4,7 +4,7 @@ ghost use Rattle.std.specs.Prelude.{◌≡◌, ◌≤◌, ℕ, List, length, map
 ghost use Rattle.mux.specs.declared.event.Event.{Event};
 ghost use Rattle.mux.specs.History.{emitted};
 ghost use Rattle.mux.specs.Headline.{IsSound};
-ghost use Rattle.serial.specs.Failures.{FailsOnce};
+ghost use Rattle.reading.specs.Failures.{FailsOnce};
 ghost use Rattle.serial.specs.Written.{SendsBeginning};
 ghost use Rattle.serial.specs.Sending.{bytes_of};
 ghost use Rattle.serial.specs.Running.{AreBegun};
@@ -13,9 +13,9 @@ ghost use Rattle.serial.specs.Outcome.{HasRun, HasBegun, FailuresAreTold};
 use crate::run_fault::RunFault;
 use crate::serial_run::SerialRun;
 use crate::sink::Sink;
-use crate::source::Source;
 use crate::summary::Summary;
 use plan::Plan;
+use reading::Source;
 use std::alloc::Global;
 
 /// Runs a plan in one thread: reads one reader an input, and writes the packet of each slot, at most so many slots (0 to

@@ -7,10 +7,10 @@ use crate::run_fault::RunFault;
 use crate::serial_input::SerialInput;
 use crate::sink::Sink;
 use crate::slot_writer::SlotWriter;
-use crate::source::Source;
 use crate::summary::Summary;
 use mux::{Mux, Sending};
 use plan::Plan;
+use reading::Source;
 use std::alloc::{AllocError, Global};
 
 /// How many bytes are read at once, at most.
@@ -30,13 +30,12 @@ impl<R: Source + Drop> SerialRun<R> {
     ghost use Rattle.std.specs.Prelude.{◌≡◌, ◌<◌, ◌≤◌, ◌++◌, ℕ, List, [], Option, Ok, Err, true, false, length, map, IfOk, OnOk, OnErr};
     ghost use Rattle.mux.specs.History.{Run, slots, emitted};
     ghost use Rattle.std.specs.Io.KnownBytes.{Appends};
-    ghost use Rattle.serial.specs.Failures.{FailsOnce};
-    ghost use Rattle.serial.specs.InputReading.{AllTellFailures};
+    ghost use Rattle.reading.specs.Failures.{FailsOnce};
     ghost use Rattle.serial.specs.Written.{Sends, SendsBeginning};
     ghost use Rattle.serial.specs.Sending.{bytes_of};
     ghost use Rattle.mux.specs.Headline.{IsSound};
     ghost use Rattle.mux.specs.Totals.{IsCounts};
-    ghost use Rattle.serial.specs.InputReading.{AllTellFailures};
+    ghost use Rattle.serial.specs.Feeding.{AllTellFailures};
     ghost use Rattle.serial.specs.Ending.{AreReported, ArePeaks};
     ghost use Rattle.serial.specs.Running.{IsRunning, IsOver, AreBegun, steps_left};
 

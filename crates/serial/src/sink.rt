@@ -8,7 +8,7 @@ pub trait Sink {
     ghost use Rattle.std.specs.Prelude.{Option, List, ℕ, ◌≡◌, ◌<◌, length, OnOk, OnErr, IfOk};
     ghost use Rattle.std.specs.Io.{WritesAtMost};
     ghost use Rattle.std.specs.Io.KnownBytes.{WriteAppends};
-    ghost use Rattle.serial.specs.Failures.{FailsOnce};
+    ghost use Rattle.reading.specs.Failures.{FailsOnce};
 
     // The bytes that were written, where they are known.
     ghost contents: { Self → Option (List ℕ) };

@@ -20,7 +20,7 @@ pub(crate) struct SlotWriter {
 impl SlotWriter {
     ghost use Rattle.std.specs.Prelude.{◌≡◌, ◌∷◌, ◌++◌, ℕ, List, [], Err, IfOk, OnOk, OnErr};
     ghost use Rattle.std.specs.Io.KnownBytes.{Appends};
-    ghost use Rattle.serial.specs.Failures.{FailsOnce};
+    ghost use Rattle.reading.specs.Failures.{FailsOnce};
     ghost use Rattle.serial.specs.Written.{Sends, SendsBeginning};
     ghost use Rattle.serial.specs.Sending.{HasAnalysed};
 

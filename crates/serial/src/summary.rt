@@ -1,7 +1,7 @@
 //! What became of a run.
 
-use crate::report::Report;
 use mux::{Counts, Peak, Totals};
+use reading::Report;
 
 /// What became of one input of a run.
 #[derive(Clone, Copy, Debug, PartialEq, Eq)]

@@ -1,7 +1,6 @@
-//! Inputs and outputs over memory, and devices that fail at each of their calls in turn.
+//! Outputs over memory, and a writer that fails at each of its calls in turn.
 
-mod devices;
-mod inputs;
+mod device;
 mod outputs;
 
 use tspkt::Packet;

@@ -1,5 +1,5 @@
 -- The numbers that byteorder reads are the fields of the bits.
-use Rattle.std.proofs.Common.{◌≡◌, ℕ, zero, suc, ◌+◌, ◌-◌, ◌*◌, ◌/◌, ◌%◌, ◌^◌, ◌<◌, ◌≤◌, List, slice_index, refl, sym, ◌∙◌, ap, arith}
+use Rattle.std.proofs.Common.{◌≡◌, ℕ, zero, suc, ◌+◌, ◌*◌, ◌^◌, ◌<◌, List, slice_index, refl, sym, ◌∙◌, ap, arith}
 use Rattle.byteorder.proofs.Bytes.{pow256}
 use Rattle.byteorder.specs.Endian.{big_from}
 use Rattle.tspkt.specs.Bits.{field}

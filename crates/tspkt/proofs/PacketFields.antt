@@ -1,6 +1,6 @@
 -- Each field of a packet, by its bytes.
-use Rattle.std.proofs.Common.{◌≡◌, ℕ, ◌+◌, ◌-◌, ◌*◌, ◌/◌, ◌%◌, ◌^◌, ◌<◌, ◌≤◌, List, get_or, refl, sym, ◌∙◌, ap, arith}
-use Rattle.tspkt.specs.Bits.{bit, field}
+use Rattle.std.proofs.Common.{◌≡◌, ℕ, ◌+◌, ◌*◌, ◌/◌, ◌%◌, List, get_or, refl, arith}
+use Rattle.tspkt.specs.Bits.{field}
 use Rattle.tspkt.proofs.BitLaws.{field_in_byte, field_byte, field_and_byte, field_split}
 
 pub sync_at : (p : List ℕ) → field p 0 8 ≡ get_or p 0 0 % 256

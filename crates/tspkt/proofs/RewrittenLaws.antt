@@ -1,15 +1,15 @@
 -- What a packet that was put on another PID and later in time keeps, and what it has instead.
-use Rattle.std.proofs.Common.{◌≡◌, ◌≢◌, ◌⊎◌, inl, inr, ℕ, zero, suc, ◌+◌, ◌-◌, ◌*◌, ◌/◌, ◌%◌, ◌^◌, ◌<◌, ◌≤◌, List, [], ◌∷◌, ◌++◌, get_or, length, take, drop, refl, sym, ◌∙◌, ap, arith, Option, Some, None, Bool, true, false, option_map, ⊎_elim, cond, if◌then◌else◌, length-append, replicate}
+use Rattle.std.proofs.Common.{◌≡◌, ◌≢◌, ℕ, zero, suc, ◌+◌, ◌-◌, ◌*◌, ◌/◌, ◌%◌, ◌^◌, ◌<◌, ◌≤◌, List, ◌∷◌, ◌++◌, get_or, length, take, drop, refl, sym, ◌∙◌, ap, arith, Some, None, true, false, option_map, ⊎_elim, length-append, replicate}
 use Rattle.std.proofs.lemmas.Bool.{cases_lt, cases_eq, cases_Bool}
 use Rattle.std.proofs.lemmas.Bool.Decides.{nat_tests}
-use Rattle.std.proofs.lemmas.List.{append_assoc, take_at, get_or_append_left, get_or-append_right, get_or-drop, get_or-take, length-take-le, length-drop, ext_get_or}
+use Rattle.std.proofs.lemmas.List.{append_assoc, take_at, get_or_append_left, get_or-append_right, get_or-drop, get_or-take, length-take-le, length-drop}
 use Rattle.std.proofs.lemmas.Slice.{drop-append-drop}
 use Rattle.byteorder.specs.Endian.{big_bytes}
 use Rattle.tspkt.specs.Bits.{bit, field}
-use Rattle.tspkt.specs.Packet.{IsPacket, fault_of, has_bad_adaptation, pid_of, pcr_flag_of, has_adaptation_field_of, adaptation_field_length_of, adaptation_field_control_of, pcr_of, pcr_base_of, pcr_extension_of, pcr_modulus, null_packet}
+use Rattle.tspkt.specs.Packet.{IsPacket, fault_of, has_bad_adaptation, pid_of, pcr_flag_of, has_adaptation_field_of, adaptation_field_length_of, pcr_of, pcr_base_of, pcr_extension_of, pcr_modulus, null_packet}
 use Rattle.tspkt.specs.Rewritten.{with_bytes, with_pid, with_pcr, with_later_pcr, rewritten, IsOutsidePidAndPcr}
-use Rattle.tspkt.proofs.BitLaws.{bit_same, field_fits}
-use Rattle.tspkt.proofs.PacketFields.{sync_at, flags_at, pid_at, control_at, adaptation_at, length_at, pcr_flag_at, base_at, reserved_at, extension_at, payload_at}
+use Rattle.tspkt.proofs.BitLaws.{bit_same}
+use Rattle.tspkt.proofs.PacketFields.{sync_at, flags_at, pid_at, control_at, adaptation_at, length_at, pcr_flag_at, base_at, reserved_at, extension_at}
 
 -- an accepted adaptation field ends within the packet
 pub adaptation_fits : (p : List ℕ) → fault_of p ≡ None → has_adaptation_field_of p ≡ true → adaptation_field_length_of p ≤ 183

@@ -4,5 +4,6 @@ pub mod Counters
 pub mod Rewritten
 pub mod Counted
 pub mod Stamps
+pub mod PositionClock
 pub mod Framed
 pub mod Stepping

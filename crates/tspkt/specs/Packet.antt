@@ -1,6 +1,6 @@
 -- The fields of a transport stream packet of 188 bytes: ISO/IEC 13818-1, 2.4.3.2 and 2.4.3.3 (the packet),
 -- 2.4.3.4 and 2.4.3.5 (the adaptation field).
-use Rattle.std.specs.Prelude.{◌≡◌, ℕ, ◌+◌, ◌*◌, ◌<◌, ◌≤◌, ◌==◌, nat_le, nat_lt, ◌∷◌, ◌++◌, [], Bool, true, ◌&&◌, ◌||◌, not, if◌then◌else◌, List, drop, length, replicate, slice_index, Option, Some, None}
+use Rattle.std.specs.Prelude.{◌≡◌, ℕ, ◌+◌, ◌*◌, ◌<◌, ◌==◌, nat_le, nat_lt, ◌∷◌, ◌++◌, [], Bool, ◌&&◌, ◌||◌, not, if◌then◌else◌, List, drop, length, replicate, slice_index, Option, Some, None}
 use Rattle.tspkt.specs.Bits.{field}
 use Rattle.tspkt.specs.declared.malformed.Malformed.{Malformed}
 use Rattle.tspkt.specs.declared.malformed.Malformed.TheVariants.{BadSync, ReservedControl, BadAdaptation}

@@ -1,7 +1,7 @@
 -- A packet that is sent on another PID and later by a delay: ISO/IEC 13818-1, 2.4.3.3 (the PID's place) and
 -- 2.4.3.5 (the PCR's: base 33 bits, reserved 6, extension 9). That a delay is added to the PCR, and that nothing
 -- else changes, is profile.
-use Rattle.std.specs.Prelude.{◌≡◌, ℕ, ◌+◌, ◌*◌, ◌/◌, ◌%◌, ◌^◌, ◌<◌, ◌≤◌, true, List, length, take, drop, ◌++◌, Option, Some, None}
+use Rattle.std.specs.Prelude.{◌≡◌, ℕ, ◌+◌, ◌*◌, ◌/◌, ◌%◌, ◌^◌, ◌≤◌, true, List, length, take, drop, ◌++◌, Option, Some, None}
 use Rattle.byteorder.specs.Endian.{big_bytes}
 use Rattle.tspkt.specs.Bits.{field}
 use Rattle.tspkt.specs.Packet.{pcr_flag_of, pcr_of, pcr_modulus}

@@ -14,12 +14,16 @@ const STRIDE: usize = 188;
 /// The most bytes that are kept between two pieces: four packets.
 const KEPT: usize = 752;
 
-/// The most bytes of one stream: 16,777,216 packets.
+/// The most bytes of one stream where no other limit is given: 16,777,216 packets.
 const LIMIT: u64 = 3_154_116_608;
+
+/// The greatest limit of the bytes of one stream: 2^47.
+pub const MAX_LIMIT: u64 = 140_737_488_355_328;
 
 /// Finds the packets of a stream that comes in pieces (ISO/IEC 13818-1, 2.4.3.2; ETSI TR 101 290, 5.2.1).
 ///
-/// Each item is told as early as the bytes decide it. Between two pieces at most 752 bytes are kept, in a fixed array.
+/// A packet is told by the feed that brings its last byte or the fifth sync byte, whichever comes later; other items may
+/// come later than the bytes that decide them. Between two pieces at most 752 bytes are kept, in a fixed array.
 #[derive(Drop)]
 pub struct Framer {
     stride: usize,
@@ -49,20 +53,30 @@ impl Model for Framer {
 }
 
 impl Framer {
-    ghost use Rattle.std.specs.Prelude.{◌≡◌, List, ℕ, [], ◌+◌, ◌<◌, ◌↔◌, ◌++◌, length, OnOk, OnErr, IfErr, Err};
+    ghost use Rattle.std.specs.Prelude.{◌≡◌, List, ℕ, [], ◌+◌, ◌<◌, ◌≤◌, ◌↔◌, ◌++◌, length, vec_len, vec_capacity, OnOk, OnErr, IfErr, Err};
     ghost use Rattle.tspkt.specs.Stepping.{IsWaiting};
     ghost use Rattle.tspkt.specs.Framed.{new_framer, seen, still_to_tell, packets_of, framed, TakesPiece, IsFramedSoFar};
 
     /// A framer that has seen nothing, for a stream of packets of 188 bytes, at most 3,154,116,608 bytes in all.
-    #[tactic(auto, unfolding(crate::specs::Framed::framed_from))]
     pub fn new() -> Framer
         ensures state { result ≡ new_framer 188 LIMIT }
         ensures framed { IsFramedSoFar result [] [] }
         ensures prompt { packets_of (still_to_tell result []) ≡ [] }
     {
+        Framer::with_limit(LIMIT)
+    }
+
+    /// The same for a stream of at most so many bytes in all, of which there may be up to 140,737,488,355,328.
+    #[tactic(auto, unfolding(crate::specs::Framed::framed_from))]
+    pub fn with_limit(limit: u64) -> Framer
+        requires { limit ≤ MAX_LIMIT }
+        ensures state { result ≡ new_framer 188 limit }
+        ensures framed { IsFramedSoFar result [] [] }
+        ensures prompt { packets_of (still_to_tell result []) ≡ [] }
+    {
         Framer {
             stride: STRIDE,
-            limit: LIMIT,
+            limit,
             position: 0,
             mode: Mode::Hunting(0),
             kept: [0; KEPT],
@@ -73,7 +87,8 @@ impl Framer {
     /// Takes the next piece of the stream, and tells all items that it decides, behind those of `out`.
     ///
     /// A packet is told by the feed that brings its last byte or the fifth sync byte, whichever comes later.
-    /// `TooMuch` comes exactly where the stream would pass its limit, `Memory` where there is no memory for the items.
+    /// `TooMuch` comes exactly where the stream would pass its limit, `Memory` where there is no memory for the items: only
+    /// where `out` has less room than there are bytes kept and in the piece, and never at an empty piece.
     /// Either changes nothing: the framer and `out` are as they were.
     #[tactic(auto, using(crate::proofs::FramingLaws::no_packet_kept))]
     pub fn feed(&mut self, piece: &[u8], out: &mut Vec<Item>) -> Result<(), FeedFault>
@@ -83,6 +98,9 @@ impl Framer {
         ensures prompt { OnOk result (packets_of (still_to_tell self.new []) ≡ []) }
 
         ensures too_much { (result ≡ Err FeedFault.TooMuch) ↔ (self.old.limit < seen self.old + length piece.now) }
+        ensures room { result ≡ Err FeedFault.Memory
+            → vec_capacity out.old < vec_len out.old + length self.old.kept + length piece.now }
+        ensures piece { result ≡ Err FeedFault.Memory → 0 < length piece.now }
         ensures err { OnErr result ((self.new ≡ self.old) × (out.new.items ≡ out.old.items)) }
     {
         self.take_piece(piece, out)
@@ -93,10 +111,16 @@ impl Framer {
         ensures ok { OnOk result (TakesPiece self.old piece.now out.old.items self.new out.new.items) }
         ensures waits { OnOk result (IsWaiting self.new.stride self.new.mode self.new.kept) }
         ensures too_much { (result ≡ Err FeedFault.TooMuch) ↔ (self.old.limit < seen self.old + length piece.now) }
+        ensures room { result ≡ Err FeedFault.Memory
+            → vec_capacity out.old < vec_len out.old + length self.old.kept + length piece.now }
+        ensures piece { result ≡ Err FeedFault.Memory → 0 < length piece.now }
         ensures err { OnErr result ((self.new ≡ self.old) × (out.new.items ≡ out.old.items)) }
     {
         if piece.len() as u64 > self.limit - self.position - self.count as u64 {
             return Err(FeedFault::TooMuch);
+        }
+        if piece.is_empty() {
+            return Ok(());
         }
         let before = out.len();
         let kept = self.kept;
@@ -117,10 +141,12 @@ impl Framer {
         }
     }
 
-    /// Ends the stream, and tells the items that are left behind those of `out`. An `Err` is want of memory: it tells
-    /// nothing and hands the framer back as it was.
+    /// Ends the stream, and tells the items that are left behind those of `out`. An `Err` is want of memory: it comes only
+    /// where `out` has no room, tells nothing and hands the framer back as it was.
     pub fn finish(self, out: &mut Vec<Item>) -> Result<(), (Framer, AllocError)>
         ensures ok { OnOk result (out.new.items ≡ out.old.items ++ still_to_tell self []) }
+        ensures room { OnErr result (vec_capacity out.old ≤ vec_len out.old) }
+        ensures left { OnErr result (0 < length (still_to_tell self [])) }
         ensures err { IfErr result (λ back. (back.0 ≡ self) × (out.new.items ≡ out.old.items)) }
     {
         let end = self.position + self.count as u64;

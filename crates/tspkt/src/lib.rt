@@ -3,8 +3,8 @@
 //! `Packet` is 188 bytes that meet the standard's layout, with a reader for each field that the multiplex uses.
 //! `rewrite` puts a packet on another PID and later in time, `follows` judges its continuity counter, and `Framer`
 //! finds the packets in a stream of bytes that comes in pieces. `time` gives the time of a byte in a stream of
-//! constant rate, in ticks of 27 MHz. Nothing here knows of tables or plans, and but for the items that a framer
-//! tells nothing takes memory.
+//! constant rate, in ticks of 27 MHz, and `PositionClock` that of each packet in turn. Nothing here knows of tables
+//! or plans, and but for the items that a framer tells nothing takes memory.
 #![tactic(auto)]
 
 mod counters;
@@ -16,6 +16,7 @@ mod item;
 mod malformed;
 mod mode;
 mod packet;
+mod position_clock;
 mod stamped;
 mod stepping;
 #[cfg(test)]
@@ -24,9 +25,10 @@ mod window;
 
 pub use counters::follows;
 pub use feed_fault::FeedFault;
-pub use framer::Framer;
+pub use framer::{Framer, MAX_LIMIT};
 pub use framing::{frame, frame_so_far};
 pub use item::Item;
 pub use malformed::Malformed;
 pub use packet::{NULL_PID, PCR_MODULUS, Packet, null, rewrite};
+pub use position_clock::{HIGHEST_RATE, LOWEST_RATE, PositionClock};
 pub use stamped::{Stamped, time};

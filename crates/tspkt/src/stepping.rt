@@ -1,6 +1,6 @@
 //! The steps of framing.
 
-ghost use Rattle.std.specs.Prelude.{◌≡◌, ◌+◌, ◌-◌, ◌<◌, ◌≤◌, ◌^◌, ◌++◌, length, take, drop, IfOk, OnOk, OnErr, IfSome, Ok, None};
+ghost use Rattle.std.specs.Prelude.{◌≡◌, ◌+◌, ◌-◌, ◌<◌, ◌≤◌, ◌^◌, ◌++◌, length, take, drop, vec_len, vec_capacity, IfOk, OnOk, OnErr, IfSome, Ok, None};
 ghost use Rattle.tspkt.specs.Framed.{lost};
 ghost use Rattle.tspkt.specs.Stepping.{told_of_last, told_at_end, TellsSame, IsWaiting};
 
@@ -13,6 +13,10 @@ use std::alloc::AllocError;
 fn tell_lost(from: u64, place: u64, out: &mut Vec<Item>) -> Result<(), AllocError>
     ensures ok { OnOk result (out.new.items ≡ out.old.items ++ lost from place) }
     ensures err { OnErr result (out.new.items ≡ out.old.items) }
+    ensures few { vec_len out.new ≤ vec_len out.old + 1 }
+    ensures capacity { vec_capacity out.old ≤ vec_capacity out.new }
+    ensures room { OnErr result (vec_capacity out.old ≤ vec_len out.old) }
+    ensures left { OnErr result (from < place) }
 {
     if from < place {
         out.push(Item::Lost(place - from))?;
@@ -38,6 +42,9 @@ fn step_hunting(
     ensures goes { IfOk result (λ r. IfSome r (λ next. (at < next.0)
         × TellsSame stride base window.now out.old.items (Mode.Hunting from) at out.new.items next.1 next.0)) }
     ensures kept { take (length out.old.items) out.new.items ≡ out.old.items }
+    ensures few { IfOk result (λ r. IfSome r (λ next. vec_len out.new + at ≤ vec_len out.old + next.0)) }
+    ensures capacity { vec_capacity out.old ≤ vec_capacity out.new }
+    ensures room { OnErr result (vec_capacity out.old + at < vec_len out.old + length window.now) }
 {
     if window.len() - at <= 4 * stride {
         return Ok(None);
@@ -70,6 +77,9 @@ fn step_synced(
     ensures goes { IfOk result (λ r. IfSome r (λ next. (at < next.0)
         × TellsSame stride base window.now out.old.items (Mode.Synced skip) at out.new.items next.1 next.0)) }
     ensures kept { take (length out.old.items) out.new.items ≡ out.old.items }
+    ensures few { IfOk result (λ r. IfSome r (λ next. vec_len out.new + at ≤ vec_len out.old + next.0)) }
+    ensures capacity { vec_capacity out.old ≤ vec_capacity out.new }
+    ensures room { OnErr result (vec_capacity out.old + at < vec_len out.old + length window.now) }
 {
     let left = window.len() - at;
     if skip > 0 {
@@ -115,6 +125,9 @@ fn step(
     ensures goes { IfOk result (λ r. IfSome r (λ next. (at < next.0)
         × TellsSame stride base window.now out.old.items mode at out.new.items next.1 next.0)) }
     ensures kept { take (length out.old.items) out.new.items ≡ out.old.items }
+    ensures few { IfOk result (λ r. IfSome r (λ next. vec_len out.new + at ≤ vec_len out.old + next.0)) }
+    ensures capacity { vec_capacity out.old ≤ vec_capacity out.new }
+    ensures room { OnErr result (vec_capacity out.old + at < vec_len out.old + length window.now) }
 {
     match mode {
         Mode::Hunting(from) => step_hunting(stride, base, window, at, from, out),
@@ -137,6 +150,7 @@ pub fn advance(
         TellsSame stride base window.now out.old.items mode 0 out.new.items next.1 next.0) }
     ensures waits { IfOk result (λ next. IsWaiting stride next.1 (drop next.0 window.now)) }
     ensures kept { take (length out.old.items) out.new.items ≡ out.old.items }
+    ensures room { OnErr result (vec_capacity out.old < vec_len out.old + length window.now) }
 {
     let mut at = 0;
     let mut mode = mode;
@@ -152,6 +166,8 @@ fn tell_last(place: u64, end: u64, out: &mut Vec<Item>) -> Result<(), AllocError
     requires { place ≤ end }
     ensures ok { OnOk result (out.new.items ≡ out.old.items ++ told_of_last place (end - place)) }
     ensures err { OnErr result (out.new.items ≡ out.old.items) }
+    ensures room { OnErr result (vec_capacity out.old ≤ vec_len out.old) }
+    ensures left { OnErr result (0 < length (told_of_last place (end - place))) }
 {
     if end == place {
         return Ok(());
@@ -169,6 +185,8 @@ pub fn tell_end(mode: Mode, place: u64, end: u64, out: &mut Vec<Item>) -> Result
     requires { place ≤ end }
     ensures ok { OnOk result (out.new.items ≡ out.old.items ++ told_at_end mode place (end - place)) }
     ensures err { OnErr result (out.new.items ≡ out.old.items) }
+    ensures room { OnErr result (vec_capacity out.old ≤ vec_len out.old) }
+    ensures left { OnErr result (0 < length (told_at_end mode place (end - place))) }
 {
     match mode {
         Mode::Hunting(from) => tell_lost(from, end, out),

@@ -2,6 +2,7 @@
 
 mod counting;
 mod framing;
+mod positions;
 mod reading;
 mod rewriting;
 

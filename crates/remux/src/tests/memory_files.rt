@@ -3,7 +3,8 @@
 use crate::commands::command;
 use crate::files::Files;
 use crate::tests::devices::{TestReader, TestWriter};
-use serial::{ReadSource, WriteSink};
+use reading::ReadSource;
+use serial::WriteSink;
 use std::alloc::{AllocError, Global};
 use std::str;
 

@@ -1,6 +1,6 @@
 //! Packets that are written through a buffer.
 
-use super::devices::TestWriter;
+use super::device::TestWriter;
 use super::packet;
 use crate::{PacketWriter, WriteSink};
 use std::alloc::Global;

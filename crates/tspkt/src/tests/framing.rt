@@ -157,3 +157,31 @@ fn faults_have_texts(rt: HostRuntime) -> Result<(), Fail> {
     assert_eq!(rt; memory.as_str(), "no memory");
     Ok(())
 }
+
+#[test]
+fn an_empty_piece_wants_no_memory(rt: HostRuntime) -> Result<(), Fail> {
+    let alloc = rt.alloc();
+    let mut items = Vec::new(alloc);
+    let mut framer = Framer::new();
+    feed(&mut framer, stream(alloc, &ROWS[0])?.as_slice(), &mut items)?;
+    items.shrink_to_fit();
+    framer.feed(&[], &mut items)?;
+    assert_eq!(rt; items.len(), 0);
+    Ok(())
+}
+
+#[test]
+fn a_stream_to_its_limit(rt: HostRuntime) -> Result<(), Fail> {
+    let alloc = rt.alloc();
+    let mut items = Vec::new(alloc);
+    let mut framer = Framer::with_limit(940);
+    feed(&mut framer, stream(alloc, &ROWS[1])?.as_slice(), &mut items)?;
+    assert_eq!(rt; framer.feed(&[0; 188], &mut items), Err(FeedFault::TooMuch));
+    feed(&mut framer, &[0xAA; 187], &mut items)?;
+    assert!(rt; finish(framer, &mut items));
+    assert_eq!(rt;
+        text(alloc, &items)?.as_str(),
+        "packet 0;packet 188;packet 376;packet 564;packet 752;"
+    );
+    Ok(())
+}

@@ -18,9 +18,9 @@ loop-input-preserved g c =
     let T : List g.row.R.Denot → Type 0 = λ v. AreReported p h (l.yielded ++ x ∷ []) (l.summaries.items ++ summary ∷ []) v in
     subst S (sym c.in_ok-push.ensures.items) (subst T (sym c.in_ok-push-2.ensures.items)
     (reported_push p h l.yielded l.summaries.items l.sources.items x summary c.into_source.result l.invariant
-    (c.into_source.ensures ∙ ap (λ v. v.source) c.leave.ensures.stays) (subst P place c.totals.ensures)
+    (c.into_source.ensures ∙ c.leave.ensures.source) (subst P place c.totals.ensures)
     (record {
       left = λ opened free. c.report.ensures.value ∙ c.leave.ensures.gate opened free;
-      closed = λ e. c.report.ensures.value ∙ ap (λ v. v.report) (c.leave.ensures.closed e);
-      stopped = λ some. c.report.ensures.value ∙ ap (λ v. v.report) (c.leave.ensures.stopped some);
+      closed = λ e. c.report.ensures.value ∙ ap (λ v. v.reader.report) (c.leave.ensures.closed e);
+      stopped = λ some. c.report.ensures.value ∙ ap (λ v. v.reader.report) (c.leave.ensures.stopped some);
     })))

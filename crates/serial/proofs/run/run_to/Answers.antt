@@ -51,7 +51,7 @@ returns-clause-readers g c =
     let starts = map g.R.Source.remaining c.args.readers.items in
     let is = c.in_ok-driven.ensures.runs run starts c.in_ok-run.ensures.running in
     let inputs = c.drive-driven.new.self.inputs.items in
-    let source : SerialInput g.row.R.Denot → g.row.R.Denot = λ x. x.source in
+    let source : SerialInput g.row.R.Denot → g.row.R.Denot = λ x. x.reader.stream.source in
     omega (arith, ap length c.in_ok-finish.ensures.inputs.sources_are, length-map inputs source, is.fed.count, c.requires.readers)
 
 pub returns-clause-read_failed : goal.returns-clause-read_failed

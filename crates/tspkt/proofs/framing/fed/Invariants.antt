@@ -1,4 +1,4 @@
-use Rattle.std.proofs.Common.{◌≡◌, ◌≤◌, ℕ, List, [], ◌++◌, length, drop, take}
+use Rattle.std.proofs.Common.{◌≡◌, ◌≤◌, [], length, take}
 use Rattle.std.specs.List.{flat_map}
 use Rattle.tspkt.specs.Framed.{IsFramedSoFar, seen, packets_of, still_to_tell}
 use Rattle.tspkt.proofs.framing.fed.Given as goal

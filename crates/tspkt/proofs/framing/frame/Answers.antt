@@ -1,4 +1,4 @@
-use Rattle.std.proofs.Common.{◌≡◌, ap, subst, sym, ◌∙◌, All}
+use Rattle.std.proofs.Common.{ap, subst, sym, ◌∙◌, All}
 use Rattle.std.specs.List.{flat_map, sum_by}
 use Rattle.tspkt.specs.Framed.{covered, IsAtItsPlace, ExactOnPackets}
 use Rattle.tspkt.proofs.FramingLaws.{whole_framed}

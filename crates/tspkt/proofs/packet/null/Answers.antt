@@ -1,4 +1,4 @@
-use Rattle.std.proofs.Common.{◌≡◌, refl}
+use Rattle.std.proofs.Common.{refl}
 use Rattle.tspkt.specs.Packet.{null_packet}
 use Rattle.tspkt.proofs.RewrittenLaws.{is_packet-null_packet}
 use Rattle.tspkt.proofs.packet.null.Goals as goal

@@ -1,6 +1,5 @@
-use Rattle.std.proofs.Common.{◌≡◌, ◌<◌, ℕ, List, subst, Option}
-use Rattle.tspkt.specs.Bits.{bit}
-use Rattle.tspkt.specs.Packet.{IsPacket, pid_of, pcr_of, pcr_extension_of}
+use Rattle.std.proofs.Common.{◌≡◌, ℕ, List, subst, Option}
+use Rattle.tspkt.specs.Packet.{IsPacket, pcr_of}
 use Rattle.tspkt.specs.Rewritten.{rewritten, with_pid, with_later_pcr}
 use Rattle.tspkt.proofs.RewrittenLaws.{is_packet-rewritten, pid_of-rewritten, pcr_of-rewritten, pcr_extension_of-rewritten, bit-rewritten}
 use Rattle.tspkt.proofs.packet.rewrite.Goals as goal

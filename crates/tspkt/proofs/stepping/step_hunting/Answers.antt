@@ -1,4 +1,4 @@
-use Rattle.std.proofs.Common.{arith, ◌≡◌, sym, refl, ◌∙◌}
+use Rattle.std.proofs.Common.{arith, sym, refl, ◌∙◌}
 use Rattle.tspkt.proofs.FramingLaws.{goes_on, goes_acquired}
 use Rattle.tspkt.proofs.stepping.step_hunting.Goals as goal
 

@@ -1,7 +1,7 @@
 use Rattle.std.proofs.Common.{◌≡◌, ℕ, List, Option}
 use Rattle.mux.specs.History.{Run, emitted}
 use Rattle.serial.specs.Written.{Sends}
-use Rattle.serial.specs.InputReading.{AllTellFailures}
+use Rattle.serial.specs.Feeding.{AllTellFailures}
 use Rattle.serial.specs.Sending.{bytes_of}
 use Rattle.serial.specs.Running.{IsRunning, steps_left}
 use Rattle.serial.proofs.serial_run.SerialRun.drive.Given as goal

@@ -1,4 +1,4 @@
-use Rattle.std.proofs.Common.{arith, rules, ◌≡◌, ◌≤◌, ◌-◌, ◌*◌, length, drop}
+use Rattle.std.proofs.Common.{arith, drop}
 use Rattle.std.proofs.lemmas.List.{length-drop}
 use Rattle.tspkt.proofs.FramingLaws.{waiting_short}
 use Rattle.tspkt.proofs.framer.Framer.take_piece.Goals as goal

@@ -1,4 +1,4 @@
-use Rattle.std.proofs.Common.{arith, rules, sym, ◌∙◌}
+use Rattle.std.proofs.Common.{arith, sym, ◌∙◌}
 use Rattle.tspkt.proofs.RewrittenLaws.{adaptation_fits}
 use Rattle.tspkt.proofs.packet.Packet.payload_start.Goals as goal
 

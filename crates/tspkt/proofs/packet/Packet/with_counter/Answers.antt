@@ -1,4 +1,4 @@
-use Rattle.std.proofs.Common.{◌≡◌, ℕ, ◌+◌, ◌*◌, ◌/◌, List, slice_index_or, slice_set, sym, ◌∙◌, ap, subst}
+use Rattle.std.proofs.Common.{ℕ, List, sym, ◌∙◌, ap}
 use Rattle.tspkt.specs.Packet.{IsPacket}
 use Rattle.tspkt.specs.Counted.{with_counter}
 use Rattle.tspkt.proofs.CountedLaws.{written, is_packet-with_counter, continuity_counter_of-with_counter, pid_of-with_counter, payload_of-with_counter, bit-with_counter}

@@ -1,0 +1,5 @@
+pub mod KnownLaws
+pub mod ItemLaws
+pub mod StreamLaws
+pub mod PacketLaws
+pub mod FailureLaws

@@ -1,0 +1,16 @@
+use Rattle.std.proofs.Common.{[], refl, sym, ap, ◌∙◌}
+use Rattle.std.proofs.lemmas.Option.{none-some}
+use Rattle.reading.specs.declared.report.Report.{Report}
+use Rattle.reading.specs.declared.stop.Stop.TheVariants.{ReadFailed}
+use Rattle.reading.proofs.PacketLaws.{fresh_looked}
+use Rattle.reading.proofs.packet_reader.PacketReader.new.Goals as goal
+
+pub returns-clause-read : goal.returns-clause-read
+returns-clause-read g c = λ plan. ([], fresh_looked g.R.Source.remaining plan c.new.result c.new-2.result c.new-3.result c.new-3.ensures c.new-2.ensures.passed)
+
+pub returns-clause-failures : goal.returns-clause-failures
+returns-clause-failures g c = record {
+  unfailed = λ some. ap g.R.Source.failures c.new-2.ensures.source;
+  told = λ e. absurd (none-some ReadFailed (sym (ap (λ (r : Report). r.stopped) c.new-3.ensures) ∙ e));
+  untold = λ f. ap g.R.Source.failures c.new-2.ensures.source;
+}

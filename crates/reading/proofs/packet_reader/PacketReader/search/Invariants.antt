@@ -1,0 +1,16 @@
+use Rattle.std.proofs.Common.{◌≡◌, Some, None}
+use Rattle.reading.specs.declared.stop.Stop.TheVariants.{Memory}
+use Rattle.reading.specs.Items.{left_to_read}
+use Rattle.reading.specs.PacketReading.{ReadsOn, GoesOn}
+use Rattle.reading.proofs.packet_reader.PacketReader.search.Given as goal
+
+abbrev pub invariant-loop-self : goal.invariant-loop-self
+invariant-loop-self g l = record {
+  read : ReadsOn g.R.Source.remaining l.plan l.fn.self l.self;
+  held : l.self.held ≡ None;
+  goes : GoesOn g.R.Source.failures l.fn.self l.self;
+  unrefused : l.self.report.stopped ≡ Some Memory → l.fn.self.report.stopped ≡ Some Memory;
+}
+
+abbrev pub decreases-loop-self : goal.decreases-loop-self
+decreases-loop-self g l = left_to_read l.self.stream.items

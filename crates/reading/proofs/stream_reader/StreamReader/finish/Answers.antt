@@ -1,0 +1,18 @@
+use Rattle.std.proofs.Common.{◌≢◌}
+use Rattle.reading.specs.declared.stop.Stop.TheVariants.{Memory, ReadFailed, TooMuch}
+use Rattle.reading.proofs.StreamLaws.{left_now, finished_passed}
+use Rattle.reading.proofs.stream_reader.StreamReader.finish.Goals as goal
+
+other : Memory ≢ TooMuch
+other e = cc
+
+unfailed : Memory ≢ ReadFailed
+unfailed e = cc
+
+pub returns-in-Ok-clause-read : goal.returns-in-Ok-clause-read
+returns-in-Ok-clause-read g c = λ bytes stopped passed there h.
+    finished_passed c.args.self.now.items c.finish.new.self passed bytes _ stopped c.requires.ahead c.requires.open c.in-Ok.ensures.ok there h
+
+pub returns-in-Err-clause-read : goal.returns-in-Err-clause-read
+returns-in-Err-clause-read g c = λ bytes stopped passed there h.
+    left_now c.args.self.now.items c.finish.new.self passed bytes _ stopped Memory c.in-Err.ensures.err other (λ e. absurd (unfailed e)) h

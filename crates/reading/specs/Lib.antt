@@ -1,0 +1,7 @@
+pub mod Failures
+pub mod Devices
+pub mod Takeable
+pub mod Counting
+pub mod Items
+pub mod StreamReading
+pub mod PacketReading

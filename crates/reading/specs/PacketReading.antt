@@ -1,0 +1,67 @@
+-- What an input has read, and which packets it has given (profile).
+use Rattle.std.specs.Prelude.{◌≡◌, ℕ, ◌<◌, ◌≤◌, List, [], ◌++◌, length, Option, Some, None, IsSome}
+use Rattle.std.specs.Option.{option_to_list}
+use Rattle.std.specs.Io.KnownBytes.{Consumes, IsAtEnd}
+use Rattle.tspkt.specs.Framed.{framed}
+use Rattle.tspkt.specs.declared.item.Item.{Item}
+use Rattle.tspkt.specs.declared.stamped.Stamped.{Stamped}
+use Rattle.plan.specs.Build.{PlanValue}
+use Rattle.reading.specs.Failures.{FailsOnce}
+use Rattle.reading.specs.Takeable.{OriginValue, takeable, CountsItems}
+use Rattle.reading.specs.StreamReading.{HasPassed}
+use Rattle.reading.specs.declared.report.Report.{Report}
+use Rattle.reading.specs.declared.stop.Stop.{Stop}
+use Rattle.reading.specs.declared.stop.Stop.TheVariants.{Gate, ReadFailed}
+use Rattle.reading.specs.declared.stream_reader.StreamReader.{StreamReader}
+use Rattle.reading.specs.declared.packet_reader.PacketReader.{PacketReader}
+
+-- These packets begin what can be taken of the bytes, whatever follows them.
+abbrev pub BeginsTakeable : PlanValue → OriginValue → List ℕ → List Stamped → Type 0
+BeginsTakeable plan origin bytes given =
+    (more : List ℕ) → (later : List Stamped) × (given ++ later ≡ takeable plan origin (framed 188 (bytes ++ more)))
+
+-- These of the items were looked at: those of their packets that can be taken were given, but for one that is held, and
+-- the report counts them.
+pub record HasLooked {R : Type 0} (remaining : R → Option (List ℕ)) (plan : PlanValue) (origin : OriginValue) (stream : StreamReader R) (held : Option Stamped) (report : Report) (bytes : List ℕ) (given : List Stamped) (looked : List Item) : Type 0 where
+  pub passed : HasPassed remaining stream bytes report.stopped looked
+  pub given_is : takeable plan origin looked ≡ given ++ option_to_list held
+  pub counts : CountsItems plan origin looked report
+
+-- The input has read these bytes of its source and has given these packets, of which none is held.
+abbrev pub HasRead : {R : Type 0} → (R → Option (List ℕ)) → PlanValue → PacketReader R → List ℕ → List Stamped → Type 0
+HasRead remaining plan x bytes given =
+    (looked : List Item) × HasLooked remaining plan x.origin x.stream x.held x.report bytes given looked
+
+-- Some bytes more were read of the source, and nothing more was given.
+abbrev pub ReadsOn : {R : Type 0} → (R → Option (List ℕ)) → PlanValue → PacketReader R → PacketReader R → Type 0
+ReadsOn remaining plan old new =
+    (bytes : List ℕ) (given : List Stamped) → HasRead remaining plan old bytes given
+    → (more : List ℕ) × Consumes (remaining old.stream.source) (remaining new.stream.source) more × HasRead remaining plan new (bytes ++ more) given
+
+-- The input's source failed so often before it was read. A failed read is told exactly where it failed once more, and an
+-- input that is still read met none.
+pub record TellsFailures {R : Type 0} (failures : R → ℕ) (before : ℕ) (x : PacketReader R) : Type 0 where
+  pub unfailed : IsSome x.stream.items.framer → failures x.stream.source ≡ before
+  pub told : x.report.stopped ≡ Some ReadFailed → FailsOnce before (failures x.stream.source)
+  pub untold : (x.report.stopped ≡ Some ReadFailed → ⊥) → failures x.stream.source ≡ before
+
+-- The input was read on: failures are told as before, what stopped it before still does, no run's end stopped it now, and it is
+-- of the same origin and limit.
+pub record GoesOn {R : Type 0} (failures : R → ℕ) (old new : PacketReader R) : Type 0 where
+  pub failures_told : (before : ℕ) → TellsFailures failures before old → TellsFailures failures before new
+  pub going : new.report.stopped ≡ None → old.report.stopped ≡ None
+  pub unleft : new.report.stopped ≡ Some Gate → old.report.stopped ≡ Some Gate
+  pub origin : new.origin ≡ old.origin
+  pub limit : new.stream.items.limit ≡ old.stream.items.limit
+
+-- nothing is left to give
+pub record IsSpent {R : Type 0} (x : PacketReader R) : Type 0 where
+  pub framer : x.stream.items.framer ≡ None
+  pub ahead : x.stream.items.ahead ≡ []
+  pub held : x.held ≡ None
+
+-- An input that ended by itself: all packets that can be taken were given, and the report counts all items.
+pub record IsWhole {R : Type 0} (remaining : R → Option (List ℕ)) (plan : PlanValue) (x : PacketReader R) (bytes : List ℕ) (given : List Stamped) : Type 0 where
+  pub given_is : given ≡ takeable plan x.origin (framed 188 bytes)
+  pub counts : CountsItems plan x.origin (framed 188 bytes) x.report
+  pub at_end : IsAtEnd (remaining x.stream.source)

@@ -1,0 +1,224 @@
+//! The packets of an input that a plan names, each with its time.
+
+use crate::classify::classify;
+use crate::origin::Origin;
+use crate::report::Report;
+use crate::source::Source;
+use crate::stop::Stop;
+use crate::stream_reader::StreamReader;
+use plan::Plan;
+use request::Input;
+use std::alloc::{AllocError, Global};
+use tspkt::Stamped;
+
+/// An input: its stream, when its packets come, the packet that it gives next, and what was found so far.
+#[derive(Drop)]
+pub struct PacketReader<R> {
+    origin: Origin,
+    stream: StreamReader<R>,
+    /// The packet that it gives next, where it was found.
+    held: Option<Stamped>,
+    report: Report,
+}
+
+impl<R: Source> PacketReader<R> {
+    ghost use Rattle.std.specs.Prelude.{◌≡◌, ◌<◌, ◌≤◌, ◌⊎◌, ◌++◌, ℕ, List, [], length, true, false, None, Some, Ok, is_some, option_copied, OnErr, OnOk, IsSome};
+    ghost use Rattle.std.specs.Option.{option_to_list};
+    ghost use Rattle.tspkt.specs.declared.framer.TheConstants.{MAX_LIMIT};
+    ghost use Rattle.tspkt.specs.declared.stamped.Stamped.{Stamped as GivenPacket};
+    ghost use Rattle.request.specs.Request.{IsInput, input_value};
+    ghost use Rattle.plan.specs.Build.{PlanValue};
+    ghost use Rattle.reading.specs.Failures.{FailsOnce};
+    ghost use Rattle.reading.specs.Counting.{nothing_counted};
+    ghost use Rattle.reading.specs.Takeable.{origin_of};
+    ghost use Rattle.reading.specs.Items.{given_up, left_to_read};
+    ghost use Rattle.reading.specs.PacketReading.{HasRead, ReadsOn, GoesOn, TellsFailures, IsSpent, BeginsTakeable, IsWhole};
+
+    /// The input with this number in the plan, of which nothing was read, and of which at most so many bytes may come: up to
+    /// 140,737,488,355,328.
+    pub fn new(
+        alloc: Global,
+        number: usize,
+        input: &Input,
+        source: R,
+        limit: u64,
+    ) -> PacketReader<R>
+        requires input { IsInput (input_value input.now) }
+        requires limit { limit ≤ MAX_LIMIT }
+        ensures read { (plan : PlanValue) → HasRead R.remaining plan result [] [] }
+        ensures origin { result.origin ≡ origin_of number (input_value input.now) }
+        ensures source { result.stream.source ≡ source }
+        ensures limit { result.stream.items.limit ≡ limit }
+        ensures report { result.report ≡ nothing_counted }
+        ensures failures { TellsFailures R.failures (R.failures source) result }
+    {
+        PacketReader {
+            origin: Origin::new(number, input),
+            stream: StreamReader::new(alloc, source, limit),
+            held: None,
+            report: Report::new(),
+        }
+    }
+
+    /// Finds the next packet that the plan names, with its time, and holds it; false is answered where the input has no
+    /// more. It reads pieces of at most the length of `piece` until there is one, and nothing where one is held. An `Err` is
+    /// want of memory, and ends the input.
+    pub fn find(&mut self, plan: &Plan, piece: &mut [u8]) -> Result<bool, AllocError>
+        requires { 0 < length piece.old }
+        ensures read { ReadsOn R.remaining plan.now self.old self.new }
+        ensures goes { GoesOn R.failures self.old self.new }
+        ensures found { result ≡ Ok true → IsSome self.new.held }
+        ensures done { result ≡ Ok false → IsSpent self.new }
+        ensures stays { IsSome self.old.held → self.new ≡ self.old }
+        ensures memory { OnErr result (self.new.report.stopped ≡ Some Stop.Memory) }
+        ensures unrefused { OnOk result (self.new.report.stopped ≡ Some Stop.Memory
+            → self.old.report.stopped ≡ Some Stop.Memory) }
+        ensures failed { self.new.report.stopped ≡ Some Stop.ReadFailed
+            → (self.old.report.stopped ≡ Some Stop.ReadFailed)
+            ⊎ FailsOnce (R.failures self.old.stream.source) (R.failures self.new.stream.source) }
+    {
+        if self.held.is_some() {
+            return Ok(true);
+        }
+        self.search(plan, piece)
+    }
+
+    /// The same of an input that holds none.
+    fn search(&mut self, plan: &Plan, piece: &mut [u8]) -> Result<bool, AllocError>
+        requires piece { 0 < length piece.old }
+        requires held { self.old.held ≡ None }
+        ensures read { ReadsOn R.remaining plan.now self.old self.new }
+        ensures goes { GoesOn R.failures self.old self.new }
+        ensures found { result ≡ Ok true → IsSome self.new.held }
+        ensures done { result ≡ Ok false → IsSpent self.new }
+        ensures memory { OnErr result (self.new.report.stopped ≡ Some Stop.Memory) }
+        ensures unrefused { OnOk result (self.new.report.stopped ≡ Some Stop.Memory
+            → self.old.report.stopped ≡ Some Stop.Memory) }
+    {
+        loop {
+            if self.find_told(plan) {
+                return Ok(true);
+            }
+            if self.stream.is_over() {
+                return Ok(false);
+            }
+            match self.read(piece) {
+                Ok(()) => {}
+                Err(e) => return Err(e),
+            }
+        }
+    }
+
+    /// The same among the items that were told.
+    fn find_told(&mut self, plan: &Plan) -> bool
+        requires { self.old.held ≡ None }
+        ensures read { (bytes : List ℕ) (given : List GivenPacket) → HasRead R.remaining plan.now self.old bytes given
+            → HasRead R.remaining plan.now self.new bytes given }
+        ensures found { result ≡ is_some self.new.held }
+        ensures none { result ≡ false → self.new.stream.items.ahead ≡ [] }
+        ensures origin { self.new.origin ≡ self.old.origin }
+        ensures source { self.new.stream.source ≡ self.old.stream.source }
+        ensures limit { self.new.stream.items.limit ≡ self.old.stream.items.limit }
+        ensures framer { self.new.stream.items.framer ≡ self.old.stream.items.framer }
+        ensures stopped { self.new.report.stopped ≡ self.old.report.stopped }
+    {
+        while let Some(item) = self.stream.peek() {
+            let is_named = classify(
+                plan,
+                &mut self.origin,
+                item,
+                &mut self.held,
+                &mut self.report,
+            );
+            self.stream.pass();
+            if is_named {
+                return true;
+            }
+        }
+        false
+    }
+
+    /// Reads the next piece and frames it, where all items were looked at. A failed read and a stream that is too long
+    /// end the input, and what framing hasn't told is given up.
+    fn read(&mut self, piece: &mut [u8]) -> Result<(), AllocError>
+        requires piece { 0 < length piece.old }
+        requires ahead { self.old.stream.items.ahead ≡ [] }
+        requires open { IsSome self.old.stream.items.framer }
+        ensures read { (plan : PlanValue) → ReadsOn R.remaining plan self.old self.new }
+        ensures goes { GoesOn R.failures self.old self.new }
+        ensures smaller { left_to_read self.new.stream.items < left_to_read self.old.stream.items }
+        ensures memory { OnErr result (self.new.report.stopped ≡ Some Stop.Memory) }
+        ensures unrefused { OnOk result (self.new.report.stopped ≡ Some Stop.Memory
+            → self.old.report.stopped ≡ Some Stop.Memory) }
+        ensures held { self.new.held ≡ self.old.held }
+    {
+        match self.stream.read(piece) {
+            Ok(()) => Ok(()),
+            Err(Stop::Memory) => {
+                self.report.stopped = Some(Stop::Memory);
+                Err(AllocError)
+            }
+            Err(stop) => {
+                self.report.stopped = Some(stop);
+                Ok(())
+            }
+        }
+    }
+
+    /// The packet that it holds: the one that it gives next.
+    pub fn held(&self) -> Option<&Stamped>
+        ensures { option_copied result ≡ self.now.held }
+    {
+        self.held.as_ref()
+    }
+
+    /// Gives the packet that it holds.
+    pub fn release(&mut self)
+        ensures read { (plan : PlanValue) (bytes : List ℕ) (given : List GivenPacket)
+            → HasRead R.remaining plan self.old bytes given
+            → HasRead R.remaining plan self.new bytes (given ++ option_to_list self.old.held) }
+        ensures stays { self.new ≡ record self.old { held = None } }
+    {
+        self.held = None;
+    }
+
+    /// Leaves the input, since the run ends before it, unless it was left for another cause.
+    pub fn leave(&mut self)
+        ensures read { (plan : PlanValue) (bytes : List ℕ) (given : List GivenPacket)
+            → HasRead R.remaining plan self.old bytes given
+            → HasRead R.remaining plan self.new bytes given }
+        ensures gate { self.old.report.stopped ≡ None
+            → self.new.report ≡ record self.old.report { stopped = Some Stop.Gate } }
+        ensures stopped { IsSome self.old.report.stopped → self.new ≡ self.old }
+        ensures source { self.new.stream.source ≡ self.old.stream.source }
+    {
+        if self.report.stopped.is_none() {
+            self.stream.leave();
+            self.report.stopped = Some(Stop::Gate);
+        }
+    }
+
+    /// What was found so far. What was given begins what can be taken, and where nothing is left and nothing stopped the
+    /// input it is all of it, and the report counts all items.
+    pub fn report(&self) -> Report
+        ensures value { result ≡ self.now.report }
+        ensures begins { (plan : PlanValue) (bytes : List ℕ) (given : List GivenPacket)
+            → HasRead R.remaining plan self.now bytes given
+            → BeginsTakeable plan self.now.origin bytes given }
+        ensures whole { (plan : PlanValue) (bytes : List ℕ) (given : List GivenPacket)
+            → HasRead R.remaining plan self.now bytes given → IsSpent self.now
+            → result.stopped ≡ None → IsWhole R.remaining plan self.now bytes given }
+        ensures too_much { (plan : PlanValue) (bytes : List ℕ) (given : List GivenPacket)
+            → HasRead R.remaining plan self.now bytes given
+            → result.stopped ≡ Some Stop.TooMuch → self.now.stream.items.limit < length bytes }
+    {
+        self.report
+    }
+
+    /// What it was read from.
+    pub fn into_source(self) -> R
+        ensures { result ≡ self.stream.source }
+    {
+        self.stream.into_source()
+    }
+}
