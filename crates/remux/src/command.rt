@@ -1,5 +1,7 @@
 //! What the program is asked to do.
 
+use crate::run_length::RunLength;
+
 /// What the program is asked to do, in the words of its command line.
 #[derive(Clone, Copy, Debug, PartialEq, Eq)]
 pub enum Command<'a> {
@@ -9,8 +11,8 @@ pub enum Command<'a> {
         plan: &'a str,
         /// The name of the output file, which is none of those that the run reads.
         out: &'a str,
-        /// The most slots, 1 to 1,000,000.
-        slots: u64,
+        /// How long the run goes on.
+        length: RunLength,
         /// Whether the run uses one thread alone.
         serial: bool,
         /// Whether the largest delay and queue of each stream are told.
@@ -43,7 +45,7 @@ pub enum LineFault {
     Memory,
 }
 
-/// The most slots of a run, and of a watched period.
+/// The most slots of a run that isn't asked to go on until its inputs end, and of a watched period.
 pub(crate) const MOST_SLOTS: u64 = 1_000_000;
 /// The least rate of a stream, in bits a second.
 pub(crate) const LEAST_RATE: u64 = 500_000;

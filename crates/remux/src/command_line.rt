@@ -1,10 +1,11 @@
 //! The words of a command line.
 
 ghost use Rattle.std.specs.Prelude.{◌≡◌, IfOk, IfSome};
-ghost use Rattle.remux.specs.Ranges.{IsWithin, IsAllowed};
+ghost use Rattle.remux.specs.Ranges.{IsWithin, IsAllowedLength, IsAllowed};
 
 use crate::command::{Command, LEAST_RATE, LineFault, MOST_RATE, MOST_SLOTS};
 use crate::options::program;
+use crate::run_length::RunLength;
 use clap::error::ErrorKind;
 use clap::{ArgMatches, Error};
 use std::alloc::Global;
@@ -21,6 +22,17 @@ fn within(number: u64, least: u64, most: u64) -> Option<u64>
     }
 }
 
+/// How long a run is to go on: with `--all` until its inputs end.
+fn length_of(matches: &ArgMatches) -> Option<RunLength>
+    ensures { IfSome result IsAllowedLength }
+{
+    if matches.get_flag("all") {
+        return Some(RunLength::All);
+    }
+    let slots = within(matches.get_one::<u64>("slots")?, 1, MOST_SLOTS)?;
+    Some(RunLength::Slots(slots))
+}
+
 /// The command that was read; none where a value is missing or out of its range, which the parser excludes.
 fn command_of<'a>(name: &str, matches: &ArgMatches<'a>) -> Option<Command<'a>>
     ensures { IfSome result IsAllowed }
@@ -29,7 +41,7 @@ fn command_of<'a>(name: &str, matches: &ArgMatches<'a>) -> Option<Command<'a>>
         "run" => Some(Command::Run {
             plan: matches.get_str("plan")?,
             out: matches.get_str("out")?,
-            slots: within(matches.get_one::<u64>("slots")?, 1, MOST_SLOTS)?,
+            length: length_of(matches)?,
             serial: matches.get_flag("serial"),
             delays: matches.get_flag("delays"),
         }),

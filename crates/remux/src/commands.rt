@@ -1,6 +1,6 @@
 //! Whole commands.
 
-ghost use Rattle.std.specs.Prelude.{◌≡◌, ◌≤◌, length, IfOk};
+ghost use Rattle.std.specs.Prelude.{◌≡◌, ◌^◌, ◌≤◌, length, IfOk};
 
 use crate::command::{Command, LineFault};
 use crate::command_fault::CommandFault;
@@ -9,6 +9,7 @@ use crate::files::Files;
 use crate::first_run;
 use crate::plan_files::{open_inputs, read_plan};
 use crate::printing::{has_failed, print_delays, print_plan, print_summary};
+use crate::run_length::most_slots;
 use crate::stream_analysis::StreamAnalysis;
 use plan::Plan;
 use reading::Source;
@@ -73,12 +74,12 @@ pub fn command<F: Files, O: Write, E: Write, S: AsStr>(
             Command::Run {
                 plan,
                 out: name,
-                slots,
+                length,
                 serial: _,
                 delays,
             },
         ) => {
-            let (writer, ran) = run(alloc, files, plan, name, slots);
+            let (writer, ran) = run(alloc, files, plan, name, most_slots(length));
             let ended = tell_run(alloc, ran, delays, out, err);
             (end(ended, out, err), writer)
         }
@@ -213,7 +214,7 @@ fn run<F: Files>(
     name: &str,
     slots: u64,
 ) -> (Option<F::Writer>, Result<Ran, CommandFault>)
-    requires { slots ≤ 1000000 }
+    requires { slots ≤ 2 ^ 40 }
 {
     match prepare(alloc, files, plan, name) {
         Err(fault) => (None, Err(fault)),
@@ -232,7 +233,7 @@ fn run_prepared<R: Source + Drop, W: Sink>(
     slots: u64,
 ) -> (W, Result<Ran, CommandFault>)
     requires readers { length prepared.readers.items ≡ length prepared.plan.request.inputs }
-    requires slots { slots ≤ 1000000 }
+    requires slots { slots ≤ 2 ^ 40 }
 {
     let Prepared {
         plan,

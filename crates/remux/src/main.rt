@@ -14,6 +14,7 @@ mod first_run;
 mod options;
 mod plan_files;
 mod printing;
+mod run_length;
 mod stream_analysis;
 mod system_files;
 #[cfg(test)]

@@ -14,9 +14,11 @@ const EXAMPLE: &str = "Example, from the top of the repository:
 
 Status: 0 success, 1 analyse told a fault, 2 refused words, 3 refused plan, 4 a file that failed, 5 want of memory.";
 
-const RUN_USAGE: &str = "remux run --plan <F> --out <F> [--slots <N>] [--serial] [--delays]";
+const RUN_USAGE: &str = "remux run --plan <F> --out <F> [--slots <N> | --all] [--serial] [--delays]";
 
 const RUN_EXAMPLE: &str = "It prints a line for each input and one for the output.
+
+With --all the run goes on until its inputs end, whatever its length; it takes no more memory than a short one.
 
 With --delays it prints a line for each stream too, on standard error: the largest delay of its packets \
 in ticks of 27 MHz, and the most packets that waited in its queue. Where the delay grows with the length of the run \
@@ -86,6 +88,11 @@ fn slots<'a>(alloc: Global) -> Arg<'a> {
     number(alloc, "slots", help, 1, MOST_SLOTS).default_value("1000000")
 }
 
+/// The option `--all`, which goes with no `--slots`.
+fn all<'a>(alloc: Global) -> Result<Arg<'a>, AllocError> {
+    flag(alloc, "all", "Go on until the inputs end").conflicts_with("slots")
+}
+
 /// The option `--rate N`.
 fn rate<'a>(alloc: Global) -> Arg<'a> {
     let help = "The rate of the stream in bits a second, 500000 to 100000000";
@@ -118,6 +125,7 @@ fn run_command<'a>(alloc: Global) -> Result<Command<'a>, AllocError> {
         .arg(plan(alloc))?
         .arg(out(alloc))?
         .arg(slots(alloc))?
+        .arg(all(alloc)?)?
         .arg(flag(alloc, "serial", "Use one thread alone"))?
         .arg(flag(
             alloc,

@@ -325,7 +325,7 @@ finished run h within over =
       ]
     ]
 
-faults_exact : (run : Run) (h : List Event) (told : ℕ) → slots h ≤ run.limit → run.limit ≤ 1000000 → told ≡ fault_count run.plan.request.rate run.plan.request.watch (emitted run.plan h)
+faults_exact : (run : Run) (h : List Event) (told : ℕ) → slots h ≤ run.limit → run.limit ≤ 1099511627776 → told ≡ fault_count run.plan.request.rate run.plan.request.watch (emitted run.plan h)
     → told ≡ length (faults run.plan.request.rate run.plan.request.watch (emitted run.plan h))
 faults_exact run h told within few is =
     let bound = few_faults run.plan.request.rate run.plan.request.watch (emitted run.plan h) in
@@ -349,7 +349,7 @@ summary_input remaining p h starts inputs summaries sources fed are i input star
     ]
 
 pub has_run : {R : Type 0} (remaining : R → Option (List ℕ)) (run : Run) (starts : List (Option (List ℕ))) (r : SerialRun R) (before after : Option (List ℕ)) (s : Summary) (sources : List R)
-    → run.limit ≤ 1000000 → IsRunning remaining run starts r → IsOver run r.mux.events → IsSound r.mux → Appends before after (bytes_of (emitted run.plan r.mux.events))
+    → run.limit ≤ 1099511627776 → IsRunning remaining run starts r → IsOver run r.mux.events → IsSound r.mux → Appends before after (bytes_of (emitted run.plan r.mux.events))
     → AreReported r.mux.run.plan r.mux.events r.inputs.items s.inputs.items sources → ArePeaks r.mux.run.plan r.mux.events s.streams.items → IsCounts r.mux.events s.counts → s.faults ≡ r.output.faults
     → HasRun (record { run = run; events = r.mux.events }) starts (map remaining sources) before after s
 has_run remaining run starts r before after s sources few is over sound written reported peaks counts told =

@@ -1,6 +1,6 @@
 //! A whole run.
 
-ghost use Rattle.std.specs.Prelude.{◌≡◌, ◌≤◌, ℕ, List, length, map, Err, IfOk, OnOk, OnErr};
+ghost use Rattle.std.specs.Prelude.{◌≡◌, ◌^◌, ◌≤◌, ℕ, List, length, map, Err, IfOk, OnOk, OnErr};
 ghost use Rattle.mux.specs.declared.event.Event.{Event};
 ghost use Rattle.mux.specs.History.{emitted};
 ghost use Rattle.mux.specs.Headline.{IsSound};
@@ -19,9 +19,9 @@ use reading::Source;
 use std::alloc::Global;
 
 /// Runs a plan in one thread: reads one reader an input, and writes the packet of each slot, at most so many slots (0 to
-/// 1,000,000). It ends where all inputs have ended and nothing waits, or where it has all its slots.
+/// 2^40). It ends where all inputs have ended and nothing waits, or where it has all its slots.
 ///
-/// Memory grows with the slots alone, not with the inputs. The writer comes back, and without a fault the readers too, in
+/// The memory that it takes grows neither with the slots nor with the inputs. The writer comes back, and without a fault the readers too, in
 /// their order, each read as far as the run read it.
 /// `Memory` is answered where memory was refused, and goes before `Write`, which is answered where the writer failed; what
 /// was written is then a beginning of the output. A reader that fails ends its input, and the run goes on.
@@ -32,7 +32,7 @@ pub fn run_serial<R: Source + Drop, W: Sink>(
     readers: Vec<R>,
     writer: W,
 ) -> (W, Result<(Summary, Vec<R>), RunFault>)
-    requires slots { slots ≤ 1000000 }
+    requires slots { slots ≤ 2 ^ 40 }
     requires readers { length readers.items ≡ length plan.request.inputs }
     ensures runs { IfOk result.1 (λ done. (h : List Event)
         × HasRun (record { run = record { plan = plan; limit = slots }; events = h })
@@ -61,7 +61,7 @@ fn run_to<R: Source + Drop, W: Sink>(
     readers: Vec<R>,
     sink: &mut W,
 ) -> Result<(Summary, Vec<R>), RunFault>
-    requires slots { slots ≤ 1000000 }
+    requires slots { slots ≤ 2 ^ 40 }
     requires readers { length readers.items ≡ length plan.request.inputs }
     ensures runs { IfOk result (λ done. (h : List Event)
         × HasRun (record { run = record { plan = plan; limit = slots }; events = h })

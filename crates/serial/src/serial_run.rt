@@ -27,7 +27,7 @@ pub(crate) struct SerialRun<R> {
 }
 
 impl<R: Source + Drop> SerialRun<R> {
-    ghost use Rattle.std.specs.Prelude.{◌≡◌, ◌<◌, ◌≤◌, ◌++◌, ℕ, List, [], Option, Ok, Err, true, false, length, map, IfOk, OnOk, OnErr};
+    ghost use Rattle.std.specs.Prelude.{◌≡◌, ◌^◌, ◌<◌, ◌≤◌, ◌++◌, ℕ, List, [], Option, Ok, Err, true, false, length, map, IfOk, OnOk, OnErr};
     ghost use Rattle.mux.specs.History.{Run, slots, emitted};
     ghost use Rattle.std.specs.Io.KnownBytes.{Appends};
     ghost use Rattle.reading.specs.Failures.{FailsOnce};
@@ -46,7 +46,7 @@ impl<R: Source + Drop> SerialRun<R> {
         slots: u64,
         readers: Vec<R>,
     ) -> Result<SerialRun<R>, AllocError>
-        requires slots { slots ≤ 1000000 }
+        requires slots { slots ≤ 2 ^ 40 }
         requires readers { length readers.items ≡ length plan.request.inputs }
         ensures running { IfOk result (λ r. IsRunning R.remaining (record { plan = plan; limit = slots }) (map R.remaining readers.items) r) }
         ensures new { IfOk result (λ r. r.mux.events ≡ []) }

@@ -16,6 +16,8 @@ const RUN: [&str; 5] = ["run", "--plan", "x.toml", "--out", "out.ts"];
 
 const RUN_SERIAL: [&str; 6] = ["run", "--plan", "x.toml", "--out", "out.ts", "--serial"];
 
+const RUN_ALL: [&str; 6] = ["run", "--plan", "x.toml", "--out", "out.ts", "--all"];
+
 const RUN_THREE_SLOTS: [&str; 7] = ["run", "--plan", "x.toml", "--out", "out.ts", "--slots", "3"];
 
 const CHECK: [&str; 3] = ["check", "--plan", "x.toml"];
@@ -60,6 +62,7 @@ fn prints_its_lines(rt: &impl Abort, alloc: Global, words: &[&str]) -> Result<()
 fn a_run_prints_its_lines(rt: HostRuntime) -> Result<(), Fail> {
     prints_its_lines(&rt, rt.alloc(), &RUN)?;
     prints_its_lines(&rt, rt.alloc(), &RUN_SERIAL)?;
+    prints_its_lines(&rt, rt.alloc(), &RUN_ALL)?;
     Ok(())
 }
 
@@ -117,7 +120,7 @@ fn faults_are_told(rt: HostRuntime) -> Result<(), Fail> {
 #[test]
 fn words_are_judged_first(rt: HostRuntime) -> Result<(), Fail> {
     let alloc = rt.alloc();
-    let refused: [&[&str]; 12] = [
+    let refused: [&[&str]; 13] = [
         &["walk"],
         &["--serial"],
         &["run"],
@@ -125,6 +128,9 @@ fn words_are_judged_first(rt: HostRuntime) -> Result<(), Fail> {
         &["run", "--plan", "x.toml", "--out", "o", "--slots", "0"],
         &[
             "run", "--plan", "x.toml", "--out", "o", "--slots", "1000001",
+        ],
+        &[
+            "run", "--plan", "x.toml", "--out", "o", "--slots", "5", "--all",
         ],
         &["run", "--plan", "x.toml", "--out", "o", "more"],
         &["check"],

@@ -1,0 +1,24 @@
+//! How long a run goes on.
+
+ghost use Rattle.std.specs.Prelude.{◌≡◌};
+ghost use Rattle.remux.specs.Ranges.{IsAllowedLength, most_slots_of};
+
+/// How long a run goes on, if its inputs don't end before.
+#[derive(Clone, Copy, Debug, PartialEq, Eq)]
+pub enum RunLength {
+    /// At most so many slots, 1 to 1,000,000.
+    Slots(u64),
+    /// Until its inputs end: 2^40 slots, a week and more at every rate.
+    All,
+}
+
+/// The most slots of a run of this length.
+pub(crate) fn most_slots(length: RunLength) -> u64
+    requires { IsAllowedLength length }
+    ensures { result ≡ most_slots_of length }
+{
+    match length {
+        RunLength::Slots(slots) => slots,
+        RunLength::All => 1 << 40,
+    }
+}
