@@ -1,9 +1,9 @@
 -- The PMTs of a PID, behind one more slot.
-use Rattle.std.proofs.Common.{◌≡◌, ℕ, ◌+◌, List, [], ◌∷◌, ◌++◌, length, refl, sym, ◌∙◌, ap, subst, Bool, true}
-use Rattle.std.specs.Prelude.{filter_map, if◌then◌else◌}
+use Rattle.std.proofs.Common.{◌≡◌, ℕ, ◌+◌, List, [], ◌∷◌, ◌++◌, length, refl, sym, ◌∙◌, ap, true}
+use Rattle.std.specs.Prelude.{filter_map}
 use Rattle.std.specs.List.{list_any}
 use Rattle.std.proofs.lemmas.List.Elements.{filter_map-append}
-use Rattle.section.specs.Assembled.{AssemblerState, packet_told, assembled}
+use Rattle.section.specs.Assembled.{packet_told, assembled}
 use Rattle.section.specs.declared.told.Told.{Told}
 use Rattle.tables.specs.Pmt.{PmtValue, pmt_of}
 use Rattle.tables.specs.OnPid.{section_in, value_of, packets_on, pmts_on}

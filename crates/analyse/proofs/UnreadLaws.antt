@@ -1,9 +1,9 @@
 -- A begun section that is no PMT, behind one more packet.
-use Rattle.std.proofs.Common.{◌≡◌, ◌≢◌, ℕ, zero, suc, ◌+◌, ◌-◌, ◌/◌, ◌%◌, ◌<◌, ◌≤◌, List, [], ◌∷◌, ◌++◌, length, take, drop, get_or, refl, sym, ◌∙◌, ap, subst, arith, Option, Some, None, Bool, true, false, ◌&&◌, ◌==◌, not, ⊎_elim}
-use Rattle.std.specs.Prelude.{slice_index, nat_lt, filter_map, if◌then◌else◌}
+use Rattle.std.proofs.Common.{◌≡◌, ◌≢◌, ℕ, ◌+◌, ◌-◌, ◌/◌, ◌%◌, ◌<◌, ◌≤◌, List, [], ◌∷◌, ◌++◌, length, take, drop, get_or, refl, sym, ◌∙◌, ap, subst, arith, Option, Some, None, Bool, true, false, ◌&&◌, ◌==◌, not, ⊎_elim}
+use Rattle.std.specs.Prelude.{slice_index, nat_lt, filter_map}
 use Rattle.std.proofs.lemmas.Bool.{cases_Bool, cases_lt, false_from_ne_true, not-false, not-true}
 use Rattle.std.proofs.lemmas.Bool.Decides.{nat_tests, Decides-eqb}
-use Rattle.std.proofs.lemmas.List.{append-nil, length-append, length-take, get_or_append_left, get_or-take}
+use Rattle.std.proofs.lemmas.List.{length-append, length-take, get_or_append_left, get_or-take}
 use Rattle.std.proofs.lemmas.List.Elements.{filter_map-append}
 use Rattle.std.specs.Str.{bytes_eq}
 use Rattle.std.proofs.lemmas.Slice.Eq.{bytes_eq-Decides}
@@ -12,17 +12,16 @@ use Rattle.tspkt.specs.Packet.{has_payload_of, payload_unit_start_indicator_of, 
 use Rattle.tspkt.specs.Counters.{is_equal_but_pcr, is_copy}
 use Rattle.tspkt.proofs.PacketFields.{unit_start_at}
 use Rattle.section.specs.Crc.{crc_of}
-use Rattle.section.specs.Section.{section_length_of, is_too_long, is_whole, first_section}
+use Rattle.section.specs.Section.{section_length_of, first_section}
 use Rattle.section.specs.Assembled.{Reading, nothing, collected, told_of_whole, sections_from, ending, cut, followed_by, has_pointer, payload_told, AssemblerState, Step, fresh, packet_told, is_repeat, is_discontinuous, read_with}
 use Rattle.section.specs.declared.told.Told.{Told}
-use Rattle.section.specs.declared.told.Told.TheVariants.{Section, BadCrc, TooLong, Cut}
 use Rattle.section.proofs.SectionLaws.{section_length_of-append}
 use Rattle.section.proofs.CollectLaws.{is_too_long-fits, is_whole-true, is_whole-partial, collected_whole, collected_begun}
 use Rattle.section.proofs.SectionsLaws.{ending-begun, sections_begun}
 use Rattle.section.proofs.FoundLaws.{and_left, and_right, packet_skipped, packet_broken, packet_read}
 use Rattle.section.proofs.FoundAgainLaws.{payload_ending}
-use Rattle.tables.specs.Header.{header_of, body_of}
-use Rattle.tables.specs.Pmt.{PmtValue, pmt_of, pmt_behind_header}
+use Rattle.tables.specs.Header.{header_of}
+use Rattle.tables.specs.Pmt.{PmtValue, pmt_of}
 use Rattle.tables.specs.OnPid.{section_in, value_of}
 use Rattle.analyse.specs.ToldPmts.{pmts_in}
 use Rattle.analyse.specs.UnreadSections.{Lacks, UnreadState, IsUnread, has_start, IsBetween, IsReadAsFirst, IsPassed, IsReadAnew, is_next}

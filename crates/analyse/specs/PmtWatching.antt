@@ -1,5 +1,5 @@
 -- What a watch of the PMTs of one PID knows of the slots so far, and what the watches of all PIDs do.
-use Rattle.std.specs.Prelude.{◌≡◌, ℕ, ◌==◌, Bool, ◌&&◌, not, List, [], Option, Some, None, option_map, map, filter, find, reverse, slice_index_or}
+use Rattle.std.specs.Prelude.{◌≡◌, ℕ, ◌==◌, ◌&&◌, not, List, [], Option, Some, None, option_map, map, filter, find, reverse, slice_index_or}
 use Rattle.std.specs.Global.{Box}
 use Rattle.section.specs.Assembled.{AssemblerState, fresh}
 use Rattle.tables.specs.Pmt.{PmtValue}

@@ -6,12 +6,13 @@ ghost use Rattle.analyse.specs.SlotReading.{IsReadAs};
 ghost use Rattle.analyse.specs.Analysed.{IsWatching};
 
 use crate::fault::Fault;
-use crate::stream_watch::{StreamWatch, read_slot};
+use crate::stream_watch::StreamWatch;
 use std::alloc::{AllocError, Global};
 use std::marker::Model;
 use tspkt::Packet;
 
 /// Makes the watches, which see the first slot. They are large, and made here so that no other call keeps room for them.
+#[inline(never)]
 fn see_first(
     alloc: Global,
     rate: u64,
@@ -124,8 +125,10 @@ impl Analyser {
         ensures refused { OnErr result (self.new.is_refused ≡ true) }
         ensures stays { self.old.is_refused ≡ true → IsErr result }
     {
-        let packet = read_slot(slot);
-        self.see(slot, packet.as_ref(), out)
+        match Packet::read(slot) {
+            Ok(packet) => self.see(slot, Some(&packet), out),
+            Err(_) => self.see(slot, None, out),
+        }
     }
 
     /// The same of a slot that carries this packet.

@@ -44,13 +44,6 @@ fn next_count(count: u64) -> Result<u64, AllocError>
     }
 }
 
-/// The slot as a packet, where it is one.
-pub(crate) fn read_slot(slot: &[u8; 188]) -> Option<Packet>
-    ensures { IsReadAs slot.now result }
-{
-    Packet::read(slot).ok()
-}
-
 /// The packet's PID; 0 where there is none.
 fn pid_of(packet: Option<&Packet>) -> u16
     ensures { result ≡ pid_or_zero (option_map (λ p. p.now) packet.entry) }

@@ -49,6 +49,7 @@ fn packet_if(is_mark: bool, packet: Option<&Packet>) -> Option<&Packet>
 
 /// Sees a number of slots at which the PIDs of the PMTs are watched that these rows name. The set of them is large, and
 /// made here so that no other call keeps room for it.
+#[inline(never)]
 fn change_pmts(gaps: &mut GapWatches, next: u64, rows: &[PatRow], pmt: Option<&Packet>)
     ensures { HasChanged gaps.old gaps.new (is_pmt_pid_of rows.now) next (option_map (λ p. p.now) pmt.entry) }
 {
@@ -56,6 +57,7 @@ fn change_pmts(gaps: &mut GapWatches, next: u64, rows: &[PatRow], pmt: Option<&P
 }
 
 /// The same of the PIDs to which the PMTs of these rows refer.
+#[inline(never)]
 fn change_pids(
     gaps: &mut GapWatches,
     next: u64,

@@ -1,7 +1,6 @@
-use Rattle.std.proofs.Common.{◌≡◌, ◌==◌, false, length, sym, ◌∙◌, ap}
+use Rattle.std.proofs.Common.{◌≡◌, ◌==◌, length, sym, ◌∙◌, ap}
 use Rattle.std.specs.Prelude.{not}
 use Rattle.section.specs.Assembled.{AssemblerState}
-use Rattle.analyse.specs.PmtAssembling.{StandsFor}
 use Rattle.analyse.proofs.UnreadLaws.{between_anew, rest_anew}
 use Rattle.analyse.proofs.pmt_assembly.PmtAssembly.goes_on.Goals as goal
 

@@ -1,6 +1,5 @@
-use Rattle.std.proofs.Common.{◌≡◌, false, sym, ◌∙◌, ap, subst}
-use Rattle.section.specs.Assembled.{AssemblerState, Step}
-use Rattle.section.specs.declared.told.Told.{Told}
+use Rattle.std.proofs.Common.{sym, ◌∙◌, ap, subst}
+use Rattle.section.specs.Assembled.{Step}
 use Rattle.section.proofs.FoundLaws.{packet_none}
 use Rattle.analyse.specs.ToldPmts.{pmts_in}
 use Rattle.analyse.specs.PmtAssembling.{StandsFor}

@@ -1,4 +1,4 @@
-use Rattle.std.proofs.Common.{◌≡◌, ◌+◌, List, ℕ, drop, slice_index, sym, ◌∙◌, ap}
+use Rattle.std.proofs.Common.{◌+◌, List, ℕ, drop, slice_index, sym, ◌∙◌, ap}
 use Rattle.section.specs.Assembled.{has_pointer, Step}
 use Rattle.analyse.specs.ToldPmts.{pmts_in}
 use Rattle.analyse.proofs.UnreadLaws.{begun_first, unread_first}

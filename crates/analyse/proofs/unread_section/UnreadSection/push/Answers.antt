@@ -1,8 +1,5 @@
-use Rattle.std.proofs.Common.{◌≡◌, ◌-◌, true, false, length, sym, ◌∙◌, ap, arith, subst}
-use Rattle.tspkt.specs.Packet.{payload_of}
-use Rattle.section.specs.Assembled.{packet_told}
-use Rattle.analyse.specs.ToldPmts.{pmts_in}
-use Rattle.analyse.specs.UnreadSections.{UnreadState, IsUnread}
+use Rattle.std.proofs.Common.{◌-◌, length, sym, ◌∙◌, ap, arith}
+use Rattle.analyse.specs.UnreadSections.{UnreadState}
 use Rattle.analyse.proofs.UnreadLaws.{copied, grown, not_next, ended}
 use Rattle.analyse.proofs.unread_section.UnreadSection.push.Goals as goal
 
