@@ -14,7 +14,8 @@ const EXAMPLE: &str = "Example, from the top of the repository:
 
 Status: 0 success, 1 analyse told a fault, 2 refused words, 3 refused plan, 4 a file that failed, 5 want of memory.";
 
-const RUN_USAGE: &str = "remux run --plan <F> --out <F> [--slots <N> | --all] [--serial] [--delays]";
+const RUN_USAGE: &str =
+    "remux run --plan <F> --out <F> [--slots <N> | --all] [--serial] [--delays]";
 
 const RUN_EXAMPLE: &str = "It prints a line for each input and one for the output.
 
