@@ -128,20 +128,18 @@ fn a_run_ends_with_its_slots(rt: HostRuntime) {
 #[test]
 fn each_packet_is_given_again(rt: HostRuntime) {
     let mut mux = opens_recorded(rt.alloc(), 64, 0).expect(&rt, "a multiplex");
-    for k in 0..5 {
-        assert!(rt; matches!(&mux.take(0, item(&rt, k, 0)), Taken::Ok));
-    }
+    assert!(rt; matches!(&mux.take(0, item(&rt, 0, 0)), Taken::Ok));
+    assert!(rt; matches!(&mux.take(0, item(&rt, 1, 0)), Taken::Ok));
     assert!(rt; mux.close(0).is_ok());
-    for slot in 0..8 {
-        assert_eq!(rt; mux.mux().slots(), slot);
-        let Slot::Sent(packet) = mux.slot() else {
-            assert!(rt; false);
-            return;
-        };
-        let again = mux.emitted(slot);
-        assert_eq!(rt; again.bytes().as_slice(), packet.bytes().as_slice());
+    for _ in 0..4 {
+        assert!(rt; matches!(&mux.slot(), Slot::Sent(_)));
     }
-    assert!(rt; matches!(&mux.slot(), Slot::Done));
+    let slots = mux.mux().slots();
+    assert_eq!(rt; slots, 4);
+    let again = mux.emitted(1);
+    assert_eq!(rt; (again.pid(), again.counter()), (0x0200, 0));
+    let table = mux.emitted(2);
+    assert!(rt; is_filled(Some(&table), &PMT));
 }
 
 /// The packet that went out last is lent; none before the first slot.
