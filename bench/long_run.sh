@@ -1,14 +1,16 @@
 #!/usr/bin/env bash
 # Runs the job of remux.sh over inputs that are repeated 24 times, until they end: some 20,000,000 slots. It prints the run's
-# own line of slots, the seconds that it took and its peak memory. The inputs take 4.5 GB while it runs, the output nothing.
-# REMUX names another program than the built one.
+# own line of slots, the seconds that it took and its peak memory. Then it runs it again, and plain.c beside it, which makes
+# the same multiplex with none of our code, and says whether their bytes are equal, by their sums. The inputs take 4.5 GB while
+# it runs, the outputs nothing. REMUX names another program than the built one.
 set -euo pipefail
 cd "$(dirname "${BASH_SOURCE[0]}")"
 program=${REMUX:-$PWD/../remux}
 folder=$PWD/data/remux
 [ -s "$folder/job.toml" ] || ./make_inputs.sh "$folder"
+cc -O2 -o "$folder/plain" plain.c
 cd "$folder"
-trap 'rm -f long_?.ts long.toml' EXIT
+trap 'rm -f long_?.ts long.toml plain pipe.ts' EXIT
 for input in 0 1 2 3; do
     for _ in $(seq 24); do cat "input_$input.ts"; done > "long_$input.ts"
 done
@@ -27,3 +29,15 @@ if status:
 print(text.splitlines()[-1])
 print("%.1f seconds, %d MB" % (seconds, usage.ru_maxrss // 1024))
 PY
+
+# The sum of the bytes that a command writes to the pipe.
+mkfifo pipe.ts
+sum() {
+    sha256sum < pipe.ts &
+    "$@" > /dev/null
+    wait $!
+}
+ours=$(sum "$program" run --plan long.toml --out pipe.ts --all)
+plain=$(sum ./plain long.toml pipe.ts)
+[ "$ours" = "$plain" ] || { echo "the bytes aren't the plain program's"; exit 1; }
+echo "the bytes are the plain program's: ${ours%% *}"

@@ -1,39 +1,59 @@
 #!/usr/bin/env bash
 # Makes the multiplex of 4 inputs with 8 services at 38 Mbit/s, 900,000 slots, and the same streams at the same rate with
 # `ffmpeg -c copy`, and copies the inputs with `cat`, in turn, three times or TURNS times. Each line: which, packets, packets
-# a second, and peak memory. The last lines are the ratios of the best times. REMUX names another program than the built one.
+# a second, and peak memory. The last lines are the ratios of the best times, and whether the bytes are those of plain.c, which
+# makes the same multiplex with none of our code. REMUX names another program than the built one, and BEFORE one to be measured
+# beside it.
 set -euo pipefail
 cd "$(dirname "${BASH_SOURCE[0]}")"
 program=${REMUX:-$PWD/../remux}
 [ -n "${REMUX:-}" ] || (cd ../crates/remux && rt run > /dev/null 2>&1)
 folder=$PWD/data/remux
 [ -s "$folder/job.toml" ] || ./make_inputs.sh "$folder"
+cc -O2 -o "$folder/plain" plain.c
 cd "$folder"
+trap 'rm -f plain out.ts' EXIT
 cat input_?.ts > /dev/null
-python3 - "$program" "${TURNS:-3}" <<'PY'
-import os, subprocess, sys, time
+python3 - "$program" "${TURNS:-3}" "${BEFORE:-}" <<'PY'
+import hashlib, os, subprocess, sys, time
 
+run = ["run", "--plan", "job.toml", "--out", "out.ts", "--slots", "900000"]
 inputs = ["input_%d.ts" % k for k in range(4)]
 maps = [word for k in range(4) for word in ("-map", str(k))]
 ffmpeg = ["ffmpeg", "-hide_banner", "-loglevel", "error", "-y", *[w for name in inputs for w in ("-i", name)], *maps]
 jobs = {
-    "remux": ([sys.argv[1], "run", "--plan", "job.toml", "--out", "out.ts", "--slots", "900000"], ["out.ts"]),
-    "ffmpeg": ([*ffmpeg, "-c", "copy", "-f", "mpegts", "-muxrate", "38000000", "out.ts"], ["out.ts"]),
-    "cat": (["sh", "-c", "cat input_?.ts > out.ts"], ["out.ts"]),
+    "remux": [sys.argv[1], *run],
+    "before": [sys.argv[3], *run],
+    "ffmpeg": [*ffmpeg, "-c", "copy", "-f", "mpegts", "-muxrate", "38000000", "out.ts"],
+    "cat": ["sh", "-c", "cat input_?.ts > out.ts"],
 }
-best = {}
+if not sys.argv[3]:
+    del jobs["before"]
+
+
+def digest():
+    with open("out.ts", "rb") as file:
+        return hashlib.file_digest(file, "sha256").hexdigest()
+
+
+best, ours = {}, None
 for turn in range(int(sys.argv[2])):
-    for name, (words, outputs) in jobs.items():
+    for name, words in jobs.items():
         start = time.perf_counter()
         child = subprocess.Popen(words, stdout=subprocess.DEVNULL)
         _, status, usage = os.wait4(child.pid, 0)
         seconds = time.perf_counter() - start
         if status:
             sys.exit("%s: status %d" % (name, status))
-        packets = sum(os.path.getsize(output) for output in outputs) // 188
+        packets = os.path.getsize("out.ts") // 188
         best[name] = max(best.get(name, 0), packets / seconds)
         print("%s: %d packets, %d a second, %d MB" % (name, packets, packets / seconds, usage.ru_maxrss // 1024))
+        ours = digest() if name == "remux" else ours
         os.remove("out.ts")
-print("remux is %.2f times ffmpeg" % (best["remux"] / best["ffmpeg"]))
-print("remux is %.2f times cat" % (best["remux"] / best["cat"]))
+for name in list(jobs)[1:]:
+    print("remux is %.2f times %s" % (best["remux"] / best[name], name))
+subprocess.run(["./plain", "job.toml", "out.ts", "900000"], check=True, stdout=subprocess.DEVNULL)
+if ours != digest():
+    sys.exit("its bytes aren't the plain program's")
+print("its bytes are the plain program's")
 PY

@@ -10,7 +10,7 @@ use Rattle.tables.specs.OnPid.{value_of, pat_section_of, pat_sections, pmts_on}
 use Rattle.tables.specs.Pat.{PatValue}
 use Rattle.tables.specs.Pmt.{PmtValue, pmt_of}
 use Rattle.tables.specs.declared.pat_row.PatRow.{PatRow}
-use Rattle.acquire.specs.Findings.{or_later, first_complete, pat_found, behind_pat_from, behind_pat, pmt_pid_of, first_pmt_on, pmt_found}
+use Rattle.acquire.specs.Findings.{or_later, first_complete, pat_found, behind_pat_from, behind_pat, is_row_of_program, pmt_pid_of, first_pmt_on, pmt_found}
 use Rattle.acquire.specs.Reading.{ReaderState, reader_on, reader_step, reader_behind, sections_in}
 use Rattle.acquire.specs.Taken.{FirstTableState, HasTaken}
 use Rattle.acquire.specs.Seen.{is_pmt_of, pmts_in, pmt_finder_on, pmt_told, pmt_finder_behind, places_behind, pmt_finder_begun, pmt_finder_of}
@@ -206,7 +206,7 @@ pid_or (Some r) p = refl
 
 pid_append : (program : ℕ) (rows more : List PatRow) → pmt_pid_of program (rows ++ more) ≡ or_later (pmt_pid_of program rows) (pmt_pid_of program more)
 pid_append program rows more =
-    let test = λ (r : PatRow). r.program_number == program in
+    let test = is_row_of_program program in
     ap (option_map (λ (r : PatRow). r.pid)) (find-append test rows more) ∙ pid_or (find test rows) (find test more)
 
 pub pid_step : (program : ℕ) (pats : List PatValue) (i : ℕ) (d : PatValue) → i < length pats

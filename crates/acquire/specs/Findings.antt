@@ -1,7 +1,7 @@
 -- What acquisition finds in the packets of an input: the first complete PAT, behind it the first current PMT of each
 -- wanted program, and the first complete SDT. The tables and their PIDs are those of ISO/IEC 13818-1, 2.4.4, and
 -- EN 300 468, 5.1.3; which of their sections count is profile. Packets stand in the order in which they came.
-use Rattle.std.specs.Prelude.{ℕ, ◌==◌, Bool, true, ◌&&◌, ◌||◌, if◌then◌else◌, List, [], ◌∷◌, ◌++◌, length, map, Option, Some, None, is_some, option_map, option_and_then, find}
+use Rattle.std.specs.Prelude.{ℕ, ◌==◌, Bool, true, not, ◌&&◌, ◌||◌, if◌then◌else◌, List, [], ◌∷◌, ◌++◌, length, map, Option, Some, None, is_some, option_map, option_and_then, find}
 use Rattle.std.specs.List.{flat_map}
 use Rattle.tables.specs.InForce.{SectionValue, complete_table}
 use Rattle.tables.specs.OnPid.{pat_sections, pmts_on, sdt_sections}
@@ -36,9 +36,13 @@ behind_pat_from before (packet ∷ later) =
 abbrev pub behind_pat : List (List ℕ) → List (List ℕ)
 behind_pat packets = behind_pat_from [] packets
 
+-- a row of the program: one with program_number 0 names the network's PID, and no program (ISO/IEC 13818-1, 2.4.4.5)
+abbrev pub is_row_of_program : ℕ → PatRow → Bool
+is_row_of_program program r = not (r.program_number == 0) && r.program_number == program
+
 -- program_map_PID of a program: that of its first row
 abbrev pub pmt_pid_of : ℕ → List PatRow → Option ℕ
-pmt_pid_of program rows = option_map (λ (r : PatRow). r.pid) (find (λ (r : PatRow). r.program_number == program) rows)
+pmt_pid_of program rows = option_map (λ (r : PatRow). r.pid) (find (is_row_of_program program) rows)
 
 -- the first current PMT of a program on a PID
 abbrev pub first_pmt_on : ℕ → ℕ → List (List ℕ) → Option PmtValue

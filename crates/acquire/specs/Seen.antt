@@ -7,11 +7,11 @@ use Rattle.section.specs.declared.told.Told.{Told}
 use Rattle.acquire.specs.Findings.{Findings, findings, is_all_found, all_some, or_later, first_pmt_on, pmt_pid_of, pat_found, behind_pat, pmt_found}
 use Rattle.acquire.specs.Reading.{ReaderState, reader_on, reader_step, reader_behind, sections_in}
 use Rattle.acquire.specs.Taken.{FirstTableState, HasTaken}
-use Rattle.acquire.specs.declared.pat_finder.PatFinder.{PatFinder}
-use Rattle.acquire.specs.declared.sdt_finder.SdtFinder.{SdtFinder}
+use Rattle.acquire.specs.declared.table_finder.TableFinder.{TableFinder}
 use Rattle.acquire.specs.declared.pmt_finder.PmtFinder.{PmtFinder}
 use Rattle.acquire.specs.declared.program_finder.ProgramFinder.{ProgramFinder}
 use Rattle.acquire.specs.declared.found.Found.{Found}
+use Rattle.tables.specs.Pat.{PatValue}
 use Rattle.tables.specs.Sdt.{SdtValue}
 use Rattle.std.specs.List.{flat_map, zip}
 use Rattle.tables.specs.declared.pat_row.PatRow.{PatRow}
@@ -21,10 +21,10 @@ pub record HasSought {V : Type 0} (pid : ℕ) (section_of : List ℕ → Option 
   pub taken : HasTaken table (filter_map section_of (sections_on pid packets))
   pub state : table.found ≡ None → reader ≡ reader_on pid packets
 
-abbrev pub HasSoughtPat : PatFinder → List (List ℕ) → Type 0
+abbrev pub HasSoughtPat : TableFinder PatValue → List (List ℕ) → Type 0
 HasSoughtPat f packets = HasSought 0x0000 pat_section_of f.reader f.table packets
 
-abbrev pub HasSoughtSdt : SdtFinder → List (List ℕ) → Type 0
+abbrev pub HasSoughtSdt : TableFinder SdtValue → List (List ℕ) → Type 0
 HasSoughtSdt f packets = HasSought 0x0011 sdt_section_of f.reader f.table packets
 
 -- the sections of PMTs among what was told
@@ -74,7 +74,7 @@ pub record HasSoughtPrograms (programs : List ℕ) (f : ProgramFinder) (packets 
 -- what acquisition knows, and whether memory was refused
 pub record AcquireState : Type 0 where
   pub programs : ProgramFinder
-  pub sdt : SdtFinder
+  pub sdt : TableFinder SdtValue
   pub is_refused : Bool
 
 -- these packets were pushed, in this order, where these programs are wanted

@@ -2,11 +2,15 @@
 
 use crate::found::Found;
 use crate::program_finder::ProgramFinder;
-use crate::sdt_finder::SdtFinder;
+use crate::table_finder::TableFinder;
 use section::Told;
 use std::alloc::{AllocError, Global};
 use std::marker::Model;
+use tables::Sdt;
 use tspkt::Packet;
+
+/// The PID of the SDT (EN 300 468, 5.1.3).
+const SDT_PID: u16 = 0x0011;
 
 /// Finds the tables of programs in the packets of an input, which are pushed in the order in which
 /// they come: the first complete PAT, behind it the first current PMT of each program on the PID
@@ -18,7 +22,7 @@ use tspkt::Packet;
 pub struct Acquire {
     alloc: Global,
     programs: ProgramFinder,
-    sdt: SdtFinder,
+    sdt: TableFinder<Sdt>,
     told: Vec<Told>,
     is_refused: bool,
 }
@@ -35,8 +39,8 @@ impl Acquire {
     ghost use Rattle.std.specs.Prelude.{◌≡◌, [], true, false, IfOk, OnOk, OnErr, Err, alloc_error};
     ghost use Rattle.acquire.specs.Seen.{HasSeen, Sees, TellsAllFound, IsFound, knows_all};
 
-    /// One that has seen no packet, for these programs (program_number 1 to 65,535). An `Err` is
-    /// want of memory.
+    /// One that has seen no packet, for these programs, by program_number. Of 0, which is no program's number, no PMT
+    /// is found. An `Err` is want of memory.
     pub fn new(alloc: Global, programs: &[u16]) -> Result<Acquire, AllocError>
         ensures seen { IfOk result (λ acquire. HasSeen programs.now acquire []) }
         ensures is_refused { IfOk result (λ acquire. acquire.is_refused ≡ false) }
@@ -44,7 +48,7 @@ impl Acquire {
         Ok(Acquire {
             alloc,
             programs: ProgramFinder::new(alloc, programs)?,
-            sdt: SdtFinder::new(alloc),
+            sdt: TableFinder::new(alloc, SDT_PID),
             told: Vec::new(alloc),
             is_refused: false,
         })

@@ -9,8 +9,8 @@ use crate::found::Found;
 use std::alloc::{AllocError, Global};
 use tspkt::Packet;
 
-/// The tables of programs (program_number 1 to 65,535) that are found in the packets of an input,
-/// pushed one by one. It is refused only for want of memory.
+/// The tables of programs, by program_number, that are found in the packets of an input, pushed one by one. Of 0, which
+/// is no program's number, no PMT is found. It is refused only for want of memory.
 pub fn find_tables(alloc: Global, programs: &[u16], packets: &[Packet]) -> Result<Found, AllocError>
     ensures { IfOk result (λ found. findings_of found ≡ findings programs.now packets.now) }
 {

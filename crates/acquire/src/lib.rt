@@ -5,12 +5,12 @@ mod acquisition;
 mod finding;
 mod first_table;
 mod found;
-mod pat_finder;
 mod pmt_finder;
 mod pmt_finders;
 mod program_finder;
-mod sdt_finder;
 mod section_reader;
+mod sought_table;
+mod table_finder;
 #[cfg(test)]
 mod tests;
 

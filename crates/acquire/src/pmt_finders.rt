@@ -12,12 +12,12 @@ use std::alloc::{AllocError, Global};
 use tables::{Pat, PatRow, Pmt};
 use tspkt::Packet;
 
-/// The PID of the first row of the program.
+/// The PID of the first row of the program. A row with program_number 0 names the network's PID, and no program.
 fn pid_in(rows: &[PatRow], program: u16) -> Option<u16>
     ensures { result ≡ pmt_pid_of program rows.now }
 {
     for row in rows {
-        if row.program_number == program {
+        if row.program_number != 0 && row.program_number == program {
             return Some(row.pid);
         }
     }

@@ -2,19 +2,22 @@
 
 ghost use Rattle.std.specs.Prelude.{◌≡◌, vec_len};
 
-use crate::pat_finder::PatFinder;
 use crate::pmt_finder::PmtFinder;
 use crate::pmt_finders::{begin_pmts, new_finders, new_places, push_pmts};
+use crate::table_finder::TableFinder;
 use section::Told;
 use std::alloc::{AllocError, Global};
-use tables::Pmt;
+use tables::{Pat, Pmt};
 use tspkt::Packet;
+
+/// The PID of the PAT (ISO/IEC 13818-1, 2.4.4.3).
+const PAT_PID: u16 = 0x0000;
 
 /// Finds the PMTs of programs: first the complete PAT, and behind it each PMT on the PID that the
 /// PAT gives it (ISO/IEC 13818-1, 2.4.4). All room for what is found is taken at the beginning.
 #[derive(Drop)]
 pub struct ProgramFinder {
-    pat: PatFinder,
+    pat: TableFinder<Pat>,
     finders: Vec<PmtFinder>,
     found: Vec<Option<Pmt>>,
     ghost one_place_each: { vec_len finders ≡ vec_len found },
@@ -32,7 +35,7 @@ impl ProgramFinder {
         let finders = new_finders(alloc, programs)?;
         let found = new_places(alloc, programs)?;
         Ok(ProgramFinder {
-            pat: PatFinder::new(alloc),
+            pat: TableFinder::new(alloc, PAT_PID),
             finders,
             found,
         })

@@ -135,6 +135,18 @@ fn two_sections(rt: HostRuntime) -> Result<(), Fail> {
     Ok(())
 }
 
+/// A row with program_number 0 names the network's PID: what is found there is no program's PMT.
+#[test]
+fn no_program_has_number_0(rt: HostRuntime) -> Result<(), Fail> {
+    let alloc = rt.alloc();
+    let mut packets = Vec::new(alloc);
+    add_pat(alloc, &mut packets, 0, [0, 0], 0)?;
+    add_pmt(alloc, &mut packets, 0)?;
+    let found = pmts_found(alloc, &[0], &packets)?;
+    assert_eq!(rt; found.as_slice(), [false].as_slice());
+    Ok(())
+}
+
 /// A scrambled packet says nothing.
 #[test]
 fn scrambled(rt: HostRuntime) -> Result<(), Fail> {

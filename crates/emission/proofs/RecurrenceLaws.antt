@@ -1,5 +1,5 @@
 -- Each table comes within its limit.
-use Rattle.std.proofs.Common.{ℕ, zero, suc, ◌+◌, ◌%◌, ◌≤◌, ◌≡◌, List, [], ◌∷◌, ◌++◌, length, map, take, get_or, Some, refl, ap, ◌∙◌, subst, arith}
+use Rattle.std.proofs.Common.{ℕ, zero, suc, ◌+◌, ◌%◌, ◌<◌, ◌≤◌, ◌≡◌, List, [], ◌∷◌, ◌++◌, length, map, take, get_or, Some, refl, ap, ◌∙◌, subst, arith}
 use Rattle.std.specs.List.{slice_get, flat_map, range_with_len}
 use Rattle.std.proofs.lemmas.Option.{slice_get_within, slice_get-get_or, get_or_from_slice_get}
 use Rattle.tspkt.specs.Packet.{pid_of, null_packet}
@@ -51,7 +51,9 @@ recurs p out s window place h again is = λ first fits.
     let here : slice_get out m ≡ Some q = slice_get-get_or out m null_packet (omega arith) in
     let c = carried p out m q (Some place) h here found.3 in
     let x = table_packet_at p.tables place in
-    (m, low, high, (q, here, (length (of_pid (pid_of x) (take m out)) % 16, c ∙ ap (λ r. with_counter r (length (of_pid (pid_of x) (take m out)) % 16)) is)))
+    let count = length (of_pid (pid_of x) (take m out)) in
+    let few : count % 16 < 16 = omega arith in
+    (m, low, high, (q, here, (count % 16, few, c ∙ ap (λ r. with_counter r (count % 16)) is)))
 
 fast_begins : (p : PlanValue) (out : List (List ℕ)) (i : ℕ) (s : SectionOnPid) → PlanFacts p → IsRounds p.rounds → IsEmission p out → slice_get (fast_sections p) i ≡ Some s → BeginsWithin (fast_limit_of p.request.rate) s out
 fast_begins p out i s f ok h e =

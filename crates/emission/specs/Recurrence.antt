@@ -8,9 +8,9 @@ use Rattle.output_tables.specs.OnPid.{SectionOnPid}
 use Rattle.rounds.specs.Rounds.{fast_limit_of, sdt_limit_of, nit_limit_of}
 use Rattle.plan.specs.Build.{PlanValue}
 
--- a packet that begins the section, whatever its counter
+-- a packet that begins the section, whatever its counter of 4 bits (ISO/IEC 13818-1, 2.4.3.3)
 abbrev pub Begins : SectionOnPid → List ℕ → Type 0
-Begins s q = (counter : ℕ) × (q ≡ with_counter (table_packet s.pid s.bytes 0) counter)
+Begins s q = (counter : ℕ) × (counter < 16) × (q ≡ with_counter (table_packet s.pid s.bytes 0) counter)
 
 -- each window of so many slots holds a packet that begins the section
 abbrev pub BeginsWithin : ℕ → SectionOnPid → List (List ℕ) → Type 0

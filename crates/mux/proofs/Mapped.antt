@@ -4,7 +4,7 @@ use Rattle.std.specs.List.{slice_get, position_from}
 use Rattle.std.proofs.lemmas.Bool.{cases_Bool, eqb-true, eq-eqb, and_parts, and_from, false≢true}
 use Rattle.std.proofs.lemmas.Option.{same_Some}
 use Rattle.request.specs.declared.stream.Stream.{Stream}
-use Rattle.plan.specs.declared.stream.Stream.{Stream as Planned}
+use Rattle.plan.specs.declared.planned_stream.PlannedStream.{PlannedStream as Planned}
 use Rattle.plan.specs.StreamPlace.{stream_place, planned_of, planned_stream}
 
 -- the first place that passes, and what stands there

@@ -6,11 +6,11 @@ use Rattle.std.proofs.lemmas.Bool.{le-leb, lt-leb, cases_lt}
 use Rattle.std.proofs.lemmas.List.Elements.{All-nil, All-cons, All-head, All-tail, All-same, All-map}
 use Rattle.std.proofs.lemmas.List.Sums.{sum-map, sum_by-append}
 use Rattle.tables.specs.declared.sdt_row.SdtRow.{SdtRow}
-use Rattle.tables.specs.Sdt.{SdtValue, sdt_section_length_of}
+use Rattle.tables.specs.Sdt.{SdtValue, sdt_section_length_of, rows_room}
 use Rattle.request.specs.Request.{RequestValue}
 use Rattle.selection.specs.Chosen.{ChosenValue}
 use Rattle.output_tables.specs.Room.{AreInRoom}
-use Rattle.output_tables.specs.Output.{row_length, rows_room, sdt_groups, sdt_groups_behind, sdt_section, numbered_sections, output_row, output_sdt}
+use Rattle.output_tables.specs.Output.{row_length, sdt_groups, sdt_groups_behind, sdt_section, numbered_sections, output_row, output_sdt}
 
 -- a row that has room goes to the group
 pub row_put : (groups : List (List SdtRow)) (group : List SdtRow) (row : SdtRow) (rows : List SdtRow) → sum (map row_length group) + row_length row ≤ rows_room → groups ++ sdt_groups_behind group (row ∷ rows) ≡ groups ++ sdt_groups_behind (group ++ row ∷ []) rows

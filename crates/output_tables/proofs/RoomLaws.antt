@@ -16,7 +16,8 @@ use Rattle.selection.specs.declared.chosen_service.ChosenService.{ChosenService}
 use Rattle.selection.specs.Chosen.{ChosenValue, streams_of}
 use Rattle.selection.specs.ChosenView.{chosen_value}
 use Rattle.selection.proofs.TestLaws.{any_map}
-use Rattle.output_tables.specs.Output.{list_entry, mapped_row, output_pmt, output_nit, output_row, row_length, rows_room, is_too_large}
+use Rattle.tables.specs.Sdt.{rows_room}
+use Rattle.output_tables.specs.Output.{list_entry, mapped_row, output_pmt, output_nit, output_row, row_length, is_too_large}
 use Rattle.output_tables.specs.Room.{HaveRoom}
 
 -- three bytes for each entry of a service list

@@ -4,14 +4,14 @@ use Rattle.std.proofs.lemmas.List.Elements.{All-map}
 use Rattle.std.proofs.lemmas.Bool.{le-leb, lt-leb}
 use Rattle.std.proofs.lemmas.List.Sums.{sum-map, sum_by-cons}
 use Rattle.tables.specs.declared.sdt_row.SdtRow.{SdtRow}
-use Rattle.tables.specs.Sdt.{SdtValue, sdt_section_length_of}
+use Rattle.tables.specs.Sdt.{SdtValue, sdt_section_length_of, rows_room}
 use Rattle.tables.specs.Pmt.{pmt_section_length_of}
 use Rattle.request.specs.Request.{RequestValue}
 use Rattle.selection.specs.declared.chosen_service.ChosenService.{ChosenService}
 use Rattle.selection.specs.Chosen.{ChosenValue}
 use Rattle.selection.specs.ChosenView.{chosen_value}
 use Rattle.output_tables.specs.Room.{AreInRoom}
-use Rattle.output_tables.specs.Output.{row_length, rows_room, sdt_groups, sdt_groups_behind, sdt_section, numbered_sections, output_row, output_sdt, output_pmt, packets_for, group_count, sdt_count}
+use Rattle.output_tables.specs.Output.{row_length, sdt_groups, sdt_groups_behind, sdt_section, numbered_sections, output_row, output_sdt, output_pmt, packets_for, group_count, sdt_count}
 use Rattle.output_tables.proofs.GroupLaws.{begun, sum_push}
 use Rattle.output_tables.proofs.RoomLaws.{pmt_length}
 

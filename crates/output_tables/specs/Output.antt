@@ -10,7 +10,7 @@ use Rattle.tables.specs.declared.sdt_row.SdtRow.{SdtRow}
 use Rattle.tables.specs.declared.service_list_entry.ServiceListEntry.{ServiceListEntry}
 use Rattle.tables.specs.Pat.{PatValue}
 use Rattle.tables.specs.Pmt.{PmtValue, pmt_section_length_of}
-use Rattle.tables.specs.Sdt.{SdtValue, sdt_section_length_of}
+use Rattle.tables.specs.Sdt.{SdtValue, sdt_section_length_of, rows_room}
 use Rattle.tables.specs.Nit.{NitValue, nit_section_length_of}
 use Rattle.tables.specs.ServiceListDescriptor.{service_list_bytes}
 use Rattle.tables.specs.NetworkNameDescriptor.{network_name_bytes}
@@ -78,10 +78,6 @@ output_row c = record {
 
 abbrev pub row_length : SdtRow → ℕ
 row_length row = 5 + length row.descriptors
-
--- the most that the rows of a section take: section_length is at most 1,021, and 12 of it are no rows
-abbrev pub rows_room : ℕ
-rows_room = 1009
 
 -- the rows in order, each put to the section before it as long as it has room
 abbrev pub sdt_groups_behind : List SdtRow → List SdtRow → List (List SdtRow)

@@ -5,7 +5,8 @@ use Rattle.request.specs.Request.{RequestValue}
 use Rattle.selection.specs.Chosen.{ChosenValue}
 use Rattle.tables.specs.Pmt.{pmt_section_length_of}
 use Rattle.tables.specs.Nit.{nit_section_length_of}
-use Rattle.output_tables.specs.Output.{output_pmt, output_nit, output_row, row_length, rows_room}
+use Rattle.tables.specs.Sdt.{rows_room}
+use Rattle.output_tables.specs.Output.{output_pmt, output_nit, output_row, row_length}
 
 -- each row has room in a section
 abbrev pub AreInRoom : List ChosenValue → Type 0

@@ -9,22 +9,13 @@ ghost use Rattle.output_tables.specs.Output.{packets_for, fast_count, slow_count
 ghost use Rattle.selection.specs.Chosen.{AreServicesOf};
 ghost use Rattle.output_tables.specs.Room.{AreInRoom, HaveRoom};
 
-use crate::too_large::{nit_section_length, pmt_room};
+use crate::too_large::{MAX_SECTION_LENGTH, ROW_HEAD_LENGTH, nit_section_length, pmt_room};
 use request::Request;
 use selection::ChosenService;
-use tables::Pmt;
+use tables::{MAX_SDT_ROWS_LENGTH, Pmt};
 
 /// The payload of a packet without an adaptation field, in bytes.
 const PAYLOAD: usize = 184;
-
-/// The most that section_length may be.
-const MAX_SECTION_LENGTH: usize = 1021;
-
-/// The most bytes of rows in a section of the SDT.
-const ROWS_ROOM: usize = 1009;
-
-/// The bytes of a row of the SDT in front of its descriptors.
-const ROW_HEAD_LENGTH: usize = 5;
 
 /// section_length of a section of the SDT without rows.
 const SDT_HEAD_LENGTH: usize = 12;
@@ -62,7 +53,7 @@ fn sdt_count(chosen: &[ChosenService<'_>]) -> usize
     let mut used = 0;
     for service in chosen {
         let length = ROW_HEAD_LENGTH + service.row.descriptors.bytes().len();
-        if used + length > ROWS_ROOM {
+        if used + length > MAX_SDT_ROWS_LENGTH {
             packets += packets_for(SDT_HEAD_LENGTH + used);
             used = 0;
         }

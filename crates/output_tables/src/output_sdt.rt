@@ -12,18 +12,13 @@ ghost use Rattle.output_tables.specs.Room.{AreInRoom};
 use crate::copied_descriptors::copied_descriptors;
 use crate::output_header::output_header;
 use crate::row_group::RowGroup;
+use crate::too_large::ROW_HEAD_LENGTH;
 use request::{Request, Service};
 use selection::ChosenService;
 use std::alloc::{AllocError, Global};
 use std::collections::VecDeque;
 use std::mem;
-use tables::{Sdt, SdtRow};
-
-/// The most bytes of rows in a section: section_length is at most 1,021, and 12 of it are no rows.
-const ROWS_ROOM: usize = 1009;
-
-/// The bytes of a row in front of its descriptors.
-const ROW_HEAD_LENGTH: usize = 5;
+use tables::{MAX_SDT_ROWS_LENGTH, Sdt, SdtRow};
 
 /// The service's number in the output, 16 bits.
 fn service_id(service: &Service) -> u16
@@ -61,12 +56,12 @@ fn group_rows(alloc: Global, chosen: &[ChosenService]) -> Result<VecDeque<RowGro
 {
     let mut groups = VecDeque::new(alloc);
     let mut group = RowGroup::new(alloc);
-    let mut room = ROWS_ROOM;
+    let mut room = MAX_SDT_ROWS_LENGTH;
     for service in chosen {
         let length = ROW_HEAD_LENGTH + service.row.descriptors.bytes().len();
         if length > room {
             groups.push_back(mem::replace(&mut group, RowGroup::new(alloc)))?;
-            room = ROWS_ROOM;
+            room = MAX_SDT_ROWS_LENGTH;
         }
         group.push(output_row(alloc, service)?)?;
         room -= length;

@@ -8,22 +8,20 @@ ghost use Rattle.tables.specs.Pmt.{pmt_section_length_of};
 ghost use Rattle.tables.specs.Nit.{nit_section_length_of};
 ghost use Rattle.selection.specs.ChosenView.{chosen_value};
 ghost use Rattle.selection.specs.declared.chosen_service.ChosenService.{ChosenService};
-ghost use Rattle.output_tables.specs.Output.{output_nit, row_length, rows_room, is_too_large};
+ghost use Rattle.tables.specs.Sdt.{rows_room};
+ghost use Rattle.output_tables.specs.Output.{output_nit, row_length, is_too_large};
 ghost use Rattle.selection.specs.Chosen.{AreServicesOf};
 ghost use Rattle.output_tables.specs.Room.{HaveRoom};
 
 use request::Request;
 use selection::ChosenService;
-use tables::{Pmt, SdtRow};
+use tables::{MAX_SDT_ROWS_LENGTH, Pmt, SdtRow};
 
 /// The most that section_length may be.
-const MAX_SECTION_LENGTH: usize = 1021;
+pub const MAX_SECTION_LENGTH: usize = 1021;
 
 /// The bytes of a row of a PMT or an SDT in front of its descriptors.
-const ROW_HEAD_LENGTH: usize = 5;
-
-/// The most bytes of rows in a section of the SDT.
-const ROWS_ROOM: usize = 1009;
+pub const ROW_HEAD_LENGTH: usize = 5;
 
 /// What is left in the section of a PMT; none where it is too large.
 pub fn pmt_room(pmt: &Pmt) -> Option<usize>
@@ -52,7 +50,7 @@ fn is_pmt_too_large(pmt: &Pmt) -> bool
 fn is_row_too_large(row: &SdtRow) -> bool
     ensures { result ≡ nat_lt rows_room (row_length row.now) }
 {
-    row.descriptors.bytes().len() > ROWS_ROOM - ROW_HEAD_LENGTH
+    row.descriptors.bytes().len() > MAX_SDT_ROWS_LENGTH - ROW_HEAD_LENGTH
 }
 
 /// section_length of the NIT with a list of so many services.

@@ -2,11 +2,11 @@
 #![tactic(auto)]
 
 mod multiplex_plan;
+mod planned_stream;
 mod rhythm;
-mod stream;
 mod stream_map;
 #[cfg(test)]
 mod tests;
 
 pub use multiplex_plan::Plan;
-pub use stream::Stream;
+pub use planned_stream::PlannedStream;

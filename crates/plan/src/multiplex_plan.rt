@@ -1,7 +1,7 @@
 //! The plan of a multiplex.
 
+use crate::planned_stream::PlannedStream;
 use crate::rhythm::plan_rounds;
-use crate::stream::Stream;
 use crate::stream_map::StreamMap;
 use acquire::Found;
 use output_tables::TableSet;
@@ -115,12 +115,12 @@ impl Plan {
 
     /// The stream with this PID of this input, in one step; none where the plan names no such
     /// stream, also for an input that isn't there.
-    pub fn lookup(&self, input: usize, pid: u16) -> Option<Stream>
+    pub fn lookup(&self, input: usize, pid: u16) -> Option<PlannedStream>
         ensures { result ≡ planned_stream self.now.request.streams input pid }
     {
         let number = self.streams.find(input, pid)?;
         let stream = self.request.streams().get(number)?;
-        Some(Stream {
+        Some(PlannedStream {
             number,
             output_pid: stream.output_pid,
             leak: stream.leak,

@@ -322,7 +322,7 @@ fn streams_of_a_plan(rt: HostRuntime) -> Result<(), Fail> {
         return Err(Fail::from("no plan"));
     };
     let plan = plan.copy(rt.alloc())?;
-    let stream = Stream {
+    let stream = PlannedStream {
         number: 1,
         output_pid: 0x0202,
         leak: 1_000_000,
@@ -377,6 +377,47 @@ fn faults_of_programs(rt: HostRuntime) -> Result<(), Fail> {
     ];
     for (bodies, want) in cases {
         assert_eq!(rt; fault(rt.alloc(), bodies, &ROWS)?, want);
+    }
+    Ok(())
+}
+
+/// A PMT of two streams, on the PIDs 0x0101 and 0x0102; the PCR is on the first.
+const BOTH: [u8; 14] = [
+    0xE1, 0x01, 0xF0, 0x00, 0x1B, 0xE1, 0x01, 0xF0, 0x00, 0x0F, 0xE1, 0x02, 0xF0, 0x00,
+];
+
+/// The fault of a plan for that program, whose service has streams of these PIDs.
+fn fault_of_both(alloc: Global, pids: &[i64]) -> Result<Option<PlanFault>, Fail> {
+    let mut only = service(alloc, 1, 0x0101)?;
+    only.streams = Vec::new(alloc);
+    for pid in pids {
+        only.streams.push(StreamParts {
+            pid: *pid,
+            out: pid.saturating_add(0x0100),
+            leak: 1_000_000,
+        })?;
+    }
+    let name = String::from_str(alloc, "net")?;
+    let mut parts = parts(alloc, 10_000_000, 500, inputs(alloc)?, name);
+    parts.services.push(only)?;
+    let Ok(request) = Request::new(alloc, parts) else {
+        return Err(Fail::from("no request"));
+    };
+    let found = found(alloc, &[&BOTH], &[&ROWS])?;
+    Ok(Plan::build(alloc, &request, &found).err())
+}
+
+/// In one service too a stream of the program that has no row goes before a row that is no stream of it.
+#[test]
+fn faults_of_one_service(rt: HostRuntime) -> Result<(), Fail> {
+    let cases: [(&[i64], Option<PlanFault>); 4] = [
+        (&[0x0101], Some(PlanFault::RateMissing)),
+        (&[0x0101, 0x0103], Some(PlanFault::RateMissing)),
+        (&[0x0101, 0x0102], None),
+        (&[0x0101, 0x0102, 0x0103], Some(PlanFault::StreamUnknown)),
+    ];
+    for (pids, want) in cases {
+        assert_eq!(rt; fault_of_both(rt.alloc(), pids)?, want, "{pids:?}");
     }
     Ok(())
 }

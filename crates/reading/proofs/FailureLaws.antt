@@ -61,6 +61,7 @@ goes_goes failures a m d first second = record {
   failures_told = λ before tells. second.failures_told before (first.failures_told before tells);
   going = λ e. first.going (second.going e);
   unleft = λ e. first.unleft (second.unleft e);
+  reading = λ some. first.reading (second.reading some);
   origin = second.origin ∙ first.origin;
   limit = second.limit ∙ first.limit;
 }
@@ -72,6 +73,7 @@ goes_kept failures old new source framer stopped origin limit = record {
   failures_told = λ before tells. tells_kept failures before old new source framer stopped tells;
   going = λ e. sym stopped ∙ e;
   unleft = λ e. sym stopped ∙ e;
+  reading = λ some. subst IsSome framer some;
   origin = origin;
   limit = limit;
 }

@@ -1,6 +1,7 @@
 -- What an input keeps while it is read.
-use Rattle.std.proofs.Common.{◌≡◌, ℕ, zero, suc, ◌+◌, ◌<◌, ◌≤◌, List, [], ◌∷◌, ◌++◌, length, drop, refl, sym, ◌∙◌, ap, subst, arith, append_assoc}
-use Rattle.std.specs.Prelude.{Option, Some, None, IsSome, Result, Ok, Err, if◌then◌else◌, Bool, true, false}
+use Rattle.std.proofs.Common.{◌≡◌, ℕ, zero, suc, ◌+◌, ◌<◌, ◌≤◌, List, [], ◌∷◌, ◌++◌, length, drop, refl, sym, ◌∙◌, ap, subst, arith, append_assoc, inr}
+use Rattle.std.proofs.lemmas.Option.{none-some}
+use Rattle.std.specs.Prelude.{Option, Some, None, IsSome, OnErr, Result, Ok, Err, if◌then◌else◌, Bool, true, false}
 use Rattle.std.specs.Option.{option_to_list}
 use Rattle.std.specs.List.{cons_option, slice_get, sum_by, filter_map}
 use Rattle.std.specs.Io.KnownBytes.{Consumes, IsAtEnd}
@@ -20,11 +21,12 @@ use Rattle.reading.specs.declared.stream_reader.StreamReader.{StreamReader}
 use Rattle.reading.specs.declared.packet_reader.PacketReader.{PacketReader}
 use Rattle.reading.specs.Counting.{sum_within, with_counts, nothing_counted}
 use Rattle.reading.specs.Takeable.{OriginValue, is_well_formed, is_named, taken_of, takeable, counted_of, CountsItems}
+use Rattle.reading.specs.Items.{ItemsValue, given_up}
 use Rattle.reading.specs.StreamReading.{HasPassed, BeginsPackets, BeginsFramed, ReadsMore, stopped_by}
-use Rattle.reading.specs.PacketReading.{HasLooked, HasRead, ReadsOn, BeginsTakeable, IsSpent, IsWhole}
+use Rattle.reading.specs.PacketReading.{HasLooked, HasRead, ReadsOn, BeginsTakeable, IsSpent, IsWhole, CountsTold}
 use Rattle.reading.proofs.KnownLaws.{consumes_on, consumes_nothing}
 use Rattle.reading.proofs.ItemLaws.{weight, weight-framed}
-use Rattle.reading.proofs.StreamLaws.{told_packets, told_inside, front_packets, told_framed, front_framed, next_item, told_whole, told_failed, told_too_much}
+use Rattle.reading.proofs.StreamLaws.{told_packets, told_inside, front_packets, told_framed, front_framed, next_item, told_whole, told_failed, told_too_much, told_within, goes_on}
 
 pub takeable-append : (plan : PlanValue) (o : OriginValue) (xs ys : List Item) → takeable plan o (xs ++ ys) ≡ takeable plan o xs ++ takeable plan o ys
 takeable-append plan o xs ys = filter_map-append (taken_of plan o) xs ys
@@ -104,6 +106,18 @@ too_much remaining plan x bytes given h e =
     let items = x.stream.items in
     told_too_much items.limit items.framer (h.0 ++ items.ahead) bytes (remaining x.stream.source) x.report.stopped h.1.passed e
 
+-- one that isn't told as too long isn't
+pub within_read : {R : Type 0} (remaining : R → Option (List ℕ)) (plan : PlanValue) (x : PacketReader R) (bytes : List ℕ) (given : List Stamped) → HasRead remaining plan x bytes given → (x.report.stopped ≡ Some TooMuch → ⊥) → length bytes ≤ x.stream.items.limit
+within_read remaining plan x bytes given h other =
+    let items = x.stream.items in
+    told_within items.limit items.framer (h.0 ++ items.ahead) bytes (remaining x.stream.source) x.report.stopped h.1.passed other
+
+-- one that is still read wasn't stopped
+pub unstopped_reading : {R : Type 0} (remaining : R → Option (List ℕ)) (plan : PlanValue) (x : PacketReader R) (bytes : List ℕ) (given : List Stamped) → HasRead remaining plan x bytes given → IsSome x.stream.items.framer → x.report.stopped ≡ None
+unstopped_reading remaining plan x bytes given h going =
+    let items = x.stream.items in
+    goes_on items.limit items.framer (h.0 ++ items.ahead) bytes (remaining x.stream.source) x.report.stopped going h.1.passed
+
 -- of an input with nothing left all items that were told were looked at
 all_looked : {R : Type 0} (x : PacketReader R) (looked : List Item) → IsSpent x → looked ++ x.stream.items.ahead ≡ looked
 all_looked x looked spent = ap (λ v. looked ++ v) spent.ahead ∙ append-nil looked
@@ -129,6 +143,20 @@ failed_read remaining plan x bytes given h spent failed =
     let items = x.stream.items in
     let told = told_failed items.limit items.framer (h.0 ++ items.ahead) bytes (remaining x.stream.source) x.report.stopped failed h.1.passed in
     all_given remaining plan x bytes given h spent ∙ takeable_same plan x.origin h.0 (framed 188 bytes) (ap packets_of (sym (all_looked x h.0 spent)) ∙ told)
+
+-- the report of an input with a failed read counts what was told of the bytes before it
+pub counts_told : {R : Type 0} (remaining : R → Option (List ℕ)) (plan : PlanValue) (x : PacketReader R) (bytes : List ℕ) (given : List Stamped) → HasRead remaining plan x bytes given → x.report.stopped ≡ Some ReadFailed
+    → CountsTold plan x.origin bytes (IsAtEnd (remaining x.stream.source)) x.report
+counts_told remaining plan x bytes given h failed =
+    let items = x.stream.items in
+    let none = h.1.over (subst IsSome (sym failed) refl) in
+    let all : h.0 ++ items.ahead ≡ h.0 = ap (λ v. h.0 ++ v) none ∙ append-nil h.0 in
+    record {
+      told = h.0;
+      begun = looked_framed remaining plan x bytes given h;
+      packets = ap packets_of (sym all) ∙ told_failed items.limit items.framer (h.0 ++ items.ahead) bytes (remaining x.stream.source) x.report.stopped failed h.1.passed;
+      counts = h.1.counts;
+    }
 
 -- Counts.
 
@@ -228,6 +256,8 @@ looked_on {R} remaining plan o stream new item held found report after bytes giv
         losses = count_step (λ x. (counted_of plan o x).losses) looked item r.losses (losses_le plan o) bound h.counts.losses;
         lost = count_step (λ x. (counted_of plan o x).lost) looked item r.lost (lost_le plan o) bound h.counts.lost;
       };
+      ends = λ some. inr (looked, item, refl, some);
+      over = λ some. absurd (none-some item (sym (ap (λ v. slice_get v 0) (h.over some)) ∙ first));
     } in
     let P : Report → Type 0 = λ v. HasLooked remaining plan o new (taken_of plan o item) v bytes given (looked ++ item ∷ []) in
     let Q : Option Stamped → Type 0 = λ v. HasLooked remaining plan o new v after bytes given (looked ++ item ∷ []) in
@@ -241,6 +271,8 @@ fresh_looked remaining plan o stream report is passed =
       passed = passed;
       given_is = refl;
       counts = record { framed = refl; malformed = refl; unmapped = refl; bad = refl; losses = refl; lost = refl };
+      ends = λ some. (let bad : false ≡ true = some in cc);
+      over = λ some. (let bad : false ≡ true = some in cc);
     } in
     subst P (sym is) fresh
 
@@ -251,21 +283,29 @@ released remaining plan o stream held report bytes given looked h = record {
   passed = h.passed;
   given_is = h.given_is ∙ sym (append-nil (given ++ option_to_list held));
   counts = h.counts;
+  ends = λ some. (let bad : false ≡ true = some in cc);
+  over = h.over;
 }
 
 -- the same counts, with another cause
 pub counted_stopped : (plan : PlanValue) (o : OriginValue) (looked : List Item) (report : Report) (stopped : Option Stop) → CountsItems plan o looked report → CountsItems plan o looked (record report { stopped = stopped })
 counted_stopped plan o looked report stopped c = record { framed = c.framed; malformed = c.malformed; unmapped = c.unmapped; bad = c.bad; losses = c.losses; lost = c.lost }
 
+-- nothing is left of what was told once a read stopped a stream
+over_read : (result : Result (Unit {0}) Stop) (stopped : Option Stop) (items new : ItemsValue) → stopped ≡ None → OnErr result (new ≡ given_up items) → IsSome (stopped_by result stopped) → new.ahead ≡ []
+over_read (Ok done) stopped items new none gone some = let bad : false ≡ true = subst IsSome none some in cc
+over_read (Err stop) stopped items new none gone some = ap (λ v. v.ahead) gone
+
 -- an input whose stream was read on, with what stopped it
 pub read_on : {R : Type 0} (remaining : R → Option (List ℕ)) (plan : PlanValue) (old new : PacketReader R) (stream : StreamReader R) (result : Result (Unit {0}) Stop)
-    → ReadsMore remaining old.stream stream result
+    → IsSome old.stream.items.framer → OnErr result (stream.items ≡ given_up old.stream.items) → ReadsMore remaining old.stream stream result
     → new ≡ record old { stream = stream; report = record old.report { stopped = stopped_by result old.report.stopped } } → ReadsOn remaining plan old new
-read_on {R} remaining plan old new stream result reads is bytes given h =
+read_on {R} remaining plan old new stream result going gone reads is bytes given h =
+    let free = unstopped_reading remaining plan old bytes given h going in
     let k = reads bytes old.report.stopped h.0 h.1.passed in
     let P : PacketReader R → Type 0 = λ v. (more : List ℕ) × Consumes (remaining old.stream.source) (remaining v.stream.source) more × HasRead remaining plan v (bytes ++ more) given in
     let stopped = stopped_by result old.report.stopped in
-    subst P (sym is) (k.0, k.1, (h.0, record { passed = k.2; given_is = h.1.given_is; counts = counted_stopped plan old.origin h.0 old.report stopped h.1.counts }))
+    subst P (sym is) (k.0, k.1, (h.0, record { passed = k.2; given_is = h.1.given_is; counts = counted_stopped plan old.origin h.0 old.report stopped h.1.counts; ends = h.1.ends; over = over_read result old.report.stopped old.stream.items stream.items free gone }))
 
 -- Reading, and then items that were told.
 

@@ -1,7 +1,8 @@
 -- What a stream keeps while it is read.
-use Rattle.std.proofs.Common.{◌≡◌, ◌≢◌, ℕ, ◌+◌, ◌<◌, ◌≤◌, List, [], ◌∷◌, ◌++◌, length, drop, refl, sym, ◌∙◌, ap, subst, arith, append_assoc, length-append}
+use Rattle.std.proofs.Common.{◌≡◌, ◌≢◌, ℕ, ◌+◌, ◌<◌, ◌≤◌, List, [], ◌∷◌, ◌++◌, length, drop, refl, sym, ◌∙◌, ap, subst, arith, append_assoc, length-append, inl, inr}
 use Rattle.std.specs.Prelude.{Option, Some, None, IsSome, true, false, unwrap_or}
 use Rattle.std.proofs.lemmas.Option.{none-some}
+use Rattle.std.proofs.lemmas.Bool.{cases_lt}
 use Rattle.std.specs.List.{slice_get}
 use Rattle.std.specs.Io.KnownBytes.{IsAtEnd}
 use Rattle.std.proofs.lemmas.List.{append-nil}
@@ -59,14 +60,28 @@ reading_framed limit None told bytes piece left stopped at_last going h = let ba
 reading_framed limit (Some f) told bytes piece left stopped at_last going h = λ more none.
     let b = begins_framed f told bytes h.stride h.same (piece ++ more) in (b.0, b.1 ∙ ap (framed 188) (sym (append_assoc bytes piece more)))
 
+-- while it is read nothing stopped it
+pub goes_on : (limit : ℕ) (framer : Option FramerState) (told : List Item) (bytes : List ℕ) (left : Option (List ℕ)) (stopped : Option Stop) → IsSome framer → HasTold (state limit framer told bytes left stopped) → stopped ≡ None
+goes_on limit None told bytes left stopped going h = let bad : false ≡ true = going in cc
+goes_on limit (Some f) told bytes left stopped going h = h.goes_on
+
+-- it wasn't told as too long
+pub not_much : (limit : ℕ) (framer : Option FramerState) (told : List Item) (bytes : List ℕ) (left : Option (List ℕ)) (stopped : Option Stop) → IsSome framer → HasTold (state limit framer told bytes left stopped) → stopped ≡ Some TooMuch → ⊥
+not_much limit framer told bytes left stopped going h e = none-some TooMuch (sym (goes_on limit framer told bytes left stopped going h) ∙ e)
+
+-- a stream that isn't told as too long isn't
+pub told_within : (limit : ℕ) (framer : Option FramerState) (told : List Item) (bytes : List ℕ) (left : Option (List ℕ)) (stopped : Option Stop) → HasTold (state limit framer told bytes left stopped) → (stopped ≡ Some TooMuch → ⊥) → length bytes ≤ limit
+told_within limit None told bytes left stopped h other = h.within other
+told_within limit (Some f) told bytes left stopped h other = h.within
+
 pub some_same : {X : Type 0} (x y : X) → Some x ≡ Some y → x ≡ y
 some_same x y e = ap (λ (o : Option _). unwrap_or o x) e
 
 left_with : (limit : ℕ) (framer : Option FramerState) (passed ahead : List Item) (bytes piece : List ℕ) (left at_last : Option (List ℕ)) (stopped : Option Stop) (cause : Stop)
-    → (cause ≡ TooMuch → limit < length (bytes ++ piece)) → BeginsFramed (bytes ++ piece) (IsAtEnd at_last) passed
+    → (cause ≡ TooMuch → limit < length (bytes ++ piece)) → ((cause ≡ TooMuch → ⊥) → length (bytes ++ piece) ≤ limit) → BeginsFramed (bytes ++ piece) (IsAtEnd at_last) passed
     → (cause ≡ ReadFailed → packets_of passed ≡ packets_of (framed 188 (bytes ++ piece))) → HasTold (state limit framer (passed ++ ahead) bytes left stopped)
     → HasTold (state limit None (passed ++ []) (bytes ++ piece) at_last (Some cause))
-left_with limit framer passed ahead bytes piece left at_last stopped cause full framing all_passed h =
+left_with limit framer passed ahead bytes piece left at_last stopped cause full fits framing all_passed h =
     let packets = front_packets bytes passed ahead (told_packets limit framer (passed ++ ahead) bytes left stopped h) in
     let inside = told_inside limit framer (passed ++ ahead) bytes left stopped h in
     let over : IsOver (state limit None (passed ++ []) (bytes ++ piece) at_last (Some cause)) = record {
@@ -75,27 +90,29 @@ left_with limit framer passed ahead bytes piece left at_last stopped cause full 
       inside = (inside.0, ahead ++ inside.1, inside.2, ap (λ v. v ++ (ahead ++ inside.1)) (append-nil passed) ∙ sym (append_assoc passed ahead inside.1) ∙ inside.3);
       ended = λ e. absurd (none-some cause (sym e));
       too_much = λ e. full (some_same cause TooMuch e);
+      within = λ other. fits (λ same. other (ap Some same));
       failed = λ e. ap packets_of (append-nil passed) ∙ all_passed (some_same cause ReadFailed e);
     } in
     over
 
 -- a stream that is left while it is read, some bytes later
 pub left_over : (items new : ItemsValue) (passed : List Item) (bytes piece : List ℕ) (left at_last : Option (List ℕ)) (stopped : Option Stop) (cause : Stop)
-    → new ≡ given_up items → (cause ≡ TooMuch → items.limit < length (bytes ++ piece)) → cause ≢ ReadFailed → IsSome items.framer
+    → new ≡ given_up items → (cause ≡ TooMuch → items.limit < length (bytes ++ piece)) → ((cause ≡ TooMuch → ⊥) → length (bytes ++ piece) ≤ items.limit) → cause ≢ ReadFailed → IsSome items.framer
     → HasTold (passed_state items passed bytes left stopped) → HasTold (passed_state new passed (bytes ++ piece) at_last (Some cause))
-left_over items new passed bytes piece left at_last stopped cause gone full unfailed going h =
+left_over items new passed bytes piece left at_last stopped cause gone full fits unfailed going h =
     let framing = reading_framed items.limit items.framer (passed ++ items.ahead) bytes piece left stopped (IsAtEnd at_last) going h in
     let P : ItemsValue → Type 0 = λ v. HasTold (passed_state v passed (bytes ++ piece) at_last (Some cause)) in
     subst P (sym gone)
-    (left_with items.limit items.framer passed items.ahead bytes piece left at_last stopped cause full (front_framed (bytes ++ piece) (IsAtEnd at_last) passed items.ahead framing) (λ e. absurd (unfailed e)) h)
+    (left_with items.limit items.framer passed items.ahead bytes piece left at_last stopped cause full fits (front_framed (bytes ++ piece) (IsAtEnd at_last) passed items.ahead framing) (λ e. absurd (unfailed e)) h)
 
 -- a stream that is left, with no bytes more
 pub left_now : (items new : ItemsValue) (passed : List Item) (bytes : List ℕ) (left : Option (List ℕ)) (stopped : Option Stop) (cause : Stop)
-    → new ≡ given_up items → cause ≢ TooMuch → (cause ≡ ReadFailed → packets_of passed ≡ packets_of (framed 188 bytes))
+    → new ≡ given_up items → cause ≢ TooMuch → (stopped ≡ Some TooMuch → ⊥) → (cause ≡ ReadFailed → packets_of passed ≡ packets_of (framed 188 bytes))
     → HasTold (passed_state items passed bytes left stopped) → HasTold (passed_state new passed bytes left (Some cause))
-left_now items new passed bytes left stopped cause gone other all_passed h =
+left_now items new passed bytes left stopped cause gone other few all_passed h =
     let framing = subst (λ v. BeginsFramed v (IsAtEnd left) passed) (sym (append-nil bytes)) (front_framed bytes (IsAtEnd left) passed items.ahead (told_framed items.limit items.framer (passed ++ items.ahead) bytes left stopped h)) in
-    let here = left_with items.limit items.framer passed items.ahead bytes [] left left stopped cause (λ e. absurd (other e)) framing (λ e. all_passed e ∙ ap (λ v. packets_of (framed 188 v)) (sym (append-nil bytes))) h in
+    let size = told_within items.limit items.framer (passed ++ items.ahead) bytes left stopped h few in
+    let here = left_with items.limit items.framer passed items.ahead bytes [] left left stopped cause (λ e. absurd (other e)) (λ f. omega (arith, size, length-append bytes [])) framing (λ e. all_passed e ∙ ap (λ v. packets_of (framed 188 v)) (sym (append-nil bytes))) h in
     let P : ItemsValue → Type 0 = λ v. HasTold (passed_state v passed bytes left (Some cause)) in
     let Q : List ℕ → Type 0 = λ v. HasTold (state items.limit None (passed ++ []) v left (Some cause)) in
     subst P (sym gone) (subst Q (append-nil bytes) here)
@@ -104,6 +121,15 @@ left_now items new passed bytes left stopped cause gone other all_passed h =
 pub full_bytes : (limit : ℕ) (framer : Option FramerState) (told : List Item) (bytes piece : List ℕ) (left : Option (List ℕ)) (stopped : Option Stop) → HasTold (state limit framer told bytes left stopped) → IsFull limit framer piece → limit < length (bytes ++ piece)
 full_bytes limit None told bytes piece left stopped h full = absurd full
 full_bytes limit (Some f) told bytes piece left stopped h full = omega (arith, full, h.seen_is, length-append bytes piece)
+
+-- a piece that fits doesn't
+pub fits_bytes : (limit : ℕ) (framer : Option FramerState) (told : List Item) (bytes piece : List ℕ) (left : Option (List ℕ)) (stopped : Option Stop) → IsSome framer → HasTold (state limit framer told bytes left stopped) → (IsFull limit framer piece → ⊥) → length (bytes ++ piece) ≤ limit
+fits_bytes limit None told bytes piece left stopped going h few = let bad : false ≡ true = going in cc
+fits_bytes limit (Some f) told bytes piece left stopped going h few =
+    elim (cases_lt limit (seen f + length piece)) [
+      | inl l ↦ absurd (few l)
+      | inr l ↦ omega (arith, l, h.seen_is, length-append bytes piece)
+    ]
 
 -- the items ahead of a framer that told nothing
 told_before : (passed ahead : List Item) → ahead ≡ [] → passed ≡ passed ++ ahead
@@ -158,6 +184,7 @@ finished_told limit (Some f) passed ahead new bytes left stopped none going ends
       inside = (bytes, [], h.within, append-nil (passed ++ rest) ∙ whole);
       ended = λ e. (whole, there);
       too_much = λ e. absurd (none-some TooMuch (sym h.goes_on ∙ e));
+      within = λ f. h.within;
       failed = λ e. absurd (none-some ReadFailed (sym h.goes_on ∙ e));
     } in
     let P : ItemsValue → Type 0 = λ v. HasTold (passed_state v passed bytes left stopped) in
@@ -209,11 +236,6 @@ fresh_passed limit items left is =
     } in
     let P : ItemsValue → Type 0 = λ v. HasTold (passed_state v [] [] left None) in
     subst P (sym is) reading
-
--- while it is read nothing stopped it
-pub goes_on : (limit : ℕ) (framer : Option FramerState) (told : List Item) (bytes : List ℕ) (left : Option (List ℕ)) (stopped : Option Stop) → IsSome framer → HasTold (state limit framer told bytes left stopped) → stopped ≡ None
-goes_on limit None told bytes left stopped going h = let bad : false ≡ true = going in cc
-goes_on limit (Some f) told bytes left stopped going h = h.goes_on
 
 -- a stream is told as too long only where it is
 pub told_too_much : (limit : ℕ) (framer : Option FramerState) (told : List Item) (bytes : List ℕ) (left : Option (List ℕ)) (stopped : Option Stop) → HasTold (state limit framer told bytes left stopped) → stopped ≡ Some TooMuch → limit < length bytes

@@ -2,13 +2,13 @@
 use Rattle.std.specs.Prelude.{◌≡◌, ℕ, ◌<◌, ◌≤◌, List, [], ◌++◌, length, Option, Some, None, IsSome}
 use Rattle.std.specs.Option.{option_to_list}
 use Rattle.std.specs.Io.KnownBytes.{Consumes, IsAtEnd}
-use Rattle.tspkt.specs.Framed.{framed}
+use Rattle.tspkt.specs.Framed.{framed, packets_of}
 use Rattle.tspkt.specs.declared.item.Item.{Item}
 use Rattle.tspkt.specs.declared.stamped.Stamped.{Stamped}
 use Rattle.plan.specs.Build.{PlanValue}
 use Rattle.reading.specs.Failures.{FailsOnce}
-use Rattle.reading.specs.Takeable.{OriginValue, takeable, CountsItems}
-use Rattle.reading.specs.StreamReading.{HasPassed}
+use Rattle.reading.specs.Takeable.{OriginValue, takeable, CountsItems, EndsAtTaken}
+use Rattle.reading.specs.StreamReading.{HasPassed, BeginsFramed}
 use Rattle.reading.specs.declared.report.Report.{Report}
 use Rattle.reading.specs.declared.stop.Stop.{Stop}
 use Rattle.reading.specs.declared.stop.Stop.TheVariants.{Gate, ReadFailed}
@@ -21,11 +21,14 @@ BeginsTakeable plan origin bytes given =
     (more : List ℕ) → (later : List Stamped) × (given ++ later ≡ takeable plan origin (framed 188 (bytes ++ more)))
 
 -- These of the items were looked at: those of their packets that can be taken were given, but for one that is held, and
--- the report counts them.
+-- the report counts them. Behind one that is held none was looked at, and none is left of what was told once the input was
+-- stopped.
 pub record HasLooked {R : Type 0} (remaining : R → Option (List ℕ)) (plan : PlanValue) (origin : OriginValue) (stream : StreamReader R) (held : Option Stamped) (report : Report) (bytes : List ℕ) (given : List Stamped) (looked : List Item) : Type 0 where
   pub passed : HasPassed remaining stream bytes report.stopped looked
   pub given_is : takeable plan origin looked ≡ given ++ option_to_list held
   pub counts : CountsItems plan origin looked report
+  pub ends : IsSome held → EndsAtTaken plan origin looked
+  pub over : IsSome report.stopped → stream.items.ahead ≡ []
 
 -- The input has read these bytes of its source and has given these packets, of which none is held.
 abbrev pub HasRead : {R : Type 0} → (R → Option (List ℕ)) → PlanValue → PacketReader R → List ℕ → List Stamped → Type 0
@@ -45,12 +48,13 @@ pub record TellsFailures {R : Type 0} (failures : R → ℕ) (before : ℕ) (x :
   pub told : x.report.stopped ≡ Some ReadFailed → FailsOnce before (failures x.stream.source)
   pub untold : (x.report.stopped ≡ Some ReadFailed → ⊥) → failures x.stream.source ≡ before
 
--- The input was read on: failures are told as before, what stopped it before still does, no run's end stopped it now, and it is
--- of the same origin and limit.
+-- The input was read on: failures are told as before, what stopped it before still does, no run's end stopped it now, one that
+-- was read no further isn't either now, and it is of the same origin and limit.
 pub record GoesOn {R : Type 0} (failures : R → ℕ) (old new : PacketReader R) : Type 0 where
   pub failures_told : (before : ℕ) → TellsFailures failures before old → TellsFailures failures before new
   pub going : new.report.stopped ≡ None → old.report.stopped ≡ None
   pub unleft : new.report.stopped ≡ Some Gate → old.report.stopped ≡ Some Gate
+  pub reading : IsSome new.stream.items.framer → IsSome old.stream.items.framer
   pub origin : new.origin ≡ old.origin
   pub limit : new.stream.items.limit ≡ old.stream.items.limit
 
@@ -65,3 +69,11 @@ pub record IsWhole {R : Type 0} (remaining : R → Option (List ℕ)) (plan : Pl
   pub given_is : given ≡ takeable plan x.origin (framed 188 bytes)
   pub counts : CountsItems plan x.origin (framed 188 bytes) x.report
   pub at_end : IsAtEnd (remaining x.stream.source)
+
+-- The report counts what was told of these bytes: items that begin their framing, whatever follows them, with all of their
+-- packets.
+pub record CountsTold (plan : PlanValue) (origin : OriginValue) (bytes : List ℕ) (at_end : Type 0) (report : Report) : Type 0 where
+  pub told : List Item
+  pub begun : BeginsFramed bytes at_end told
+  pub packets : packets_of told ≡ packets_of (framed 188 bytes)
+  pub counts : CountsItems plan origin told report

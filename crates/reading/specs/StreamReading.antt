@@ -45,7 +45,9 @@ pub record IsOver (s : StreamState) : Type 0 where
   pub begun : BeginsFramed s.bytes (IsAtEnd s.left) s.told
   pub inside : (inside : List ℕ) × (later : List Item) × (length inside ≤ s.limit) × (s.told ++ later ≡ framed 188 inside)
   pub ended : s.stopped ≡ None → (s.told ≡ framed 188 s.bytes) × IsAtEnd s.left
+  -- it is told as too long exactly where more bytes were read than it may have
   pub too_much : s.stopped ≡ Some TooMuch → s.limit < length s.bytes
+  pub within : (s.stopped ≡ Some TooMuch → ⊥) → length s.bytes ≤ s.limit
   -- a failed read loses no packet of the bytes before it
   pub failed : s.stopped ≡ Some ReadFailed → packets_of s.told ≡ packets_of (framed 188 s.bytes)
 

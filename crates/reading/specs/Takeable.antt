@@ -1,6 +1,6 @@
 -- The packets of an input that a run may take, and what is counted of the others (profile; framing is by
 -- ISO/IEC 13818-1, 2.4.3.2, and ETSI TR 101 290, 5.2.1).
-use Rattle.std.specs.Prelude.{◌≡◌, ℕ, ◌+◌, List, Bool, Option, Some, None, if◌then◌else◌, is_some, is_none, sum_by}
+use Rattle.std.specs.Prelude.{◌≡◌, ◌⊎◌, ℕ, ◌+◌, List, [], ◌∷◌, ◌++◌, Bool, Option, Some, None, IsSome, if◌then◌else◌, is_some, is_none, sum_by}
 use Rattle.std.specs.List.{filter_map}
 use Rattle.tspkt.specs.Packet.{fault_of, pid_of}
 use Rattle.tspkt.specs.Stamps.{time_of}
@@ -45,6 +45,11 @@ taken_of plan origin (Lost count) = None
 -- the packets that a run takes of what framing tells, in order
 abbrev pub takeable : PlanValue → OriginValue → List Item → List Stamped
 takeable plan origin items = filter_map (taken_of plan origin) items
+
+-- the last of these items, if there is one, is a packet that a run takes
+abbrev pub EndsAtTaken : PlanValue → OriginValue → List Item → Type 0
+EndsAtTaken plan origin items =
+    (items ≡ []) ⊎ ((before : List Item) × (last : Item) × (items ≡ before ++ last ∷ []) × IsSome (taken_of plan origin last))
 
 -- What an item counts as: a packet is framed, and may be malformed, or else unmapped, where the plan doesn't name it;
 -- a packet with a bad sync byte is bad; a loss of sync is one; bytes in no packet are lost.

@@ -73,6 +73,7 @@ impl ItemReader {
         ensures ok { OnOk result (TakesMore self.old.limit self.old.framer piece.now self.new) }
         ensures err { OnErr result (self.new ≡ given_up self.old) }
         ensures too_much { result ≡ Err FeedFault.TooMuch → IsFull self.old.limit self.old.framer piece.now }
+        ensures full { IsFull self.old.limit self.old.framer piece.now → result ≡ Err FeedFault.TooMuch }
     {
         self.items.clear();
         self.taken = 0;

@@ -32,7 +32,8 @@ impl<R: Source> PacketReader<R> {
     ghost use Rattle.reading.specs.Counting.{nothing_counted};
     ghost use Rattle.reading.specs.Takeable.{origin_of};
     ghost use Rattle.reading.specs.Items.{given_up, left_to_read};
-    ghost use Rattle.reading.specs.PacketReading.{HasRead, ReadsOn, GoesOn, TellsFailures, IsSpent, BeginsTakeable, IsWhole};
+    ghost use Rattle.std.specs.Io.KnownBytes.{IsAtEnd};
+    ghost use Rattle.reading.specs.PacketReading.{HasRead, ReadsOn, GoesOn, TellsFailures, IsSpent, BeginsTakeable, IsWhole, CountsTold};
 
     /// The input with this number in the plan, of which nothing was read, and of which at most so many bytes may come: up to
     /// 140,737,488,355,328.
@@ -62,7 +63,7 @@ impl<R: Source> PacketReader<R> {
 
     /// Finds the next packet that the plan names, with its time, and holds it; false is answered where the input has no
     /// more. It reads pieces of at most the length of `piece` until there is one, and nothing where one is held. An `Err` is
-    /// want of memory, and ends the input.
+    /// want of memory, for an input that was still read, and ends it.
     pub fn find(&mut self, plan: &Plan, piece: &mut [u8]) -> Result<bool, AllocError>
         requires { 0 < length piece.old }
         ensures read { ReadsOn R.remaining plan.now self.old self.new }
@@ -71,6 +72,7 @@ impl<R: Source> PacketReader<R> {
         ensures done { result ≡ Ok false → IsSpent self.new }
         ensures stays { IsSome self.old.held → self.new ≡ self.old }
         ensures memory { OnErr result (self.new.report.stopped ≡ Some Stop.Memory) }
+        ensures reading { OnErr result (IsSome self.old.stream.items.framer) }
         ensures unrefused { OnOk result (self.new.report.stopped ≡ Some Stop.Memory
             → self.old.report.stopped ≡ Some Stop.Memory) }
         ensures failed { self.new.report.stopped ≡ Some Stop.ReadFailed
@@ -92,6 +94,7 @@ impl<R: Source> PacketReader<R> {
         ensures found { result ≡ Ok true → IsSome self.new.held }
         ensures done { result ≡ Ok false → IsSpent self.new }
         ensures memory { OnErr result (self.new.report.stopped ≡ Some Stop.Memory) }
+        ensures reading { OnErr result (IsSome self.old.stream.items.framer) }
         ensures unrefused { OnOk result (self.new.report.stopped ≡ Some Stop.Memory
             → self.old.report.stopped ≡ Some Stop.Memory) }
     {
@@ -199,7 +202,8 @@ impl<R: Source> PacketReader<R> {
     }
 
     /// What was found so far. What was given begins what can be taken, and where nothing is left and nothing stopped the
-    /// input it is all of it, and the report counts all items.
+    /// input it is all of it, and the report counts all items. At a failed read it counts what was told of the bytes before
+    /// it. The input is told as too long exactly where it is.
     pub fn report(&self) -> Report
         ensures value { result ≡ self.now.report }
         ensures begins { (plan : PlanValue) (bytes : List ℕ) (given : List GivenPacket)
@@ -211,6 +215,12 @@ impl<R: Source> PacketReader<R> {
         ensures too_much { (plan : PlanValue) (bytes : List ℕ) (given : List GivenPacket)
             → HasRead R.remaining plan self.now bytes given
             → result.stopped ≡ Some Stop.TooMuch → self.now.stream.items.limit < length bytes }
+        ensures within { (plan : PlanValue) (bytes : List ℕ) (given : List GivenPacket)
+            → HasRead R.remaining plan self.now bytes given
+            → (result.stopped ≡ Some Stop.TooMuch → ⊥) → length bytes ≤ self.now.stream.items.limit }
+        ensures told { (plan : PlanValue) (bytes : List ℕ) (given : List GivenPacket)
+            → HasRead R.remaining plan self.now bytes given → result.stopped ≡ Some Stop.ReadFailed
+            → CountsTold plan self.now.origin bytes (IsAtEnd (R.remaining self.now.stream.source)) result }
     {
         self.report
     }

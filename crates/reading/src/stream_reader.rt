@@ -130,10 +130,10 @@ impl<R: Source> StreamReader<R> {
         }
     }
 
-    /// Reads no further, and gives up what wasn't taken.
+    /// Reads no further, where nothing else stopped the stream, and gives up what wasn't taken.
     pub fn leave(&mut self)
-        ensures left { (bytes : List ℕ) (stopped : Option Cause) (passed : List ToldItem)
-            → HasPassed R.remaining self.old bytes stopped passed
+        ensures left { (bytes : List ℕ) (passed : List ToldItem)
+            → HasPassed R.remaining self.old bytes None passed
             → HasPassed R.remaining self.new bytes (Some Stop.Gate) passed }
         ensures stays { self.new ≡ record self.old { items = given_up self.old.items } }
     {

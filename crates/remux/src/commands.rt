@@ -2,21 +2,18 @@
 
 ghost use Rattle.std.specs.Prelude.{◌≡◌, ◌^◌, ◌≤◌, length, IfOk};
 
-use crate::command::{Command, LineFault};
-use crate::command_fault::CommandFault;
-use crate::command_line::line;
 use crate::files::Files;
-use crate::first_run;
-use crate::plan_files::{open_inputs, read_plan};
 use crate::printing::{has_failed, print_delays, print_plan, print_summary};
-use crate::run_length::most_slots;
-use crate::stream_analysis::StreamAnalysis;
+use analysis::StreamAnalysis;
+use input_files::{open_inputs, read_plan};
+use messages::CommandFault;
 use plan::Plan;
 use reading::Source;
-use serial::{RunFault, Sink, Summary, run_serial};
+use serial::{RunFault, Sink, Summary, run_serial_within};
 use std::alloc::Global;
 use std::convert::AsStr;
 use std::io::Write;
+use words::{Command, LineFault, line, most_bytes, most_slots};
 
 /// The status of a refused command line.
 const REFUSED: u8 = 2;
@@ -79,7 +76,8 @@ pub fn command<F: Files, O: Write, E: Write, S: AsStr>(
                 delays,
             },
         ) => {
-            let (writer, ran) = run(alloc, files, plan, name, most_slots(length));
+            let (slots, limit) = (most_slots(length), most_bytes(length));
+            let (writer, ran) = run(alloc, files, plan, name, slots, limit);
             let ended = tell_run(alloc, ran, delays, out, err);
             (end(ended, out, err), writer)
         }
@@ -128,7 +126,7 @@ fn print_help<O: Write>(text: &str, out: &mut O) -> Result<u8, CommandFault> {
 
 /// Prints the packets of the stored first run.
 fn print_first<O: Write>(alloc: Global, out: &mut O) -> Result<u8, CommandFault> {
-    let Ok(packets) = first_run::first_slots(alloc) else {
+    let Ok(packets) = example::first_slots(alloc) else {
         return Err(CommandFault::Memory);
     };
     for packet in &packets {
@@ -206,20 +204,22 @@ fn prepare<F: Files>(
     }
 }
 
-/// Makes the multiplex of a plan.
+/// Makes the multiplex of a plan, of at most so many slots, over inputs of at most `limit` bytes.
 fn run<F: Files>(
     alloc: Global,
     files: &mut F,
     plan: &str,
     name: &str,
     slots: u64,
+    limit: u64,
 ) -> (Option<F::Writer>, Result<Ran, CommandFault>)
-    requires { slots ≤ 2 ^ 40 }
+    requires slots { slots ≤ 2 ^ 40 }
+    requires limit { limit ≤ 2 ^ 47 }
 {
     match prepare(alloc, files, plan, name) {
         Err(fault) => (None, Err(fault)),
         Ok(prepared) => {
-            let (writer, ran) = run_prepared(alloc, prepared, name, slots);
+            let (writer, ran) = run_prepared(alloc, prepared, name, slots, limit);
             (Some(writer), ran)
         }
     }
@@ -231,9 +231,11 @@ fn run_prepared<R: Source + Drop, W: Sink>(
     prepared: Prepared<R, W>,
     name: &str,
     slots: u64,
+    limit: u64,
 ) -> (W, Result<Ran, CommandFault>)
     requires readers { length prepared.readers.items ≡ length prepared.plan.request.inputs }
     requires slots { slots ≤ 2 ^ 40 }
+    requires limit { limit ≤ 2 ^ 47 }
 {
     let Prepared {
         plan,
@@ -241,7 +243,7 @@ fn run_prepared<R: Source + Drop, W: Sink>(
         readers,
         writer,
     } = prepared;
-    match run_serial(alloc, plan, slots, readers, writer) {
+    match run_serial_within(alloc, plan, slots, limit, readers, writer) {
         (writer, Ok((summary, _))) => (
             writer,
             Ok(Ran {

@@ -4,24 +4,15 @@
 //! packets of one input go in, and two slots of the multiplex come out.
 #![tactic(auto)]
 
-mod command;
-mod command_fault;
-mod command_line;
 mod commands;
-mod example;
 mod files;
-mod first_run;
-mod options;
-mod plan_files;
 mod printing;
-mod run_length;
-mod stream_analysis;
 mod system_files;
 #[cfg(test)]
 mod tests;
 
-use crate::command_fault::CommandFault;
 use crate::system_files::SystemFiles;
+use messages::CommandFault;
 use std::io::{BufWriter, ErrorKind, Write};
 use std::process::ExitCode;
 use std::rt::Env;

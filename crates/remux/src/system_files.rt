@@ -1,6 +1,7 @@
 //! The files of the system.
 
 use crate::files::Files;
+use input_files::Sources;
 use reading::ReadSource;
 use serial::WriteSink;
 use std::fs::File;
@@ -12,10 +13,8 @@ pub struct SystemFiles<'a, R> {
     pub rt: &'a R,
 }
 
-impl<'a, R: rt::Files> Files for SystemFiles<'a, R> {
+impl<'a, R: rt::Files> Sources for SystemFiles<'a, R> {
     type Reader = ReadSource<R::File>;
-
-    type Writer = WriteSink<R::File>;
 
     fn reader(&mut self, name: &str) -> Option<ReadSource<R::File>> {
         match File::open(self.rt, name) {
@@ -23,6 +22,10 @@ impl<'a, R: rt::Files> Files for SystemFiles<'a, R> {
             Err(_) => None,
         }
     }
+}
+
+impl<'a, R: rt::Files> Files for SystemFiles<'a, R> {
+    type Writer = WriteSink<R::File>;
 
     fn writer(&mut self, name: &str) -> Option<WriteSink<R::File>> {
         match File::create(self.rt, name) {

@@ -7,11 +7,12 @@ use Rattle.std.proofs.lemmas.Bool.{cases_Bool, ne_eqb, false≢true}
 use Rattle.std.specs.Io.KnownBytes.{Consumes, IsAtEnd}
 use Rattle.tspkt.specs.Packet.{pid_of}
 use Rattle.tspkt.specs.Framed.{framed}
+use Rattle.tspkt.specs.declared.framer.TheConstants.{MAX_LIMIT}
 use Rattle.tspkt.specs.declared.item.Item.{Item}
 use Rattle.tspkt.specs.declared.item.Item.TheVariants.{Packet, Bad, SyncLoss, Lost}
 use Rattle.tspkt.specs.declared.stamped.Stamped.{Stamped}
 use Rattle.request.specs.declared.stream.Stream.{Stream}
-use Rattle.plan.specs.declared.stream.Stream.{Stream as Planned}
+use Rattle.plan.specs.declared.planned_stream.PlannedStream.{PlannedStream as Planned}
 use Rattle.plan.specs.Build.{PlanValue}
 use Rattle.plan.specs.StreamPlace.{planned_stream}
 use Rattle.mux.specs.declared.event.Event.{Event}
@@ -20,7 +21,7 @@ use Rattle.mux.specs.History.{History, slots, slot_time, taken, last_stamp, is_c
 use Rattle.mux.specs.Lawful.{is_mapped, is_queue_full, is_ready}
 use Rattle.mux.proofs.Mapped.{planned_some}
 use Rattle.mux.proofs.Refusals.{goes_from, mapped_at, is_refused_full, is_unrefused}
-use Rattle.reading.specs.Takeable.{OriginValue, takeable, is_well_formed, is_named}
+use Rattle.reading.specs.Takeable.{OriginValue, takeable, is_well_formed, is_named, EndsAtTaken}
 use Rattle.serial.specs.Order.{ComeFrom}
 use Rattle.reading.specs.PacketReading.{HasLooked, ReadsOn, IsSpent}
 use Rattle.serial.specs.declared.serial_input.SerialInput.{SerialInput}
@@ -81,14 +82,15 @@ last_taken i (Slot c ∷ h) = last_taken i h
 -- What was given begins what can be taken of bytes that aren't too many.
 
 abbrev pub IsInside : PlanValue → OriginValue → List Stamped → Type 0
-IsInside plan origin given = (inside : List ℕ) × (later : List Stamped) × (length inside ≤ 3154116608) × (given ++ later ≡ takeable plan origin (framed 188 inside))
+IsInside plan origin given = (inside : List ℕ) × (later : List Stamped) × (length inside ≤ MAX_LIMIT) × (given ++ later ≡ takeable plan origin (framed 188 inside))
 
-pub few : (plan : PlanValue) (o : OriginValue) (given : List Stamped) → IsInside plan o given → length given ≤ 16777216
+pub few : (plan : PlanValue) (o : OriginValue) (given : List Stamped) → IsInside plan o given → length given ≤ MAX_LIMIT
 few plan o given is =
     let all = takeable plan o (framed 188 is.0) in
-    let most = are_few plan o is.0 is.2 in
+    let most = are_few plan o is.0 in
+    let size = is.2 in
     let parts : length given ≤ length all = omega (arith, length-append given is.1, ap length is.3) in
-    omega (arith, most, parts)
+    omega (arith, most, parts, size)
 
 -- the next packet of an input may be taken
 pub may_be_taken : (p : PlanValue) (h : List Event) (i : ℕ) (o : OriginValue) (item : Stamped) → o.number ≡ i → 0 < o.rate → is_closed i h ≡ false → IsInside p o (taken i h ++ item ∷ [])
@@ -135,19 +137,23 @@ given_on remaining p i start old new given has reads origin limit =
     let P : OriginValue → Type 0 = IsOrigin p i in
     record {
       origin = subst P (sym origin) has.origin;
-      limit = limit ∙ has.limit;
+      limit = omega (arith, limit, has.limit);
       read = (b.0 ++ on.0, consumes_on start (remaining old.reader.stream.source) (remaining new.reader.stream.source) b.0 on.0 b.1 on.1, on.2);
     }
 
--- what an input held was given
+is_held : (held : Option Stamped) (item : Stamped) → held ≡ Some item → IsSome held
+is_held held item e = subst IsSome (sym e) refl
+
+-- what an input held was given, and nothing was looked at behind it
 pub given_released : {R : Type 0} (remaining : R → Option (List ℕ)) (p : PlanValue) (i : ℕ) (start : Option (List ℕ)) (x : SerialInput R) (given : List Stamped) (item : Stamped)
-    → x.reader.held ≡ Some item → HasGiven remaining p i start x given → HasGiven remaining p i start (record x { reader = record x.reader { held = None } }) (given ++ item ∷ [])
+    → x.reader.held ≡ Some item → HasGiven remaining p i start x given
+    → (now : HasGiven remaining p i start (record x { reader = record x.reader { held = None } }) (given ++ item ∷ [])) × EndsAtTaken p x.reader.origin now.read.2.0
 given_released remaining p i start x given item held has =
     let b = has.read in
     let r = x.reader in
     let now = released remaining p r.origin r.stream r.held r.report b.0 given b.2.0 b.2.1 in
     let P : Option Stamped → Type 0 = λ o. HasLooked remaining p r.origin r.stream None r.report b.0 (given ++ option_to_list o) b.2.0 in
-    record { origin = has.origin; limit = has.limit; read = (b.0, b.1, (b.2.0, subst P held now)) }
+    (record { origin = has.origin; limit = has.limit; read = (b.0, b.1, (b.2.0, subst P held now)) }, b.2.1.ends (is_held x.reader.held item held))
 
 pub some_held : (held : Option Stamped) → IsSome held → (item : Stamped) × (held ≡ Some item)
 some_held None some = let bad : false ≡ true = some in cc
@@ -194,6 +200,7 @@ feeds_closed remaining p h i start x has done own = record {
   closed = sym (ap (λ b. b || is_closed i h) (eq-eqb i i refl));
   over = λ e. record { framer = done.framer; ahead = done.ahead; held = done.held };
   own = own;
+  stands = λ e. absurd (false≢true (sym e));
 }
 
 -- the packet that it held is taken
@@ -201,23 +208,27 @@ feeds_taken : {R : Type 0} (remaining : R → Option (List ℕ)) (p : PlanValue)
     → x.reader.held ≡ Some item → HasGiven remaining p i start x (taken i h) → is_closed i h ≡ false → x.is_closed ≡ is_closed i h → IsOwnStop x.reader.report.stopped
     → Feeds remaining p (Took i item ∷ h) i start (record x { reader = record x.reader { held = None } })
 feeds_taken remaining p h i start x item held has opened closed own =
-    let P : List Stamped → Type 0 = HasGiven remaining p i start (record x { reader = record x.reader { held = None } }) in
+    let after = record x { reader = record x.reader { held = None } } in
+    let P : List Stamped → Type 0 = λ xs. (g : HasGiven remaining p i start after xs) × EndsAtTaken p x.reader.origin g.read.2.0 in
     let now : taken i (Took i item ∷ h) ≡ taken i h ++ item ∷ [] = ap (λ b. if b then taken i h ++ item ∷ [] else taken i h) (eq-eqb i i refl) in
+    let given = subst P (sym now) (given_released remaining p i start x (taken i h) item held has) in
     record {
-      given = subst P (sym now) (given_released remaining p i start x (taken i h) item held has);
+      given = given.0;
       closed = closed;
       over = λ e. absurd (false≢true (sym opened ∙ sym closed ∙ e));
       own = own;
+      stands = λ e. given.1;
     }
 
 -- it is still held
-feeds_held : {R : Type 0} (remaining : R → Option (List ℕ)) (p : PlanValue) (h : List Event) (i : ℕ) (start : Option (List ℕ)) (x : SerialInput R) (st : Stream)
-    → HasGiven remaining p i start x (taken i h) → is_closed i h ≡ false → x.is_closed ≡ is_closed i h → IsOwnStop x.reader.report.stopped → Feeds remaining p (Full i st ∷ h) i start x
-feeds_held remaining p h i start x st has opened closed own = record {
+feeds_held : {R : Type 0} (remaining : R → Option (List ℕ)) (p : PlanValue) (h : List Event) (i : ℕ) (start : Option (List ℕ)) (x : SerialInput R) (item : Stamped) (st : Stream)
+    → x.reader.held ≡ Some item → HasGiven remaining p i start x (taken i h) → is_closed i h ≡ false → x.is_closed ≡ is_closed i h → IsOwnStop x.reader.report.stopped → Feeds remaining p (Full i st ∷ h) i start x
+feeds_held remaining p h i start x item st held has opened closed own = record {
   given = has;
   closed = closed;
   over = λ e. absurd (false≢true (sym opened ∙ sym closed ∙ e));
   own = own;
+  stands = λ e. has.read.2.1.ends (is_held x.reader.held item held);
 }
 
 pub feeds_given : {R : Type 0} (remaining : R → Option (List ℕ)) (p : PlanValue) (before after : History) (i : ℕ) (start : Option (List ℕ)) (x y : SerialInput R) (item : Stamped)
@@ -230,18 +241,18 @@ feeds_given remaining p before after i start x y item (inl is) held has opened c
 feeds_given remaining p before after i start x y item (inr is) held has opened closed own =
     let P : History → Type 0 = λ v. Feeds remaining p v.events i start y in
     let Q : SerialInput _ → Type 0 = Feeds remaining p (Full i is.0 ∷ before.events) i start in
-    subst P (sym is.1) (subst Q (sym is.2) (feeds_held remaining p before.events i start x is.0 has opened closed own))
+    subst P (sym is.1) (subst Q (sym is.2) (feeds_held remaining p before.events i start x item is.0 held has opened closed own))
 
 -- there is a turn less
 
-fewer_taken : (i : ℕ) (item : Stamped) (h : List Event) → length (taken i h ++ item ∷ []) ≤ 16777216 → turns_left i (Took i item ∷ h) < turns_left i h
+fewer_taken : (i : ℕ) (item : Stamped) (h : List Event) → length (taken i h ++ item ∷ []) ≤ MAX_LIMIT → turns_left i (Took i item ∷ h) < turns_left i h
 fewer_taken i item h within = rw (eq-eqb i i refl) (let l = length-append (taken i h) (item ∷ []) in omega (arith, within, l))
 
 fewer_noted : (i : ℕ) (st : Stream) (h : List Event) → full_noted i h ≡ false → turns_left i (Full i st ∷ h) < turns_left i h
 fewer_noted i st h none = rw (eq-eqb i i refl, none) (omega arith)
 
 pub fewer : {R : Type 0} (before after : History) (i : ℕ) (x y : SerialInput R) (item : Stamped) → IsGivenOrHeld before after i x y item
-    → length (taken i before.events ++ item ∷ []) ≤ 16777216 → full_noted i before.events ≡ false → turns_left i after.events < turns_left i before.events
+    → length (taken i before.events ++ item ∷ []) ≤ MAX_LIMIT → full_noted i before.events ≡ false → turns_left i after.events < turns_left i before.events
 fewer before after i x y item (inl is) within none =
     let P : History → Type 0 = λ v. turns_left i v.events < turns_left i before.events in
     subst P (sym is.0) (fewer_taken i item before.events within)
@@ -250,7 +261,7 @@ fewer before after i x y item (inr is) within none =
     subst P (sym is.1) (fewer_noted i is.0 before.events none)
 
 pub few_given : {R : Type 0} (remaining : R → Option (List ℕ)) (p : PlanValue) (i : ℕ) (start : Option (List ℕ)) (x : SerialInput R) (given : List Stamped)
-    → HasGiven remaining p i start x given → length given ≤ 16777216
+    → HasGiven remaining p i start x given → length given ≤ MAX_LIMIT
 few_given remaining p i start x given has = few p x.reader.origin given (inside_given remaining p i start x given has)
 
 -- from two clauses of a result

@@ -7,5 +7,7 @@ pub mod SendingLaws
 pub mod RunningLaws
 pub mod OpeningLaws
 pub mod FaultBounds
+pub mod SoundLaws
 pub mod OutcomeLaws
+pub mod HaltedLaws
 pub mod OutputLaws

@@ -1,5 +1,5 @@
 -- The inputs of a run before anything is read.
-use Rattle.std.proofs.Common.{ℕ, zero, suc, ◌<◌, ◌≡◌, ◌⊎◌, List, [], ◌∷◌, ◌++◌, length, map, Option, Some, false, refl, ap, ◌∙◌, sym, subst, arith, inl, inr}
+use Rattle.std.proofs.Common.{ℕ, zero, suc, ◌<◌, ◌≤◌, ◌≡◌, ◌⊎◌, List, [], ◌∷◌, ◌++◌, length, map, Option, Some, false, refl, ap, ◌∙◌, sym, subst, arith, inl, inr}
 use Rattle.std.specs.List.{slice_get}
 use Rattle.std.proofs.lemmas.List.{length-append}
 use Rattle.std.proofs.lemmas.Option.{same_Some, slice_get_within, slice_get_cases, slice_get-map}
@@ -13,10 +13,14 @@ use Rattle.reading.specs.Counting.{nothing_counted}
 use Rattle.reading.specs.Takeable.{origin_of}
 use Rattle.reading.specs.PacketReading.{HasRead}
 use Rattle.reading.specs.PacketReading.{TellsFailures}
+use Rattle.reading.specs.declared.packet_reader.PacketReader.{PacketReader}
+use Rattle.reading.proofs.PacketLaws.{looked_framed}
+use Rattle.tspkt.specs.Framed.{framed, framed_from}
+use Rattle.tspkt.specs.declared.framer.TheConstants.{MAX_LIMIT}
 use Rattle.mux.specs.declared.event.Event.{Event}
 use Rattle.mux.specs.History.{History, opened, emitted}
 use Rattle.mux.specs.Faithful.{IsFaithful}
-use Rattle.serial.specs.Feeding.{packet_lists, AllTellFailures}
+use Rattle.serial.specs.Feeding.{packet_lists, AreLimited, AllTellFailures}
 use Rattle.serial.specs.Sending.{HasAnalysed}
 use Rattle.serial.specs.Opening.{IsOpened, AreOpened}
 use Rattle.serial.specs.Running.{AreFed, IsRunning}
@@ -36,10 +40,10 @@ from_map f [] i y at = cc
 from_map f (x ∷ xs) zero y at = (x, refl, same_Some (f x) y at)
 from_map f (x ∷ xs) (suc i) y at = from_map f xs i y at
 
-pub opened_push : {R : Type 0} (remaining : R → Option (List ℕ)) (failures : R → ℕ) (p : PlanValue) (readers : List R) (inputs : List (SerialInput R)) (reader : R) (x : SerialInput R)
-    → AreOpened remaining failures p readers inputs → IsOpened remaining failures p (length inputs) reader x
-    → AreOpened remaining failures p (readers ++ reader ∷ []) (inputs ++ x ∷ [])
-opened_push {R} remaining failures p readers inputs reader x are is = record {
+pub opened_push : {R : Type 0} (remaining : R → Option (List ℕ)) (failures : R → ℕ) (limit : ℕ) (p : PlanValue) (readers : List R) (inputs : List (SerialInput R)) (reader : R) (x : SerialInput R)
+    → AreOpened remaining failures limit p readers inputs → IsOpened remaining failures limit p (length inputs) reader x
+    → AreOpened remaining failures limit p (readers ++ reader ∷ []) (inputs ++ x ∷ [])
+opened_push {R} remaining failures limit p readers inputs reader x are is = record {
   count = omega (arith, are.count, length-append readers (reader ∷ []), length-append inputs (x ∷ []));
   each = λ i r y atr aty.
       elim (push_cases inputs x i y aty) [
@@ -50,17 +54,17 @@ opened_push {R} remaining failures p readers inputs reader x are is = record {
         | inr last ↦ elim (push_cases readers reader i r atr) [
           | inl here ↦ absurd (omega (arith, slice_get_within readers i r here, last.0, are.count))
           | inr end ↦
-              (let P : ℕ → Type 0 = λ n. IsOpened remaining failures p n r y in
-              let Q : R → Type 0 = λ v. IsOpened remaining failures p (length inputs) v y in
-              let S : SerialInput R → Type 0 = λ v. IsOpened remaining failures p (length inputs) reader v in
+              (let P : ℕ → Type 0 = λ n. IsOpened remaining failures limit p n r y in
+              let Q : R → Type 0 = λ v. IsOpened remaining failures limit p (length inputs) v y in
+              let S : SerialInput R → Type 0 = λ v. IsOpened remaining failures limit p (length inputs) reader v in
               subst P (sym last.0) (subst Q (sym end.1) (subst S (sym last.1) is)))
         ]
       ];
 }
 
-pub fed_of_opened : {R : Type 0} (remaining : R → Option (List ℕ)) (failures : R → ℕ) (p : PlanValue) (readers : List R) (inputs : List (SerialInput R)) → length readers ≡ length p.request.inputs
-    → AreOpened remaining failures p readers inputs → AreFed remaining p [] (map remaining readers) inputs
-fed_of_opened remaining failures p readers inputs count are = record {
+pub fed_of_opened : {R : Type 0} (remaining : R → Option (List ℕ)) (failures : R → ℕ) (limit : ℕ) (p : PlanValue) (readers : List R) (inputs : List (SerialInput R)) → length readers ≡ length p.request.inputs
+    → AreOpened remaining failures limit p readers inputs → AreFed remaining p [] (map remaining readers) inputs
+fed_of_opened remaining failures limit p readers inputs count are = record {
   count = are.count ∙ count;
   each = λ i x at.
       elim (slice_get_cases readers i).1 [
@@ -69,12 +73,20 @@ fed_of_opened remaining failures p readers inputs count are = record {
       ];
 }
 
-pub told_of_opened : {R : Type 0} (remaining : R → Option (List ℕ)) (failures : R → ℕ) (p : PlanValue) (readers : List R) (inputs : List (SerialInput R))
-    → AreOpened remaining failures p readers inputs → AllTellFailures failures (map failures readers) inputs
-told_of_opened remaining failures p readers inputs are i x before at from =
+pub told_of_opened : {R : Type 0} (remaining : R → Option (List ℕ)) (failures : R → ℕ) (limit : ℕ) (p : PlanValue) (readers : List R) (inputs : List (SerialInput R))
+    → AreOpened remaining failures limit p readers inputs → AllTellFailures failures (map failures readers) inputs
+told_of_opened remaining failures limit p readers inputs are i x before at from =
     let r = from_map failures readers i before from in
     let P : ℕ → Type 0 = λ n. TellsFailures failures n x.reader in
     subst P r.2 ((are.each i r.0 x r.1 at).told)
+
+pub limited_of_opened : {R : Type 0} (remaining : R → Option (List ℕ)) (failures : R → ℕ) (limit : ℕ) (p : PlanValue) (readers : List R) (inputs : List (SerialInput R))
+    → AreOpened remaining failures limit p readers inputs → AreLimited limit inputs
+limited_of_opened remaining failures limit p readers inputs are i x at =
+    elim (slice_get_cases readers i).1 [
+      | inl found ↦ (are.each i found.0 x found.2 at).limited
+      | inr past ↦ absurd (omega (arith, slice_get_within inputs i x at, past.0, are.count))
+    ]
 
 -- an input of a plan, as its number and its parts give it
 pub input_at : (p : PlanValue) (inputs : List Input) (i : ℕ) (x : Input) → map input_value inputs ≡ p.request.inputs → slice_get inputs i ≡ Some x
@@ -83,30 +95,46 @@ input_at p inputs i x same at =
     let P : List InputValue → Type 0 = λ v. slice_get v i ≡ Some (input_value x) in
     subst P same (slice_get-map input_value inputs i ∙ ap (option_map input_value) at)
 
-pub opened_input : {R : Type 0} (remaining : R → Option (List ℕ)) (failures : R → ℕ) (p : PlanValue) (i : ℕ) (input : InputValue) (reader : R) (x : SerialInput R)
-    → slice_get p.request.inputs i ≡ Some input → IsInput input → x.reader.origin ≡ origin_of i input → x.reader.stream.items.limit ≡ 3154116608 → x.reader.stream.source ≡ reader
-    → x.reader.report ≡ nothing_counted → x.is_closed ≡ false → HasRead remaining p x.reader [] [] → TellsFailures failures (failures reader) x.reader → IsOpened remaining failures p i reader x
-opened_input {R} remaining failures p i input reader x at is origin limit source report opened read tells =
+append_none : {X : Type 0} (xs ys : List X) → xs ++ ys ≡ [] → xs ≡ []
+append_none [] ys e = refl
+append_none (x ∷ xs) ys e = cc
+
+framed_none : framed 188 [] ≡ []
+unfolding framed_from
+framed_none = refl
+
+-- of an input of which nothing was read nothing was looked at
+nothing_looked : {R : Type 0} (remaining : R → Option (List ℕ)) (p : PlanValue) (x : PacketReader R) (h : HasRead remaining p x [] []) → h.0 ≡ []
+nothing_looked remaining p x h =
+    let b = looked_framed remaining p x [] [] h [] (λ end. refl) in
+    append_none h.0 b.0 (b.1 ∙ framed_none)
+
+pub opened_input : {R : Type 0} (remaining : R → Option (List ℕ)) (failures : R → ℕ) (limit : ℕ) (p : PlanValue) (i : ℕ) (input : InputValue) (reader : R) (x : SerialInput R)
+    → slice_get p.request.inputs i ≡ Some input → IsInput input → x.reader.origin ≡ origin_of i input → limit ≤ MAX_LIMIT → x.reader.stream.items.limit ≡ limit → x.reader.stream.source ≡ reader
+    → x.reader.report ≡ nothing_counted → x.is_closed ≡ false → HasRead remaining p x.reader [] [] → TellsFailures failures (failures reader) x.reader → IsOpened remaining failures limit p i reader x
+opened_input {R} remaining failures limit p i input reader x at is origin most size source report opened read tells =
     let C : R → Type 0 = λ v. Consumes (remaining reader) (remaining v) [] in
     record {
       feeds = record {
         given = record {
           origin = (input, at, is, origin);
-          limit = limit;
+          limit = omega (arith, most, size);
           read = ([], subst C (sym source) (Consumes-nil (remaining reader)), read);
         };
         closed = opened;
         over = λ e. (let bad = sym opened ∙ e in cc);
         own = record { unleft = λ e. (let bad = sym (ap (λ v. v.stopped) report) ∙ e in cc); unrefused = λ e. (let bad = sym (ap (λ v. v.stopped) report) ∙ e in cc) };
+        stands = λ e. inl (nothing_looked remaining p x.reader read);
       };
+      limited = size;
       told = tells;
     }
 
 -- a run of which nothing was read or sent
-pub runs_opened : {R : Type 0} (remaining : R → Option (List ℕ)) (failures : R → ℕ) (p : PlanValue) (limit : ℕ) (readers : List R) (r : SerialRun R)
-    → r.plan ≡ p → r.mux ≡ opened p limit → length readers ≡ length p.request.inputs → AreOpened remaining failures p readers r.inputs.items → 0 < length r.piece.items
-    → HasAnalysed r.output p.request.rate p.request.watch [] → IsRunning remaining (record { plan = p; limit = limit }) (map remaining readers) r
-runs_opened remaining failures p limit readers r plan mux count are piece analysed =
+pub runs_opened : {R : Type 0} (remaining : R → Option (List ℕ)) (failures : R → ℕ) (limit : ℕ) (p : PlanValue) (slots : ℕ) (readers : List R) (r : SerialRun R)
+    → r.plan ≡ p → r.mux ≡ opened p slots → length readers ≡ length p.request.inputs → AreOpened remaining failures limit p readers r.inputs.items → 0 < length r.piece.items
+    → HasAnalysed r.output p.request.rate p.request.watch [] → IsRunning remaining (record { plan = p; limit = slots }) limit (map remaining readers) r
+runs_opened remaining failures limit p slots readers r plan mux count are piece analysed =
     let none : [] ≡ r.mux.events = sym (ap (λ (v : History). v.events) mux) in
     let F : List Event → Type 0 = λ h. AreFed remaining p h (map remaining readers) r.inputs.items in
     let G : List Event → Type 0 = IsFaithful (packet_lists p (map remaining readers)) in
@@ -114,7 +142,8 @@ runs_opened remaining failures p limit readers r plan mux count are piece analys
     record {
       plan_is = plan;
       run_is = ap (λ (v : History). v.run) mux;
-      fed = subst F none (fed_of_opened remaining failures p readers r.inputs.items count are);
+      fed = subst F none (fed_of_opened remaining failures limit p readers r.inputs.items count are);
+      limited = limited_of_opened remaining failures limit p readers r.inputs.items are;
       piece = piece;
       faithful = λ known unstopped. subst G none tt;
       analysed = subst H none analysed;

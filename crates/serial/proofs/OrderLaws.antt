@@ -114,7 +114,7 @@ weigh plan origin (SyncLoss place ∷ items) = let rest = weigh plan origin item
 weigh plan origin (Lost count ∷ items) = let rest = weigh plan origin items in omega (arith, rest, sum_by-cons covered (Lost count) items)
 
 pub are_few : PacketsAreFew
-are_few plan origin bytes within =
+are_few plan origin bytes =
     let weight = weigh plan origin (framed 188 bytes) in
     let sum = sum-framed bytes in
-    omega (arith, weight, sum, within)
+    omega (arith, weight, sum)

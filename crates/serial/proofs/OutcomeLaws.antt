@@ -5,8 +5,8 @@ use Rattle.std.specs.List.{slice_get}
 use Rattle.std.specs.Io.KnownBytes.{Consumes, IsAtEnd, Appends}
 use Rattle.std.proofs.lemmas.Bool.{cases_eq, cases_Bool}
 use Rattle.std.proofs.Math.Nat.{min-eq_left}
-use Rattle.std.proofs.lemmas.List.{length-append, append-nil, map-append}
-use Rattle.std.proofs.lemmas.Option.{same_Some, slice_get_within, slice_get_cases, slice_get-map}
+use Rattle.std.proofs.lemmas.List.{length-append, length-map, append-nil, map-append}
+use Rattle.std.proofs.lemmas.Option.{none-some, same_Some, slice_get_within, slice_get_cases, slice_get-map}
 use Rattle.std.specs.Option.{option_map, option_to_list}
 use Rattle.tspkt.specs.Framed.{FramerState, framed}
 use Rattle.tspkt.specs.declared.item.Item.{Item}
@@ -17,7 +17,7 @@ use Rattle.plan.specs.Build.{PlanValue}
 use Rattle.mux.specs.declared.event.Event.{Event}
 use Rattle.mux.specs.History.{Run, taken, slots, emitted}
 use Rattle.std.proofs.KnownBytes.{Appends-nil}
-use Rattle.mux.specs.Lawful.{IsLawfulRun}
+use Rattle.mux.specs.Plans.{IsMultiplexPlan}
 use Rattle.mux.specs.Faithful.{IsFinished}
 use Rattle.mux.specs.Totals.{IsTotals, IsCounts}
 use Rattle.mux.specs.declared.peak.Peak.{Peak}
@@ -26,15 +26,15 @@ use Rattle.mux.specs.Headline.{IsSound}
 use Rattle.mux.proofs.Emitted.{length-emitted}
 use Rattle.analyse.specs.Faults.{faults}
 use Rattle.reading.specs.Failures.{FailsOnce}
-use Rattle.reading.specs.Takeable.{OriginValue, takeable, origin_of, CountsItems}
-use Rattle.reading.specs.PacketReading.{BeginsTakeable}
+use Rattle.reading.specs.Takeable.{OriginValue, takeable, origin_of, CountsItems, EndsAtTaken}
+use Rattle.reading.specs.PacketReading.{BeginsTakeable, CountsTold}
 use Rattle.reading.specs.StreamReading.{BeginsFramed}
-use Rattle.serial.specs.Feeding.{Feeds, AreUnstopped, AllTellFailures}
-use Rattle.serial.specs.Written.{Sends}
+use Rattle.serial.specs.Feeding.{Feeds, AreUnstopped, AreLimited, AllTellFailures}
+use Rattle.serial.specs.Written.{Sends, SendsBeginning}
 use Rattle.serial.specs.Sending.{bytes_of, fault_count}
-use Rattle.serial.specs.Running.{AreFed, IsRunning, IsOver}
+use Rattle.serial.specs.Running.{AreFed, IsRunning, IsOver, IsHalted, AreHalted}
 use Rattle.serial.specs.Ending.{IsLast, AreReported, ArePeaks}
-use Rattle.serial.specs.Outcome.{HasEnded, IsCounted, IsInputSummary, IsReadOn, AreReadOn, AreUnfailed, FailuresAreTold, HasRun, HasBegun}
+use Rattle.serial.specs.Outcome.{HasEnded, IsCounted, IsInputSummary, IsReadOn, AreReadOn, AreUnfailed, IsFailureTold, FailuresAreTold, HasRun, HasBegun}
 use Rattle.reading.specs.declared.report.Report.{Report}
 use Rattle.reading.specs.declared.stop.Stop.{Stop}
 use Rattle.reading.specs.declared.stop.Stop.TheVariants.{Gate, Memory, ReadFailed, TooMuch}
@@ -42,7 +42,8 @@ use Rattle.serial.specs.declared.serial_input.SerialInput.{SerialInput}
 use Rattle.serial.specs.declared.summary.InputSummary.{InputSummary}
 use Rattle.serial.specs.declared.summary.Summary.{Summary}
 use Rattle.serial.specs.declared.serial_run.SerialRun.{SerialRun}
-use Rattle.reading.proofs.PacketLaws.{too_much, looked_framed, given_begins, whole_read, failed_read}
+use Rattle.reading.proofs.PacketLaws.{too_much, within_read, counts_told, looked_framed, given_begins, whole_read, failed_read}
+use Rattle.serial.proofs.SoundLaws.{sound_nothing}
 use Rattle.serial.proofs.RunningLaws.{begun}
 use Rattle.serial.proofs.FaultBounds.{few_faults}
 use Rattle.serial.proofs.OpeningLaws.{push_cases, from_map}
@@ -146,21 +147,23 @@ origin_same remaining p h i input start x at f =
     let o = f.given.origin in
     o.3 ∙ ap (origin_of i) (same_Some o.0 input (sym o.1 ∙ at))
 
-pub ended : {R : Type 0} (remaining : R → Option (List ℕ)) (p : PlanValue) (h : List Event) (i : ℕ) (input : InputValue) (start : Option (List ℕ)) (x : SerialInput R) (s : InputSummary) (all : List ℕ)
-    → slice_get p.request.inputs i ≡ Some input → Feeds remaining p h i start x → x.is_closed ≡ true → s.report ≡ x.reader.report → s.report.stopped ≡ None → start ≡ Some all
-    → HasEnded p h i input all s
-ended remaining p h i input start x s all at f closed same unstopped known =
+pub ended : {R : Type 0} (remaining : R → Option (List ℕ)) (limit : ℕ) (p : PlanValue) (h : List Event) (i : ℕ) (input : InputValue) (start : Option (List ℕ)) (x : SerialInput R) (s : InputSummary) (all : List ℕ)
+    → slice_get p.request.inputs i ≡ Some input → Feeds remaining p h i start x → x.reader.stream.items.limit ≡ limit → x.is_closed ≡ true → s.report ≡ x.reader.report → s.report.stopped ≡ None → start ≡ Some all
+    → HasEnded limit p h i input all s
+ended remaining limit p h i input start x s all at f size closed same unstopped known =
     let origin = origin_same remaining p h i input start x at f in
     let r = f.given.read in
     let done = f.over closed in
-    let w = whole_read remaining p x.reader r.0 (taken i h) r.2 done (ap (λ v. v.stopped) (sym same) ∙ unstopped) in
+    let free = ap (λ v. v.stopped) (sym same) ∙ unstopped in
+    let w = whole_read remaining p x.reader r.0 (taken i h) r.2 done free in
+    let few = within_read remaining p x.reader r.0 (taken i h) r.2 (λ e. none-some TooMuch (sym free ∙ e)) in
     let bytes : all ≡ r.0 = all_read start (remaining x.reader.stream.source) r.0 all known r.1 w.at_end in
     let P : List ℕ → Type 0 = λ v. taken i h ≡ takeable p (origin_of i input) (framed 188 v) in
     let Q : OriginValue → Type 0 = λ v. taken i h ≡ takeable p v (framed 188 r.0) in
     let C : List ℕ → Type 0 = λ v. CountsItems p (origin_of i input) (framed 188 v) s.report in
     let D : OriginValue → Type 0 = λ v. CountsItems p v (framed 188 r.0) s.report in
     let E : Report → Type 0 = λ v. CountsItems p x.reader.origin (framed 188 r.0) v in
-    record { taken_is = subst P (sym bytes) (subst Q origin w.given_is); counts = subst C (sym bytes) (subst D origin (subst E (sym same) w.counts)) }
+    record { within = omega (arith, few, size, ap length bytes); taken_is = subst P (sym bytes) (subst Q origin w.given_is); counts = subst C (sym bytes) (subst D origin (subst E (sym same) w.counts)) }
 
 -- ---- what is said of each input
 
@@ -194,6 +197,21 @@ framed_all (Some first) (Some more) bytes all looked e used begins =
     let b = begins more (λ none. none) in
     (b.0, b.1 ∙ ap (framed 188) (sym used ∙ same_Some first all e))
 
+-- an input that the end of the run stopped was open
+left_open : {R : Type 0} (remaining : R → Option (List ℕ)) (p : PlanValue) (h : List Event) (i : ℕ) (start : Option (List ℕ)) (x : SerialInput R) (report : Report)
+    → Feeds remaining p h i start x → IsLast x report → report.stopped ≡ Some Gate → x.is_closed ≡ false
+left_open remaining p h i start x report f last e =
+    elim (cases_Bool x.is_closed) [
+      | inl closed ↦ absurd (f.own.unleft (ap (λ v. v.stopped) (sym (last.closed closed)) ∙ e))
+      | inr opened ↦ opened
+    ]
+
+-- what stopped an input before stands in its last report
+stopped_still : {R : Type 0} (x : SerialInput R) (report : Report) (cause : Stop) → IsLast x report → x.reader.report.stopped ≡ Some cause → report.stopped ≡ Some cause
+stopped_still x report cause last e =
+    let P : Option Stop → Type 0 = IsSome in
+    ap (λ v. v.stopped) (last.stopped (subst P (sym e) refl)) ∙ e
+
 counted : {R : Type 0} (remaining : R → Option (List ℕ)) (p : PlanValue) (h : List Event) (i : ℕ) (input : InputValue) (start : Option (List ℕ)) (x : SerialInput R) (s : InputSummary) (all : List ℕ)
     → slice_get p.request.inputs i ≡ Some input → Feeds remaining p h i start x → IsLast x s.report → start ≡ Some all → IsCounted p h i input all s
 counted remaining p h i input start x s all at f last known =
@@ -212,23 +230,20 @@ counted remaining p h i input start x s all at f last known =
       held = x.reader.held;
       taken_is = ap (λ v. takeable p v items) (sym origin) ∙ has.given_is;
       closed = λ e. (f.over (f.closed ∙ e)).held;
+      left = λ e. (let E : OriginValue → Type 0 = λ v. EndsAtTaken p v items in subst E origin (f.stands (left_open remaining p h i start x s.report f last e)));
     }
 
-pub input_summary : {R : Type 0} (remaining : R → Option (List ℕ)) (p : PlanValue) (h : List Event) (i : ℕ) (input : InputValue) (start : Option (List ℕ)) (x : SerialInput R) (s : InputSummary)
-    → slice_get p.request.inputs i ≡ Some input → Feeds remaining p h i start x → IsTotals p i h s.totals → IsLast x s.report
-    → IsInputSummary p h i input start s
-input_summary remaining p h i input start x s at f totals last = record {
+pub input_summary : {R : Type 0} (remaining : R → Option (List ℕ)) (limit : ℕ) (p : PlanValue) (h : List Event) (i : ℕ) (input : InputValue) (start : Option (List ℕ)) (x : SerialInput R) (s : InputSummary)
+    → slice_get p.request.inputs i ≡ Some input → Feeds remaining p h i start x → x.reader.stream.items.limit ≡ limit → IsTotals p i h s.totals → IsLast x s.report
+    → IsInputSummary limit p h i input start s
+input_summary remaining limit p h i input start x s at f size totals last = record {
   totals = totals;
   closed = λ e. sym f.closed ∙ (unstopped x s.report x.reader.report.stopped refl last e).0;
   ended = λ e all known.
       let u = unstopped x s.report x.reader.report.stopped refl last e in
-      ended remaining p h i input start x s all at f u.0 u.1 e known;
+      ended remaining limit p h i input start x s all at f size u.0 u.1 e known;
   counted = λ all known. counted remaining p h i input start x s all at f last known;
-  left = λ e.
-      elim (cases_Bool x.is_closed) [
-        | inl closed ↦ absurd (f.own.unleft (ap (λ v. v.stopped) (sym (last.closed closed)) ∙ e))
-        | inr opened ↦ sym f.closed ∙ opened
-      ];
+  left = λ e. sym f.closed ∙ left_open remaining p h i start x s.report f last e;
   unrefused = λ e.
       let same = stopped_before x s.report Memory last e (λ bad. cc) in
       f.own.unrefused (ap (λ v. v.stopped) (sym same) ∙ e);
@@ -237,13 +252,13 @@ input_summary remaining p h i input start x s at f totals last = record {
       let r = f.given.read in
       let much = too_much remaining p x.reader r.0 (taken i h) r.2 (ap (λ v. v.stopped) (sym same) ∙ e) in
       let some = some_read start (remaining x.reader.stream.source) r.0 all known r.1 in
-      omega (arith, much, some, f.given.limit);
+      omega (arith, much, some, size);
 }
 
 -- the source of an input was read on
-read_on : {R : Type 0} (remaining : R → Option (List ℕ)) (p : PlanValue) (h : List Event) (i : ℕ) (input : InputValue) (start : Option (List ℕ)) (x : SerialInput R) (s : InputSummary)
-    → slice_get p.request.inputs i ≡ Some input → Feeds remaining p h i start x → IsLast x s.report → IsReadOn p h i input start (remaining x.reader.stream.source) s
-read_on remaining p h i input start x s at f last =
+read_on : {R : Type 0} (remaining : R → Option (List ℕ)) (limit : ℕ) (p : PlanValue) (h : List Event) (i : ℕ) (input : InputValue) (start : Option (List ℕ)) (x : SerialInput R) (s : InputSummary)
+    → slice_get p.request.inputs i ≡ Some input → Feeds remaining p h i start x → x.reader.stream.items.limit ≡ limit → IsLast x s.report → IsReadOn limit p h i input start (remaining x.reader.stream.source) s
+read_on remaining limit p h i input start x s at f size last =
     let r = f.given.read in
     let B : OriginValue → Type 0 = λ v. BeginsTakeable p v r.0 (taken i h) in
     record {
@@ -254,6 +269,19 @@ read_on remaining p h i input start x s at f last =
           let u = unstopped x s.report x.reader.report.stopped refl last e in
           let done = f.over u.0 in
           (whole_read remaining p x.reader r.0 (taken i h) r.2 done (ap (λ v. v.stopped) (sym u.1) ∙ e)).at_end;
+      too_much = λ e.
+          let same = stopped_before x s.report TooMuch last e (λ bad. cc) in
+          let much = too_much remaining p x.reader r.0 (taken i h) r.2 (ap (λ v. v.stopped) (sym same) ∙ e) in
+          omega (arith, much, size);
+      within = λ other.
+          let few = within_read remaining p x.reader r.0 (taken i h) r.2 (λ e. other (stopped_still x s.report TooMuch last e)) in
+          omega (arith, few, size);
+      told = λ e.
+          let same = stopped_before x s.report ReadFailed last e (λ bad. cc) in
+          let C : OriginValue → Type 0 = λ v. CountsTold p v r.0 (IsAtEnd (remaining x.reader.stream.source)) s.report in
+          let D : Report → Type 0 = λ v. CountsTold p x.reader.origin r.0 (IsAtEnd (remaining x.reader.stream.source)) v in
+          subst C (origin_same remaining p h i input start x at f)
+          (subst D (sym same) (counts_told remaining p x.reader r.0 (taken i h) r.2 (ap (λ v. v.stopped) (sym same) ∙ e)));
       failed = λ e closed.
           let same = stopped_before x s.report ReadFailed last e (λ bad. cc) in
           let done = f.over (f.closed ∙ closed) in
@@ -262,18 +290,18 @@ read_on remaining p h i input start x s at f last =
           (failed_read remaining p x.reader r.0 (taken i h) r.2 done (ap (λ v. v.stopped) (sym same) ∙ e));
     }
 
-pub all_read_on : {R : Type 0} (remaining : R → Option (List ℕ)) (p : PlanValue) (h : List Event) (starts : List (Option (List ℕ))) (inputs : List (SerialInput R)) (summaries : List InputSummary) (sources : List R)
-    → AreFed remaining p h starts inputs → AreReported p h inputs summaries sources → AreReadOn p h starts (map remaining sources) summaries
-all_read_on {R} remaining p h starts inputs summaries sources fed are i input start left s at from to told =
+pub all_read_on : {R : Type 0} (remaining : R → Option (List ℕ)) (limit : ℕ) (p : PlanValue) (h : List Event) (starts : List (Option (List ℕ))) (inputs : List (SerialInput R)) (summaries : List InputSummary) (sources : List R)
+    → AreFed remaining p h starts inputs → AreLimited limit inputs → AreReported p h inputs summaries sources → AreReadOn limit p h starts (map remaining sources) summaries
+all_read_on {R} remaining limit p h starts inputs summaries sources fed limited are i input start left s at from to told =
     let l = from_map remaining sources i left to in
     let M : List R → Type 0 = λ v. slice_get v i ≡ Some l.0 in
     let m = from_map (λ (y : SerialInput R). y.reader.stream.source) inputs i l.0 (subst M are.sources_are l.1) in
     let x = m.0 in
     let f = fed.each i x m.1 in
     let P : Option (List ℕ) → Type 0 = λ v. Feeds remaining p h i v x in
-    let Q : Option (List ℕ) → Type 0 = λ v. IsReadOn p h i input start v s in
+    let Q : Option (List ℕ) → Type 0 = λ v. IsReadOn limit p h i input start v s in
     subst Q (ap remaining m.2 ∙ l.2)
-    (read_on remaining p h i input start x s at (subst P (same_Some f.0 start (sym f.1 ∙ from)) f.2) (are.reports i x s m.1 told))
+    (read_on remaining limit p h i input start x s at (subst P (same_Some f.0 start (sym f.1 ∙ from)) f.2) (limited i x m.1) (are.reports i x s m.1 told))
 
 unstopped_one : {R : Type 0} (x : SerialInput R) (report : Report) (stopped : Option Stop) → x.reader.report.stopped ≡ stopped → IsLast x report → (x.reader.report.stopped ≡ Some Gate → ⊥)
     → (report.stopped ≡ None) ⊎ (report.stopped ≡ Some Gate) → x.reader.report.stopped ≡ None
@@ -334,25 +362,25 @@ faults_exact run h told within few is =
     let fits : all ≤ 18446744073709551615 = omega (arith, bound, count, within, few) in
     is ∙ min-eq_left fits
 
-summary_input : {R : Type 0} (remaining : R → Option (List ℕ)) (p : PlanValue) (h : List Event) (starts : List (Option (List ℕ))) (inputs : List (SerialInput R)) (summaries : List InputSummary) (sources : List R)
-    → AreFed remaining p h starts inputs → AreReported p h inputs summaries sources
+summary_input : {R : Type 0} (remaining : R → Option (List ℕ)) (limit : ℕ) (p : PlanValue) (h : List Event) (starts : List (Option (List ℕ))) (inputs : List (SerialInput R)) (summaries : List InputSummary) (sources : List R)
+    → AreFed remaining p h starts inputs → AreLimited limit inputs → AreReported p h inputs summaries sources
     → (i : ℕ) (input : InputValue) (start : Option (List ℕ)) (s : InputSummary) → slice_get p.request.inputs i ≡ Some input → slice_get starts i ≡ Some start → slice_get summaries i ≡ Some s
-    → IsInputSummary p h i input start s
-summary_input remaining p h starts inputs summaries sources fed are i input start s at from told =
+    → IsInputSummary limit p h i input start s
+summary_input remaining limit p h starts inputs summaries sources fed limited are i input start s at from told =
     elim (slice_get_cases inputs i).1 [
       | inl found ↦
           (let x = found.0 in
           let f = fed.each i x found.2 in
           let P : Option (List ℕ) → Type 0 = λ v. Feeds remaining p h i v x in
-          input_summary remaining p h i input start x s at (subst P (same_Some f.0 start (sym f.1 ∙ from)) f.2) (are.totals i s told) (are.reports i x s found.2 told))
+          input_summary remaining limit p h i input start x s at (subst P (same_Some f.0 start (sym f.1 ∙ from)) f.2) (limited i x found.2) (are.totals i s told) (are.reports i x s found.2 told))
       | inr past ↦ absurd (omega (arith, slice_get_within summaries i s told, past.0, are.length_is))
     ]
 
-pub has_run : {R : Type 0} (remaining : R → Option (List ℕ)) (run : Run) (starts : List (Option (List ℕ))) (r : SerialRun R) (before after : Option (List ℕ)) (s : Summary) (sources : List R)
-    → run.limit ≤ 1099511627776 → IsRunning remaining run starts r → IsOver run r.mux.events → IsSound r.mux → Appends before after (bytes_of (emitted run.plan r.mux.events))
+pub has_run : {R : Type 0} (remaining : R → Option (List ℕ)) (run : Run) (limit : ℕ) (starts : List (Option (List ℕ))) (r : SerialRun R) (before after : Option (List ℕ)) (s : Summary) (sources : List R)
+    → run.limit ≤ 1099511627776 → IsRunning remaining run limit starts r → IsOver run r.mux.events → IsSound r.mux → Appends before after (bytes_of (emitted run.plan r.mux.events))
     → AreReported r.mux.run.plan r.mux.events r.inputs.items s.inputs.items sources → ArePeaks r.mux.run.plan r.mux.events s.streams.items → IsCounts r.mux.events s.counts → s.faults ≡ r.output.faults
-    → HasRun (record { run = run; events = r.mux.events }) starts (map remaining sources) before after s
-has_run remaining run starts r before after s sources few is over sound written reported peaks counts told =
+    → HasRun (record { run = run; events = r.mux.events }) limit starts (map remaining sources) before after s
+has_run remaining run limit starts r before after s sources few is over sound written reported peaks counts told =
     let h = r.mux.events in
     let S : Run → Type 0 = λ v. IsSound (record { run = v; events = h }) in
     let A : Run → Type 0 = λ v. AreReported v.plan h r.inputs.items s.inputs.items sources in
@@ -367,12 +395,12 @@ has_run remaining run starts r before after s sources few is over sound written 
       faithful = λ known unfailed. is.faithful known (unstopped_all remaining run.plan h starts r.inputs.items s.inputs.items sources is.fed are unfailed);
       summary = record {
         length_is = are.length_is ∙ is.fed.count;
-        inputs = summary_input remaining run.plan h starts r.inputs.items s.inputs.items sources is.fed are;
+        inputs = summary_input remaining limit run.plan h starts r.inputs.items s.inputs.items sources is.fed is.limited are;
         streams = subst K is.run_is peaks;
         counts = counts;
         faults = faults_exact run h s.faults sound_run.run.within few (told ∙ is.analysed.faults_are);
       };
-      read = all_read_on remaining run.plan h starts r.inputs.items s.inputs.items sources is.fed are;
+      read = all_read_on remaining limit run.plan h starts r.inputs.items s.inputs.items sources is.fed is.limited are;
     }
 
 -- ---- what was written
@@ -383,21 +411,62 @@ nothing_sent p h before waiting none empty =
     subst P (sym none) ([], Appends-nil before, sym empty)
 
 -- a run that could not be opened
-pub has_begun_nothing : (run : Run) (starts : List (Option (List ℕ))) (before : Option (List ℕ)) → HasBegun (record { run = run; events = [] }) starts before before
-has_begun_nothing run starts before = record {
-  lawful = record { lawful = tt; within = omega arith };
-  begun = λ i input all at start. (takeable run.plan (origin_of i input) (framed 188 all), refl);
-  written = ([], nothing_sent run.plan [] before [] refl refl);
-}
-
--- a run that wrote all, and could not be told of
-pub has_begun_all : {R : Type 0} (remaining : R → Option (List ℕ)) (run : Run) (starts : List (Option (List ℕ))) (r : SerialRun R) (before after : Option (List ℕ))
-    → IsRunning remaining run starts r → IsSound r.mux → Appends before after (bytes_of (emitted run.plan r.mux.events)) → HasBegun (record { run = run; events = r.mux.events }) starts before after
-has_begun_all remaining run starts r before after is sound written =
-    let L : Run → Type 0 = λ v. IsLawfulRun v r.mux.events in
-    let bytes = bytes_of (emitted run.plan r.mux.events) in
+pub has_begun_nothing : {R : Type 0} (failures : R → ℕ) (run : Run) (limit : ℕ) (starts : List (Option (List ℕ))) (readers : List R) (before : Option (List ℕ))
+    → IsMultiplexPlan run.plan → run.limit ≤ 1099511627776 → HasBegun failures (record { run = run; events = [] }) limit starts readers before before
+has_begun_nothing {R} failures run limit starts readers before plan few =
+    let unread : R → R × Option Stop = λ r. (r, None) in
+    let none : (i : ℕ) (left : R × Option Stop) → slice_get (map unread readers) i ≡ Some left → left.1 ≡ None = λ i left at. (let l = from_map unread readers i left at in ap (λ (v : R × Option Stop). v.1) (sym l.2)) in
     record {
-      lawful = subst L is.run_is sound.run;
-      begun = begun remaining run.plan r.mux.events starts r.inputs.items is.fed;
-      written = ([], (bytes, written, sym (append-nil bytes)));
+      sound = sound_nothing run.plan run.limit plan few;
+      begun = λ i input all at start. (takeable run.plan (origin_of i input) (framed 188 all), refl);
+      written = ([], nothing_sent run.plan [] before [] refl refl);
+      lefts = map unread readers;
+      count = length-map readers unread;
+      halted = λ i start left from at.
+          let free = none i left at in
+          record {
+            unleft = λ e. none-some Gate (sym free ∙ e);
+            refused = λ e. absurd (none-some Memory (sym free ∙ e));
+            too_much = λ e all known. absurd (none-some TooMuch (sym free ∙ e));
+          };
+      told = λ i old left from at.
+          let l = from_map unread readers i left at in
+          let free = none i left at in
+          let same : left.0 ≡ old = ap (λ (v : R × Option Stop). v.0) (sym l.2) ∙ same_Some l.0 old (sym l.1 ∙ from) in
+          (λ e. absurd (none-some ReadFailed (sym free ∙ e)), λ other. ap failures same);
+      faithful = λ known free. tt;
     }
+
+-- a run that was opened, and failed
+pub has_begun : {R : Type 0} (failures : R → ℕ) (run : Run) (limit : ℕ) (starts : List (Option (List ℕ))) (readers : List R) (r : SerialRun R) (before after : Option (List ℕ))
+    → length readers ≡ length run.plan.request.inputs → r.mux.run ≡ run → IsSound r.mux → AreHalted limit run.plan r.mux.events starts r.inputs.items
+    → AllTellFailures failures (map failures readers) r.inputs.items → SendsBeginning before after (bytes_of (emitted run.plan r.mux.events))
+    → HasBegun failures (record { run = run; events = r.mux.events }) limit starts readers before after
+has_begun {R} failures run limit starts readers r before after size same sound are tell written =
+    let h = r.mux.events in
+    let left_of : SerialInput R → R × Option Stop = λ x. (x.reader.stream.source, x.reader.report.stopped) in
+    let inputs = r.inputs.items in
+    let S : Run → Type 0 = λ v. IsSound (record { run = v; events = h }) in
+    record {
+      sound = subst S same sound;
+      begun = are.begun;
+      written = written;
+      lefts = map left_of inputs;
+      count = length-map inputs left_of ∙ are.count ∙ sym size;
+      halted = λ i start left from at.
+          let l = from_map left_of inputs i left at in
+          let P : R × Option Stop → Type 0 = λ v. IsHalted limit run.plan h i start v.1 in
+          subst P l.2 (are.each i start l.0 from l.1);
+      told = λ i old left from at.
+          let l = from_map left_of inputs i left at in
+          let told = tell i l.0 (failures old) l.1 (slice_get-map failures readers i ∙ ap (option_map failures) from) in
+          let P : R × Option Stop → Type 0 = λ v. IsFailureTold failures old v.0 v.1 in
+          subst P l.2 (told.told, told.untold);
+      faithful = λ known free.
+          are.faithful known
+          (λ i x at. free i (left_of x) (slice_get-map left_of inputs i ∙ ap (option_map left_of) at));
+    }
+
+-- all that was to be written is a beginning of it
+pub all_begun : (before after : Option (List ℕ)) (bytes : List ℕ) → Appends before after bytes → SendsBeginning before after bytes
+all_begun before after bytes written = ([], (bytes, written, sym (append-nil bytes)))

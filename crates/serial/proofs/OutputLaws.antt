@@ -1,16 +1,21 @@
 -- What the analyser tells of what a run sends, and that equal inputs give equal bytes.
-use Rattle.std.proofs.Common.{◌≡◌, ℕ, List, Option, sym, subst}
+use Rattle.std.proofs.Common.{◌≡◌, ◌⊎◌, ℕ, ◌<◌, ◌≤◌, List, [], ◌++◌, length, Option, refl, ap, ◌∙◌, sym, subst, arith, inl, inr, append_assoc, length-append}
+use Rattle.std.proofs.lemmas.Bool.{cases_eq}
+use Rattle.std.proofs.lemmas.List.{append-nil}
+use Rattle.std.proofs.lemmas.Grind.{flat_map-append}
 use Rattle.std.specs.Io.KnownBytes.{Appends}
 use Rattle.mux.specs.declared.event.Event.{Event}
-use Rattle.mux.specs.History.{History, Run, sent, emitted}
-use Rattle.mux.specs.Faithful.{IsRunOf, IsFinished}
+use Rattle.mux.specs.History.{History, Run, slots, sent, emitted}
+use Rattle.mux.specs.Faithful.{IsRunOf, IsFinished, IsPrefix}
+use Rattle.mux.proofs.Same.{outputs_agree}
+use Rattle.mux.proofs.Emitted.{length-emitted}
 use Rattle.mux.proofs.Ends.{output_is_unique}
 use Rattle.output_faults.proofs.OutputFaultLaws.{no_sync_fault, no_table_fault, counter_faults_taken}
 use Rattle.serial.specs.declared.summary.Summary.{Summary}
 use Rattle.serial.specs.Feeding.{packet_lists}
 use Rattle.serial.specs.Sending.{bytes_of}
 use Rattle.serial.specs.OutputFaults.{AnalyserTellsOnlyWhatWasTaken, packets_taken_for}
-use Rattle.serial.specs.EqualOutput.{HasRunUnfailed, EqualInputsGiveEqualBytes, BytesAreOfEveryHistory}
+use Rattle.serial.specs.EqualOutput.{HasRunUnfailed, HasBegunUnfailed, BegunBytesBeginTheOutput, EqualInputsGiveEqualBytes, BytesAreOfEveryHistory}
 
 pub only_what_was_taken : AnalyserTellsOnlyWhatWasTaken
 only_what_was_taken h period sound =
@@ -49,3 +54,45 @@ equal_bytes h g starts before after old new s t same r q =
     let packets : emitted h.run.plan h.events ≡ emitted g.run.plan g.events =
     subst (λ (x : Run). emitted h.run.plan h.events ≡ emitted x.plan g.events) same (same_packets h starts before after s g.events r run finished) in
     (packets, (bytes_of (emitted h.run.plan g.events), of_every_history h starts before after s g.events r run finished, bytes))
+
+-- a history that is finished at n is so at as many slots as another has, where that isn't behind it
+finished_there : (h g : History) (n : ℕ) → slots h.events ≤ n → slots g.events ≤ slots h.events → IsFinished g.run.plan n g.events → IsFinished g.run.plan (slots h.events) g.events
+finished_there h g n few less (inl full) = inl (omega (arith, few, less, full))
+finished_there h g n few less (inr done) =
+    elim (cases_eq (slots g.events) (slots h.events)) [
+      | inl same ↦ inl same
+      | inr ne ↦ inr (omega (arith, ne, less), done.1)
+    ]
+
+-- what went out of a history that began begins what goes out of one that is finished
+begun_prefix : (h g : History) (starts : List (Option (List ℕ))) (before after old new : Option (List ℕ)) (s : Summary)
+    → h.run ≡ g.run → HasBegunUnfailed h starts before after → HasRunUnfailed g starts old new s → IsPrefix (emitted g.run.plan h.events) (emitted g.run.plan g.events)
+begun_prefix h g starts before after old new s same b r =
+    let p = g.run.plan in
+    let L : Run → Type 0 = λ v. IsRunOf v.plan (packet_lists v.plan starts) h.events in
+    let first : IsRunOf p (packet_lists p starts) h.events = subst L same (record { lawful = b.sound.run.lawful; faithful = b.faithful }) in
+    let second = run_of g starts old new s r in
+    let few = b.sound.run.within in
+    let limit : h.run.limit ≡ g.run.limit = ap (λ (v : Run). v.limit) same in
+    elim (outputs_agree p (packet_lists p starts) h.events g.events r.runs.sound.plan first second) [
+      | inl is ↦ is
+      | inr is ↦
+          (let size = ap length is.1 in
+          let parts = length-append (emitted p g.events) is.0 in
+          let less : slots g.events ≤ slots h.events = omega (arith, size, parts, length-emitted p h.events, length-emitted p g.events) in
+          let n = slots h.events in
+          let done = finished_there h g g.run.limit (omega (arith, few, limit)) less r.runs.finished in
+          let one = output_is_unique p (packet_lists p starts) n h.events g.events r.runs.sound.plan first (inl refl) second done in
+          ([], sym one ∙ sym (append-nil (emitted p h.events))))
+    ]
+
+pub begun_begins : BegunBytesBeginTheOutput
+begun_begins h g starts before after old new s same b r =
+    let p = g.run.plan in
+    let W : Run → Type 0 = λ v. (rest sent : List ℕ) × Appends before after sent × (bytes_of (emitted v.plan h.events) ≡ sent ++ rest) in
+    let w = subst W same (b.written.0, b.written.1.0, b.written.1.1, b.written.1.2) in
+    let more = begun_prefix h g starts before after old new s same b r in
+    let A : List ℕ → Type 0 = Appends old new in
+    let bytes : bytes_of (emitted p g.events) ≡ w.1 ++ (w.0 ++ bytes_of more.0) =
+    ap bytes_of more.1 ∙ flat_map-append (λ (q : List ℕ). q) (emitted p h.events) more.0 ∙ ap (λ v. v ++ bytes_of more.0) w.3 ∙ append_assoc w.1 w.0 (bytes_of more.0) in
+    (w.1, w.0 ++ bytes_of more.0, w.2, subst A bytes r.runs.written)

@@ -18,14 +18,15 @@ use Rattle.mux.specs.declared.sending.Sending.TheVariants as sending
 use Rattle.mux.specs.Answers.{SendAnswers, SlotAnswers}
 use Rattle.mux.specs.Faithful.{IsFaithful}
 use Rattle.tspkt.specs.declared.stamped.Stamped.{Stamped}
-use Rattle.reading.specs.PacketReading.{HasRead}
-use Rattle.serial.specs.Feeding.{Feeds, AreKnown, AreUnstopped, packet_lists, IsOfInput, turns_left}
+use Rattle.serial.specs.Feeding.{HasGiven, Feeds, AreKnown, AreUnstopped, AreLimited, packet_lists, IsOfInput, turns_left}
 use Rattle.serial.specs.Running.{AreFed, AreBegun, IsRunning, steps_left}
 use Rattle.serial.specs.Sending.{bytes_of, HasAnalysed}
 use Rattle.serial.specs.Written.{Sends, SendsBeginning}
-use Rattle.reading.specs.Takeable.{takeable, origin_of}
+use Rattle.reading.specs.Takeable.{takeable, origin_of, EndsAtTaken}
 use Rattle.reading.proofs.PacketLaws.{given_begins}
 use Rattle.tspkt.specs.Framed.{framed}
+use Rattle.tspkt.specs.declared.framer.TheConstants.{MAX_LIMIT}
+use Rattle.std.proofs.Common.{false}
 use Rattle.serial.specs.declared.slot_writer.SlotWriter.{SlotWriter}
 use Rattle.serial.specs.declared.serial_run.SerialRun.{SerialRun}
 use Rattle.serial.proofs.KnownLaws.{appends_on}
@@ -52,19 +53,21 @@ fed_slot remaining p h c starts inputs fed = record {
   count = fed.count;
   each = λ i x at.
       let f = fed.each i x at in
-      (f.0, f.1, record { given = record { origin = f.2.given.origin; limit = f.2.given.limit; read = f.2.given.read }; closed = f.2.closed; over = f.2.over; own = f.2.own });
+      (f.0, f.1, record { given = record { origin = f.2.given.origin; limit = f.2.given.limit; read = f.2.given.read }; closed = f.2.closed; over = f.2.over; own = f.2.own; stands = f.2.stands });
 }
 
 -- an input goes on, and the others stay
 pub feeds_other : {R : Type 0} (remaining : R → Option (List ℕ)) (p : PlanValue) (i j : ℕ) (e : Event) (h : List Event) (start : Option (List ℕ)) (x : SerialInput R)
     → IsOfInput i e → (i ≡ j → ⊥) → Feeds remaining p h j start x → Feeds remaining p (e ∷ h) j start x
 feeds_other {R} remaining p i j e h start x is ne f =
-    let P : List Stamped → Type 0 = λ (xs : List Stamped). (bytes : List ℕ) × Consumes start (remaining x.reader.stream.source) bytes × HasRead remaining p x.reader bytes xs in
+    let P : List Stamped → Type 0 = λ xs. (g : HasGiven remaining p j start x xs) × (x.is_closed ≡ false → EndsAtTaken p x.reader.origin g.read.2.0) in
+    let same = subst P (sym (taken_other i j e h is ne)) (f.given, f.stands) in
     record {
-      given = record { origin = f.given.origin; limit = f.given.limit; read = subst P (sym (taken_other i j e h is ne)) f.given.read };
+      given = same.0;
       closed = f.closed ∙ sym (closed_other i j e h is ne);
       over = f.over;
       own = f.own;
+      stands = same.1;
     }
 
 -- Sums over the inputs.
@@ -140,11 +143,11 @@ fed_input remaining p h e i starts inputs x y at l is fed goes = record {
 
 other_turns : (i j : ℕ) (e : Event) (h : List Event) → IsOfInput i e → (i ≡ j → ⊥) → turns_left j (e ∷ h) ≡ turns_left j h
 other_turns i j (Took k item) h is ne =
-    ap (λ n. 16777216 - length n + (if is_closed j h then 0 else 1) + (if full_noted j h then 0 else 1)) (taken_other i j (Took k item) h is ne)
+    ap (λ n. MAX_LIMIT - length n + (if is_closed j h then 0 else 1) + (if full_noted j h then 0 else 1)) (taken_other i j (Took k item) h is ne)
 other_turns i j (Full k st) h is ne =
-    ap (λ b. 16777216 - length (taken j h) + (if is_closed j h then 0 else 1) + (if b || full_noted j h then 0 else 1)) (ne_eqb k j (λ same. ne (sym is ∙ same)))
+    ap (λ b. MAX_LIMIT - length (taken j h) + (if is_closed j h then 0 else 1) + (if b || full_noted j h then 0 else 1)) (ne_eqb k j (λ same. ne (sym is ∙ same)))
 other_turns i j (Close k) h is ne =
-    ap (λ b. 16777216 - length (taken j h) + (if b || is_closed j h then 0 else 1) + (if full_noted j h then 0 else 1)) (ne_eqb k j (λ same. ne (sym is ∙ same)))
+    ap (λ b. MAX_LIMIT - length (taken j h) + (if b || is_closed j h then 0 else 1) + (if full_noted j h then 0 else 1)) (ne_eqb k j (λ same. ne (sym is ∙ same)))
 other_turns i j (Slot c) h is ne = absurd is
 
 pub fewer_by_input : (run : Run) (h : List Event) (e : Event) (i : ℕ) → i < length run.plan.request.inputs → IsOfInput i e → turns_left i (e ∷ h) < turns_left i h
@@ -194,11 +197,11 @@ is_sent p old new packet plan answer =
       out = ap (emitted p) events ∙ ap (λ q. emitted p h ++ q ∷ []) (sym packet_is);
     }
 
-pub runs_sent : {R : Type 0} (remaining : R → Option (List ℕ)) (run : Run) (starts : List (Option (List ℕ))) (old : SerialRun R) (mux : History) (output : SlotWriter) (packet : List ℕ)
-    → IsRunning remaining run starts old → SlotAnswers old.mux (Sent packet) mux → mux.run ≡ old.mux.run
+pub runs_sent : {R : Type 0} (remaining : R → Option (List ℕ)) (run : Run) (limit : ℕ) (starts : List (Option (List ℕ))) (old : SerialRun R) (mux : History) (output : SlotWriter) (packet : List ℕ)
+    → IsRunning remaining run limit starts old → SlotAnswers old.mux (Sent packet) mux → mux.run ≡ old.mux.run
     → ((rate period : ℕ) (sent : List (List ℕ)) → HasAnalysed old.output rate period sent → HasAnalysed output rate period (sent ++ packet ∷ []))
-    → IsRunning remaining run starts (record old { mux = mux; output = output })
-runs_sent remaining run starts old mux output packet is answer same analysed =
+    → IsRunning remaining run limit starts (record old { mux = mux; output = output })
+runs_sent remaining run limit starts old mux output packet is answer same analysed =
     let p = run.plan in
     let sent = is_sent p old.mux mux packet (ap (λ (v : Run). v.plan) is.run_is) answer in
     let F : List Event → Type 0 = λ h. AreFed remaining p h starts old.inputs.items in
@@ -208,6 +211,7 @@ runs_sent remaining run starts old mux output packet is answer same analysed =
       plan_is = is.plan_is;
       run_is = same ∙ is.run_is;
       fed = subst F (sym sent.events) (fed_slot remaining p old.mux.events sent.content starts old.inputs.items is.fed);
+      limited = is.limited;
       piece = is.piece;
       faithful = λ known going. subst T (sym sent.events) (is.faithful known going);
       analysed = subst A (sym sent.out) (analysed p.request.rate p.request.watch (emitted p old.mux.events) is.analysed);
@@ -241,15 +245,16 @@ written_sent p old new packet before a b waiting now plan answer first second =
 
 -- An input had its turn.
 
-pub runs_pulled : {R : Type 0} (remaining : R → Option (List ℕ)) (run : Run) (starts : List (Option (List ℕ))) (old new : SerialRun R) (between : History) (i : ℕ)
-    → IsRunning remaining run starts old → between ≡ old.mux → new.plan ≡ old.plan → 0 < length new.piece.items → new.output ≡ old.output
+pub runs_pulled : {R : Type 0} (remaining : R → Option (List ℕ)) (run : Run) (limit : ℕ) (starts : List (Option (List ℕ))) (old new : SerialRun R) (between : History) (i : ℕ)
+    → IsRunning remaining run limit starts old → between ≡ old.mux → new.plan ≡ old.plan → 0 < length new.piece.items → new.output ≡ old.output
     → ((e : Event) × (new.mux ≡ with_event between e) × IsOfInput i e)
     → ((s : List (Option (List ℕ))) → AreFed remaining old.plan between.events s old.inputs.items → AreFed remaining old.plan new.mux.events s new.inputs.items)
+    → ((most : ℕ) → AreLimited most old.inputs.items → AreLimited most new.inputs.items)
     → (AreUnstopped new.inputs.items → AreUnstopped old.inputs.items)
     → ((s : List (Option (List ℕ))) → AreFed remaining old.plan between.events s old.inputs.items → AreKnown s → AreUnstopped new.inputs.items
     → IsFaithful (packet_lists old.plan s) between.events → IsFaithful (packet_lists old.plan s) new.mux.events)
-    → IsRunning remaining run starts new
-runs_pulled remaining run starts old new between i is same plan piece output event fed going faithful =
+    → IsRunning remaining run limit starts new
+runs_pulled remaining run limit starts old new between i is same plan piece output event fed limited going faithful =
     let p = run.plan in
     let e = event.0 in
     let mux : new.mux ≡ with_event old.mux e = event.1 ∙ ap (λ v. with_event v e) same in
@@ -268,6 +273,7 @@ runs_pulled remaining run starts old new between i is same plan piece output eve
       plan_is = plan ∙ is.plan_is;
       run_is = ap (λ (v : History). v.run) mux ∙ is.run_is;
       fed = subst N is.plan_is (fed starts before);
+      limited = limited limit is.limited;
       piece = piece;
       faithful = λ known goes.
           subst U is.plan_is
@@ -310,12 +316,19 @@ begun remaining p h starts inputs fed i input all at start =
       | inr past ↦ absurd (omega (arith, within, past.0, fed.count))
     ]
 
--- a slot takes nothing
-pub begun_sent : (p : PlanValue) (old new : History) (packet : List ℕ) (starts : List (Option (List ℕ))) → SlotAnswers old (Sent packet) new → AreBegun p old.events starts → AreBegun p new.events starts
-begun_sent p old new packet starts answer are =
+-- what a slot leaves of the inputs
+pub fed_sent : {R : Type 0} (remaining : R → Option (List ℕ)) (p : PlanValue) (old new : History) (packet : List ℕ) (starts : List (Option (List ℕ))) (inputs : List (SerialInput R))
+    → SlotAnswers old (Sent packet) new → AreFed remaining p old.events starts inputs → AreFed remaining p new.events starts inputs
+fed_sent remaining p old new packet starts inputs answer fed =
     let sent = is_sent old.run.plan old new packet refl answer in
-    let P : List Event → Type 0 = λ h. AreBegun p h starts in
-    subst P (sym sent.events) (λ i input all at start. are i input all at start)
+    let P : List Event → Type 0 = λ h. AreFed remaining p h starts inputs in
+    subst P (sym sent.events) (fed_slot remaining p old.events sent.content starts inputs fed)
+
+pub faithful_sent : (p : PlanValue) (old new : History) (packet : List ℕ) (starts : List (Option (List ℕ))) → SlotAnswers old (Sent packet) new → IsFaithful (packet_lists p starts) old.events → IsFaithful (packet_lists p starts) new.events
+faithful_sent p old new packet starts answer is =
+    let sent = is_sent old.run.plan old new packet refl answer in
+    let P : List Event → Type 0 = IsFaithful (packet_lists p starts) in
+    subst P (sym sent.events) is
 
 -- what went out is a beginning
 pub sent_begun : (p : PlanValue) (old new : History) (packet : List ℕ) (before a b : Option (List ℕ)) (waiting : List ℕ) → old.run.plan ≡ p → SlotAnswers old (Sent packet) new
@@ -324,9 +337,9 @@ sent_begun p old new packet before a b waiting plan answer first second = (secon
 
 -- The buffer is written at the end.
 
-pub runs_flushed : {R : Type 0} (remaining : R → Option (List ℕ)) (run : Run) (starts : List (Option (List ℕ))) (old : SerialRun R) (output : SlotWriter)
-    → IsRunning remaining run starts old → output ≡ record old.output { writer = [] } → IsRunning remaining run starts (record old { output = output })
-runs_flushed remaining run starts old output is same =
+pub runs_flushed : {R : Type 0} (remaining : R → Option (List ℕ)) (run : Run) (limit : ℕ) (starts : List (Option (List ℕ))) (old : SerialRun R) (output : SlotWriter)
+    → IsRunning remaining run limit starts old → output ≡ record old.output { writer = [] } → IsRunning remaining run limit starts (record old { output = output })
+runs_flushed remaining run limit starts old output is same =
     let p = run.plan in
     let O : SlotWriter → Type 0 = λ w. HasAnalysed w p.request.rate p.request.watch (emitted p old.mux.events) in
     let a = is.analysed in
@@ -334,6 +347,7 @@ runs_flushed remaining run starts old output is same =
       plan_is = is.plan_is;
       run_is = is.run_is;
       fed = is.fed;
+      limited = is.limited;
       piece = is.piece;
       faithful = is.faithful;
       analysed = subst O (sym same) (record { seen = a.seen; rate_is = a.rate_is; period_is = a.period_is; faults_are = a.faults_are });

@@ -27,3 +27,8 @@ on_ok_always (Err e) p = tt
 pub on_err_weaker : {T E P Q : Type 0} (r : Result T E) → (P → Q) → OnErr r P → OnErr r Q
 on_err_weaker (Ok x) f p = tt
 on_err_weaker (Err e) f p = f p
+
+-- from two clauses of a result
+pub on_err_two : {T E P Q S : Type 0} (r : Result T E) → OnErr r P → OnErr r Q → (P → Q → S) → OnErr r S
+on_err_two (Ok x) p q f = tt
+on_err_two (Err e) p q f = f p q

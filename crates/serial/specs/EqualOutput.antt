@@ -1,18 +1,21 @@
 -- What a run writes follows from its plan and the bytes of its inputs, not from how these are read in turn (profile).
-use Rattle.std.specs.Prelude.{◌≡◌, ℕ, List, Option}
+use Rattle.std.specs.Prelude.{◌≡◌, ℕ, List, ◌++◌, Option}
 use Rattle.std.specs.Io.KnownBytes.{Appends}
 use Rattle.mux.specs.declared.event.Event.{Event}
 use Rattle.mux.specs.History.{History, emitted}
-use Rattle.mux.specs.Faithful.{IsRunOf, IsFinished}
+use Rattle.mux.specs.Headline.{IsSound}
+use Rattle.mux.specs.Faithful.{IsRunOf, IsFinished, IsFaithful}
 use Rattle.serial.specs.Feeding.{AreKnown, packet_lists}
+use Rattle.serial.specs.Written.{SendsBeginning}
 use Rattle.serial.specs.Sending.{bytes_of}
 use Rattle.serial.specs.Outcome.{HasRun, AreUnfailed}
 use Rattle.serial.specs.declared.summary.Summary.{Summary}
 
 -- A run of sources whose bytes are known ended by itself, and nothing but its end stopped an input.
 pub record HasRunUnfailed (h : History) (starts : List (Option (List ℕ))) (before after : Option (List ℕ)) (s : Summary) : Type 0 where
+  pub limit : ℕ
   pub lefts : List (Option (List ℕ))
-  pub runs : HasRun h starts lefts before after s
+  pub runs : HasRun h limit starts lefts before after s
   pub known : AreKnown starts
   pub unfailed : AreUnfailed s.inputs.items
 
@@ -36,3 +39,18 @@ BytesAreOfEveryHistory =
     → HasRunUnfailed h starts before after s
     → IsRunOf h.run.plan (packet_lists h.run.plan starts) other → IsFinished h.run.plan h.run.limit other
     → Appends before after (bytes_of (emitted h.run.plan other))
+
+-- A run of sources whose bytes are known failed, and nothing but want of memory stopped an input: it began to write the packets
+-- of a sound history that takes the inputs' packets in their order.
+pub record HasBegunUnfailed (h : History) (starts : List (Option (List ℕ))) (before after : Option (List ℕ)) : Type 0 where
+  pub sound : IsSound h
+  pub faithful : IsFaithful (packet_lists h.run.plan starts) h.events
+  pub written : SendsBeginning before after (bytes_of (emitted h.run.plan h.events))
+
+-- What such a run wrote begins what each run of the same plan, for as many slots, over the same bytes writes that ends by itself,
+-- where nothing but its end stopped an input.
+abbrev pub BegunBytesBeginTheOutput : Type 0
+BegunBytesBeginTheOutput =
+    (h g : History) (starts : List (Option (List ℕ))) (before after old new : Option (List ℕ)) (s : Summary)
+    → h.run ≡ g.run → HasBegunUnfailed h starts before after → HasRunUnfailed g starts old new s
+    → (bytes later : List ℕ) × Appends before after bytes × Appends old new (bytes ++ later)

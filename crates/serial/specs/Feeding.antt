@@ -1,8 +1,9 @@
 -- How the packets of an input come into a multiplex (profile).
-use Rattle.std.specs.Prelude.{◌≡◌, ◌⊎◌, ℕ, ◌+◌, ◌-◌, true, if◌then◌else◌, List, [], length, Option, Some, None, IsSome}
+use Rattle.std.specs.Prelude.{◌≡◌, ◌⊎◌, ℕ, ◌+◌, ◌-◌, ◌≤◌, true, false, if◌then◌else◌, List, [], length, Option, Some, None, IsSome}
 use Rattle.std.specs.List.{slice_get}
 use Rattle.std.specs.Io.KnownBytes.{Consumes}
 use Rattle.tspkt.specs.Framed.{framed}
+use Rattle.tspkt.specs.declared.framer.TheConstants.{MAX_LIMIT}
 use Rattle.tspkt.specs.declared.stamped.Stamped.{Stamped}
 use Rattle.request.specs.Request.{InputValue, IsInput}
 use Rattle.request.specs.declared.stream.Stream.{Stream}
@@ -13,7 +14,7 @@ use Rattle.mux.specs.History.{History, with_event, is_mapped_to, taken, is_close
 use Rattle.mux.specs.Lawful.{Refusal, refusal_of}
 use Rattle.mux.specs.Lawful as refusals
 use Rattle.mux.specs.Faithful.{PacketLists}
-use Rattle.reading.specs.Takeable.{OriginValue, origin_of, takeable}
+use Rattle.reading.specs.Takeable.{OriginValue, origin_of, takeable, EndsAtTaken}
 use Rattle.reading.specs.PacketReading.{HasRead, IsSpent, TellsFailures}
 use Rattle.reading.specs.declared.stop.Stop.{Stop}
 use Rattle.reading.specs.declared.stop.Stop.TheVariants.{Gate, Memory}
@@ -24,10 +25,11 @@ abbrev pub IsOrigin : PlanValue → ℕ → OriginValue → Type 0
 IsOrigin p i origin =
     (input : InputValue) × (slice_get p.request.inputs i ≡ Some input) × IsInput input × (origin ≡ origin_of i input)
 
--- The input gave these packets, of a source that had these bytes to give at first.
+-- The input gave these packets, of a source that had these bytes to give at first. It has read some of them, and has looked at
+-- some of the items that were told of those.
 pub record HasGiven {R : Type 0} (remaining : R → Option (List ℕ)) (p : PlanValue) (i : ℕ) (start : Option (List ℕ)) (x : SerialInput R) (given : List Stamped) : Type 0 where
   pub origin : IsOrigin p i x.reader.origin
-  pub limit : x.reader.stream.items.limit ≡ 3154116608
+  pub limit : x.reader.stream.items.limit ≤ MAX_LIMIT
   pub read : (bytes : List ℕ) × Consumes start (remaining x.reader.stream.source) bytes × HasRead remaining p x.reader bytes given
 
 -- What stopped an input, if anything, came of the input: the run didn't leave it, and had memory for it.
@@ -36,12 +38,14 @@ pub record IsOwnStop (stopped : Option Stop) : Type 0 where
   pub unrefused : stopped ≡ Some Memory → ⊥
 
 -- The multiplex took just the packets that the input gave; it was closed in the multiplex where the input says so, which is
--- where nothing is left of it; and nothing stopped it but its own fault.
+-- where nothing is left of it; and nothing stopped it but its own fault. Of one that is open no item was looked at behind the
+-- last packet that was taken or is held.
 pub record Feeds {R : Type 0} (remaining : R → Option (List ℕ)) (p : PlanValue) (h : List Event) (i : ℕ) (start : Option (List ℕ)) (x : SerialInput R) : Type 0 where
   pub given : HasGiven remaining p i start x (taken i h)
   pub closed : x.is_closed ≡ is_closed i h
   pub over : x.is_closed ≡ true → IsSpent x.reader
   pub own : IsOwnStop x.reader.report.stopped
+  pub stands : x.is_closed ≡ false → EndsAtTaken p x.reader.origin given.read.2.0
 
 -- the packets that an input gives, as far as the bytes of its source are known
 abbrev pub packet_list : PlanValue → ℕ → Option InputValue → Option (Option (List ℕ)) → List Stamped
@@ -61,6 +65,10 @@ AreKnown starts = (i : ℕ) (start : Option (List ℕ)) → slice_get starts i �
 abbrev pub AreUnstopped : {R : Type 0} → List (SerialInput R) → Type 0
 AreUnstopped {R} inputs = (i : ℕ) (x : SerialInput R) → slice_get inputs i ≡ Some x → x.reader.report.stopped ≡ None
 
+-- each input may have so many bytes, at most
+abbrev pub AreLimited : {R : Type 0} → ℕ → List (SerialInput R) → Type 0
+AreLimited {R} limit inputs = (i : ℕ) (x : SerialInput R) → slice_get inputs i ≡ Some x → x.reader.stream.items.limit ≡ limit
+
 -- the event is one of the input
 abbrev pub IsOfInput : ℕ → Event → Type 0
 IsOfInput i (Took j item) = j ≡ i
@@ -72,11 +80,10 @@ IsOfInput i (Slot c) = ⊥
 abbrev pub MayBeTaken : PlanValue → List Event → ℕ → Stamped → Type 0
 MayBeTaken p h i item = (refusal_of p h i item ≡ None) ⊎ (refusal_of p h i item ≡ Some refusals.Full)
 
--- how often the multiplex may still turn to the input before a slot is sent, at most: an input has at most 16,777,216
--- packets
+-- how often the multiplex may still turn to the input before a slot is sent, at most: no input has more packets than bytes
 abbrev pub turns_left : ℕ → List Event → ℕ
 turns_left i h =
-    (16777216 - length (taken i h)) + (if is_closed i h then 0 else 1) + (if full_noted i h then 0 else 1)
+    (MAX_LIMIT - length (taken i h)) + (if is_closed i h then 0 else 1) + (if full_noted i h then 0 else 1)
 
 -- the input holds a packet of the stream
 abbrev pub Holds : {R : Type 0} → ℕ → Stream → SerialInput R → Type 0

@@ -1,5 +1,5 @@
 -- The order of an input's packets (profile).
-use Rattle.std.specs.Prelude.{ℕ, ◌<◌, ◌≤◌, List, [], ◌∷◌, length}
+use Rattle.std.specs.Prelude.{ℕ, ◌*◌, ◌<◌, ◌≤◌, List, [], ◌∷◌, length}
 use Rattle.tspkt.specs.declared.stamped.Stamped.{Stamped}
 use Rattle.tspkt.specs.Framed.{framed}
 use Rattle.plan.specs.Build.{PlanValue}
@@ -16,8 +16,8 @@ PacketsComeInOrder =
     (plan : PlanValue) (origin : OriginValue) (bytes : List ℕ) → 0 < origin.rate
     → ComeFrom 0 (takeable plan origin (framed 188 bytes))
 
--- There are at most 16,777,216 of an input, which has at most 3,154,116,608 bytes.
+-- There are as few of an input as have room in its bytes: at most 16,777,216 of 3,154,116,608 bytes.
 abbrev pub PacketsAreFew : Type 0
 PacketsAreFew =
-    (plan : PlanValue) (origin : OriginValue) (bytes : List ℕ) → length bytes ≤ 3154116608
-    → length (takeable plan origin (framed 188 bytes)) ≤ 16777216
+    (plan : PlanValue) (origin : OriginValue) (bytes : List ℕ)
+    → 188 * length (takeable plan origin (framed 188 bytes)) ≤ length bytes

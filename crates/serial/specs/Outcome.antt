@@ -1,5 +1,5 @@
 -- What comes of a run (profile).
-use Rattle.std.specs.Prelude.{◌≡◌, ◌⊎◌, ℕ, ◌<◌, List, ◌++◌, length, Option, Some, None, true, false}
+use Rattle.std.specs.Prelude.{◌≡◌, ◌⊎◌, ℕ, ◌<◌, ◌≤◌, List, ◌++◌, length, Option, Some, None, true, false}
 use Rattle.std.specs.List.{slice_get}
 use Rattle.std.specs.Option.{option_to_list}
 use Rattle.std.specs.Io.KnownBytes.{Appends, Consumes, IsAtEnd}
@@ -12,29 +12,31 @@ use Rattle.plan.specs.Build.{PlanValue}
 use Rattle.mux.specs.declared.event.Event.{Event}
 use Rattle.mux.specs.History.{History, taken, is_closed, emitted}
 use Rattle.mux.specs.Totals.{IsTotals, IsCounts}
-use Rattle.mux.specs.Lawful.{IsLawfulRun}
 use Rattle.mux.specs.Headline.{IsSound}
 use Rattle.mux.specs.Faithful.{IsFaithful, IsFinished}
 use Rattle.reading.specs.Failures.{FailsOnce}
-use Rattle.reading.specs.Takeable.{takeable, origin_of, CountsItems}
-use Rattle.reading.specs.PacketReading.{BeginsTakeable}
+use Rattle.reading.specs.Takeable.{takeable, origin_of, CountsItems, EndsAtTaken}
+use Rattle.reading.specs.PacketReading.{BeginsTakeable, CountsTold}
 use Rattle.serial.specs.Feeding.{AreKnown, packet_lists}
-use Rattle.serial.specs.Running.{AreBegun}
+use Rattle.serial.specs.Running.{AreBegun, IsHalted, IsUnhalted}
 use Rattle.serial.specs.Ending.{ArePeaks}
 use Rattle.serial.specs.Written.{SendsBeginning}
 use Rattle.serial.specs.Sending.{bytes_of}
+use Rattle.reading.specs.declared.stop.Stop.{Stop}
 use Rattle.reading.specs.declared.stop.Stop.TheVariants.{Gate, Memory, ReadFailed, TooMuch}
 use Rattle.serial.specs.declared.summary.InputSummary.{InputSummary}
 use Rattle.serial.specs.declared.summary.Summary.{Summary}
 
--- The input ended by itself: all that can be taken of its bytes was taken before it was closed, and the report counts all of
--- their framing.
-pub record HasEnded (p : PlanValue) (h : List Event) (i : ℕ) (input : InputValue) (all : List ℕ) (s : InputSummary) : Type 0 where
+-- The input ended by itself: it has no more bytes than it may have, all that can be taken of them was taken before it was
+-- closed, and the report counts all of their framing.
+pub record HasEnded (limit : ℕ) (p : PlanValue) (h : List Event) (i : ℕ) (input : InputValue) (all : List ℕ) (s : InputSummary) : Type 0 where
+  pub within : length all ≤ limit
   pub taken_is : taken i h ≡ takeable p (origin_of i input) (framed 188 all)
   pub counts : CountsItems p (origin_of i input) (framed 188 all) s.report
 
 -- The report counts a beginning of the framing of these bytes, and what can be taken of that beginning was taken, but for at
--- most one packet, which is held. A closed input holds none.
+-- most one packet, which is held. A closed input holds none. Where the end of the run stopped the input, the last item that is
+-- counted is the packet that was taken last, or the one that is held.
 pub record IsCounted (p : PlanValue) (h : List Event) (i : ℕ) (input : InputValue) (all : List ℕ) (s : InputSummary) : Type 0 where
   pub looked : List Item
   pub later : List Item
@@ -43,19 +45,20 @@ pub record IsCounted (p : PlanValue) (h : List Event) (i : ℕ) (input : InputVa
   pub held : Option Stamped
   pub taken_is : takeable p (origin_of i input) looked ≡ taken i h ++ option_to_list held
   pub closed : is_closed i h ≡ true → held ≡ None
+  pub left : s.report.stopped ≡ Some Gate → EndsAtTaken p (origin_of i input) looked
 
--- What is said of an input whose source had these bytes to give at first, where they are known.
-pub record IsInputSummary (p : PlanValue) (h : List Event) (i : ℕ) (input : InputValue) (start : Option (List ℕ)) (s : InputSummary) : Type 0 where
+-- What is said of an input whose source had these bytes to give at first, where they are known. It may have so many.
+pub record IsInputSummary (limit : ℕ) (p : PlanValue) (h : List Event) (i : ℕ) (input : InputValue) (start : Option (List ℕ)) (s : InputSummary) : Type 0 where
   pub totals : IsTotals p i h s.totals
   -- an input that nothing stopped ended, and was closed; one that the run left before its end wasn't closed
   pub closed : s.report.stopped ≡ None → is_closed i h ≡ true
-  pub ended : s.report.stopped ≡ None → (all : List ℕ) → start ≡ Some all → HasEnded p h i input all s
+  pub ended : s.report.stopped ≡ None → (all : List ℕ) → start ≡ Some all → HasEnded limit p h i input all s
   -- whatever stopped it, its report is one of its bytes
   pub counted : (all : List ℕ) → start ≡ Some all → IsCounted p h i input all s
   pub left : s.report.stopped ≡ Some Gate → is_closed i h ≡ false
   -- no input was given up for want of memory
   pub unrefused : s.report.stopped ≡ Some Memory → ⊥
-  pub too_much : s.report.stopped ≡ Some TooMuch → (all : List ℕ) → start ≡ Some all → 3154116608 < length all
+  pub too_much : s.report.stopped ≡ Some TooMuch → (all : List ℕ) → start ≡ Some all → limit < length all
 
 -- Nothing but the end of the run stopped the inputs.
 abbrev pub AreUnfailed : List InputSummary → Type 0
@@ -64,34 +67,40 @@ AreUnfailed inputs =
     → (s.report.stopped ≡ None) ⊎ (s.report.stopped ≡ Some Gate)
 
 -- What is said of a run is so.
-pub record IsSummary (p : PlanValue) (h : List Event) (starts : List (Option (List ℕ))) (s : Summary) : Type 0 where
+pub record IsSummary (limit : ℕ) (p : PlanValue) (h : List Event) (starts : List (Option (List ℕ))) (s : Summary) : Type 0 where
   pub length_is : length s.inputs.items ≡ length p.request.inputs
   pub inputs : (i : ℕ) (input : InputValue) (start : Option (List ℕ)) (x : InputSummary)
       → slice_get p.request.inputs i ≡ Some input → slice_get starts i ≡ Some start → slice_get s.inputs.items i ≡ Some x
-      → IsInputSummary p h i input start x
+      → IsInputSummary limit p h i input start x
   pub streams : ArePeaks p h s.streams.items
   pub counts : IsCounts h s.counts
   pub faults : s.faults ≡ length (faults p.request.rate p.request.watch (emitted p h))
 
 -- The input's source was read on, from the bytes that it had to give at first to those that are left. What was taken of the
--- input begins what can be taken of the bytes between, and the source of an input that nothing stopped is at its end.
-pub record IsReadOn (p : PlanValue) (h : List Event) (i : ℕ) (input : InputValue) (start left : Option (List ℕ)) (s : InputSummary) : Type 0 where
+-- input begins what can be taken of the bytes between, and the source of an input that nothing stopped is at its end. The input
+-- is told as too long exactly where more bytes than it may have were read.
+pub record IsReadOn (limit : ℕ) (p : PlanValue) (h : List Event) (i : ℕ) (input : InputValue) (start left : Option (List ℕ)) (s : InputSummary) : Type 0 where
   pub bytes : List ℕ
   pub read : Consumes start left bytes
   pub begins : BeginsTakeable p (origin_of i input) bytes (taken i h)
   pub ended : s.report.stopped ≡ None → IsAtEnd left
+  pub too_much : s.report.stopped ≡ Some TooMuch → limit < length bytes
+  pub within : (s.report.stopped ≡ Some TooMuch → ⊥) → length bytes ≤ limit
+  -- at a failed read the report counts what was told of the bytes before it
+  pub told : s.report.stopped ≡ Some ReadFailed → CountsTold p (origin_of i input) bytes (IsAtEnd left) s.report
   -- of an input that was closed at a failed read all that can be taken of the bytes before it was taken
   pub failed : s.report.stopped ≡ Some ReadFailed → is_closed i h ≡ true → taken i h ≡ takeable p (origin_of i input) (framed 188 bytes)
 
 -- the same of all inputs, in their order
-abbrev pub AreReadOn : PlanValue → List Event → List (Option (List ℕ)) → List (Option (List ℕ)) → List InputSummary → Type 0
-AreReadOn p h starts lefts inputs =
+abbrev pub AreReadOn : ℕ → PlanValue → List Event → List (Option (List ℕ)) → List (Option (List ℕ)) → List InputSummary → Type 0
+AreReadOn limit p h starts lefts inputs =
     (i : ℕ) (input : InputValue) (start left : Option (List ℕ)) (s : InputSummary)
     → slice_get p.request.inputs i ≡ Some input → slice_get starts i ≡ Some start → slice_get lefts i ≡ Some left
-    → slice_get inputs i ≡ Some s → IsReadOn p h i input start left s
+    → slice_get inputs i ≡ Some s → IsReadOn limit p h i input start left s
 
--- What a run of these sources makes, where it ends by itself: a history. It leaves them with these bytes to give.
-pub record HasRun (h : History) (starts lefts : List (Option (List ℕ))) (before after : Option (List ℕ)) (s : Summary) : Type 0 where
+-- What a run of these sources makes, each of at most so many bytes, where it ends by itself: a history. It leaves them with
+-- these bytes to give.
+pub record HasRun (h : History) (limit : ℕ) (starts lefts : List (Option (List ℕ))) (before after : Option (List ℕ)) (s : Summary) : Type 0 where
   -- it is lawful, and sound
   pub sound : IsSound h
   -- it has all slots of the run, or with fewer nothing is left to send
@@ -102,21 +111,35 @@ pub record HasRun (h : History) (starts lefts : List (Option (List ℕ))) (befor
   pub begun : AreBegun h.run.plan h.events starts
   -- it takes the inputs' packets in their order, where nothing but the end of the run stopped them
   pub faithful : AreKnown starts → AreUnfailed s.inputs.items → IsFaithful (packet_lists h.run.plan starts) h.events
-  pub summary : IsSummary h.run.plan h.events starts s
+  pub summary : IsSummary limit h.run.plan h.events starts s
   -- the sources come back in their order, read on
-  pub read : AreReadOn h.run.plan h.events starts lefts s.inputs.items
+  pub read : AreReadOn limit h.run.plan h.events starts lefts s.inputs.items
 
--- What a run of these sources makes, where it doesn't end by itself: a beginning of the packets of a lawful history was
--- written.
-pub record HasBegun (h : History) (starts : List (Option (List ℕ))) (before after : Option (List ℕ)) : Type 0 where
-  pub lawful : IsLawfulRun h.run h.events
-  pub begun : AreBegun h.run.plan h.events starts
-  pub written : SendsBeginning before after (bytes_of (emitted h.run.plan h.events))
+-- A failed read is told exactly where the source failed once more.
+abbrev pub IsFailureTold : {R : Type 0} → (R → ℕ) → R → R → Option Stop → Type 0
+IsFailureTold failures old new stopped =
+    (stopped ≡ Some ReadFailed → FailsOnce (failures old) (failures new))
+    × ((stopped ≡ Some ReadFailed → ⊥) → failures new ≡ failures old)
 
 -- A failed read is told of an input exactly where its source failed in the run.
 abbrev pub FailuresAreTold : {R : Type 0} → (R → ℕ) → List R → List R → List InputSummary → Type 0
 FailuresAreTold {R} failures before after inputs =
     (i : ℕ) (s : InputSummary) (old new : R)
     → slice_get inputs i ≡ Some s → slice_get before i ≡ Some old → slice_get after i ≡ Some new
-    → (s.report.stopped ≡ Some ReadFailed → FailsOnce (failures old) (failures new))
-    × ((s.report.stopped ≡ Some ReadFailed → ⊥) → failures new ≡ failures old)
+    → IsFailureTold failures old new s.report.stopped
+
+-- What a run of these readers makes, each of at most so many bytes, where it doesn't end by itself: a beginning of the packets
+-- of a sound history was written. `lefts` are the readers as the run left them, each with what stopped its input, if anything.
+pub record HasBegun {R : Type 0} (failures : R → ℕ) (h : History) (limit : ℕ) (starts : List (Option (List ℕ))) (readers : List R) (before after : Option (List ℕ)) : Type 0 where
+  pub sound : IsSound h
+  pub begun : AreBegun h.run.plan h.events starts
+  pub written : SendsBeginning before after (bytes_of (emitted h.run.plan h.events))
+  pub lefts : List (R × Option Stop)
+  pub count : length lefts ≡ length readers
+  pub halted : (i : ℕ) (start : Option (List ℕ)) (left : R × Option Stop) → slice_get starts i ≡ Some start → slice_get lefts i ≡ Some left
+      → IsHalted limit h.run.plan h.events i start left.1
+  pub told : (i : ℕ) (old : R) (left : R × Option Stop) → slice_get readers i ≡ Some old → slice_get lefts i ≡ Some left
+      → IsFailureTold failures old left.0 left.1
+  -- it takes the inputs' packets in their order, where nothing but want of memory stopped them
+  pub faithful : AreKnown starts → ((i : ℕ) (left : R × Option Stop) → slice_get lefts i ≡ Some left → IsUnhalted left.1)
+      → IsFaithful (packet_lists h.run.plan starts) h.events

@@ -8,8 +8,9 @@ ghost use Rattle.mux.specs.Answers.{IsLeastUnready};
 ghost use Rattle.mux.specs.Faithful.{IsFaithful};
 ghost use Rattle.tspkt.specs.declared.stamped.Stamped.{Stamped as GivenPacket};
 ghost use Rattle.request.specs.declared.stream.Stream.{Stream};
-ghost use Rattle.serial.specs.Feeding.{Feeds, AreKnown, AreUnstopped, packet_lists, IsOfInput, MayBeTaken, Holds, IsGivenOrHeld, AllTellFailures, turns_left};
-ghost use Rattle.serial.specs.Running.{AreFed};
+ghost use Rattle.serial.specs.Feeding.{Feeds, AreKnown, AreUnstopped, AreLimited, packet_lists, IsOfInput, MayBeTaken, Holds, IsGivenOrHeld, AllTellFailures, turns_left};
+ghost use Rattle.reading.specs.declared.stop.Stop.TheVariants.{Memory};
+ghost use Rattle.serial.specs.Running.{AreFed, AreHalted};
 ghost use Rattle.reading.specs.PacketReading.{TellsFailures};
 
 use crate::serial_input::SerialInput;
@@ -19,7 +20,7 @@ use reading::Source;
 use std::alloc::AllocError;
 
 /// Gives the multiplex the next packet of an input that it waits for, or closes the input where there is none. A packet
-/// whose queue is full stays held.
+/// whose queue is full stays held. An `Err` is want of memory for an input that was still read.
 pub(crate) fn pull<R: Source>(
     plan: &Plan,
     mux: &mut Mux,
@@ -38,14 +39,19 @@ pub(crate) fn pull<R: Source>(
         → Holds number st input.new) }
     ensures event { OnOk result ((e : Event) × (mux.new ≡ with_event mux.old e) × IsOfInput number e) }
     ensures fewer { OnOk result (turns_left number mux.new.events < turns_left number mux.old.events) }
-    ensures failures { OnOk result ((before : ℕ) → TellsFailures R.failures before input.old.reader
-        → TellsFailures R.failures before input.new.reader) }
+    ensures limit { OnOk result (input.new.reader.stream.items.limit ≡ input.old.reader.stream.items.limit) }
+    ensures failures { (before : ℕ) → TellsFailures R.failures before input.old.reader
+        → TellsFailures R.failures before input.new.reader }
+    ensures refused { OnErr result (input.new.reader.report.stopped ≡ Some Memory) }
+    ensures reading { OnErr result (input.old.reader.report.stopped ≡ None) }
     ensures err { OnErr result (mux.new ≡ mux.old) }
 {
     if input.reader.find(plan, piece)? {
-        give(mux, number, input)
+        give(mux, number, input);
+        Ok(())
     } else {
-        close(mux, number, input)
+        close(mux, number, input);
+        Ok(())
     }
 }
 
@@ -72,53 +78,44 @@ pub(crate) fn pull_at<R: Source>(
         → IsFaithful (packet_lists plan.now starts) mux.new.events) }
     ensures event { OnOk result ((e : Event) × (mux.new ≡ with_event mux.old e) × IsOfInput number e) }
     ensures fewer { OnOk result (turns_left number mux.new.events < turns_left number mux.old.events) }
-    ensures failures { OnOk result ((befores : List ℕ)
+    ensures limited { OnOk result ((limit : ℕ) → AreLimited limit inputs.old.items → AreLimited limit inputs.new.items) }
+    ensures failures { (befores : List ℕ)
         → AllTellFailures R.failures befores inputs.old.items
-        → AllTellFailures R.failures befores inputs.new.items) }
+        → AllTellFailures R.failures befores inputs.new.items }
+    ensures halted { OnErr result ((limit : ℕ) (starts : List (Option (List ℕ)))
+        → AreFed R.remaining plan.now mux.old.events starts inputs.old.items
+        → AreLimited limit inputs.old.items
+        → (AreKnown starts → AreUnstopped inputs.old.items → IsFaithful (packet_lists plan.now starts) mux.old.events)
+        → AreHalted limit plan.now mux.old.events starts inputs.new.items) }
     ensures err { OnErr result (mux.new ≡ mux.old) }
 {
     pull(plan, mux, number, &mut inputs[number], piece)
 }
 
 /// Closes an input of which nothing is left.
-fn close<R: Source>(
-    mux: &mut Mux,
-    number: usize,
-    input: &mut SerialInput<R>,
-) -> Result<(), AllocError>
+fn close<R: Source>(mux: &mut Mux, number: usize, input: &mut SerialInput<R>)
     requires number { number < length mux.old.run.plan.request.inputs }
     requires open { is_closed number mux.old.events ≡ false }
-    ensures ok { OnOk result (mux.new ≡ with_event mux.old (Event.Close number)) }
-    ensures input { OnOk result (input.new ≡ record input.old { is_closed = true }) }
-    ensures err { OnErr result (mux.new ≡ mux.old) }
+    ensures closed { mux.new ≡ with_event mux.old (Event.Close number) }
+    ensures input { input.new ≡ record input.old { is_closed = true } }
 {
-    mux.close(number)?;
+    let _ = mux.close(number);
     input.is_closed = true;
-    Ok(())
 }
 
 /// Gives the multiplex the packet that an input holds. Where its queue is full it stays held.
-fn give<R: Source>(
-    mux: &mut Mux,
-    number: usize,
-    input: &mut SerialInput<R>,
-) -> Result<(), AllocError>
+fn give<R: Source>(mux: &mut Mux, number: usize, input: &mut SerialInput<R>)
     requires number { number < length mux.old.run.plan.request.inputs }
     requires may { (item : GivenPacket) × (input.old.reader.held ≡ Some item)
         × MayBeTaken mux.old.run.plan mux.old.events number item }
     requires noted { full_noted number mux.old.events ≡ false }
-    ensures ok { OnOk result ((item : GivenPacket) → input.old.reader.held ≡ Some item
-        → IsGivenOrHeld mux.old mux.new number input.old input.new item) }
-    ensures err { OnErr result (mux.new ≡ mux.old) }
+    ensures { (item : GivenPacket) → input.old.reader.held ≡ Some item
+        → IsGivenOrHeld mux.old mux.new number input.old input.new item }
 {
     let stamped = input.reader.held().unwrap();
     match mux.offer(number, stamped) {
-        Offered::Taken => {
-            input.reader.release();
-            Ok(())
-        }
-        Offered::Full => Ok(()),
-        Offered::Memory => Err(AllocError),
-        Offered::Closed | Offered::Stranger | Offered::Backward => unreachable!(),
+        Offered::Taken => input.reader.release(),
+        Offered::Full => {}
+        Offered::Closed | Offered::Stranger | Offered::Backward | Offered::Memory => unreachable!(),
     }
 }

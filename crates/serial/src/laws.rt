@@ -2,14 +2,14 @@
 
 ghost use Rattle.serial.specs.Order.{PacketsComeInOrder, PacketsAreFew};
 ghost use Rattle.serial.specs.OutputFaults.{AnalyserTellsOnlyWhatWasTaken};
-ghost use Rattle.serial.specs.EqualOutput.{EqualInputsGiveEqualBytes, BytesAreOfEveryHistory};
+ghost use Rattle.serial.specs.EqualOutput.{EqualInputsGiveEqualBytes, BytesAreOfEveryHistory, BegunBytesBeginTheOutput};
 
 /// The packets that a run may take of an input come in the order of their times.
 pub fn packets_come_in_order()
     ensures { PacketsComeInOrder }
 {}
 
-/// There are at most 16,777,216 of an input.
+/// There are as few as have room in its bytes: at most 16,777,216 of 3,154,116,608 bytes.
 pub fn packets_are_few()
     ensures { PacketsAreFew }
 {}
@@ -30,4 +30,10 @@ pub fn equal_inputs_give_equal_bytes()
 /// slots.
 pub fn bytes_are_of_every_history()
     ensures { BytesAreOfEveryHistory }
+{}
+
+/// What a run wrote that failed begins what each run of the same plan over equal known bytes writes that ends by itself, where
+/// nothing but want of memory, or the end of the run, stopped an input.
+pub fn begun_bytes_begin_the_output()
+    ensures { BegunBytesBeginTheOutput }
 {}

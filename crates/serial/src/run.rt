@@ -1,16 +1,14 @@
 //! A whole run.
 
 ghost use Rattle.std.specs.Prelude.{◌≡◌, ◌^◌, ◌≤◌, ℕ, List, length, map, Err, IfOk, OnOk, OnErr};
+ghost use Rattle.tspkt.specs.declared.framer.TheConstants.{MAX_LIMIT};
 ghost use Rattle.mux.specs.declared.event.Event.{Event};
-ghost use Rattle.mux.specs.History.{emitted};
-ghost use Rattle.mux.specs.Headline.{IsSound};
+ghost use Rattle.mux.specs.Plans.{IsMultiplexPlan};
 ghost use Rattle.reading.specs.Failures.{FailsOnce};
-ghost use Rattle.serial.specs.Written.{SendsBeginning};
-ghost use Rattle.serial.specs.Sending.{bytes_of};
-ghost use Rattle.serial.specs.Running.{AreBegun};
 ghost use Rattle.serial.specs.Outcome.{HasRun, HasBegun, FailuresAreTold};
 
 use crate::run_fault::RunFault;
+use crate::serial_input::INPUT_LIMIT;
 use crate::serial_run::SerialRun;
 use crate::sink::Sink;
 use crate::summary::Summary;
@@ -18,11 +16,11 @@ use plan::Plan;
 use reading::Source;
 use std::alloc::Global;
 
-/// Runs a plan in one thread: reads one reader an input, and writes the packet of each slot, at most so many slots (0 to
-/// 2^40). It ends where all inputs have ended and nothing waits, or where it has all its slots.
+/// Runs a plan in one thread: reads one reader an input, at most 3,154,116,608 bytes of each, and writes the packet of each slot,
+/// at most so many slots (0 to 2^40). It ends where all inputs have ended and nothing waits, or where it has all its slots.
 ///
-/// The memory that it takes grows neither with the slots nor with the inputs. The writer comes back, and without a fault the readers too, in
-/// their order, each read as far as the run read it.
+/// The memory that it takes grows neither with the slots nor with the inputs. The writer comes back, and without a fault the
+/// readers too, in their order, each read as far as the run read it.
 /// `Memory` is answered where memory was refused, and goes before `Write`, which is answered where the writer failed; what
 /// was written is then a beginning of the output. A reader that fails ends its input, and the run goes on.
 pub fn run_serial<R: Source + Drop, W: Sink>(
@@ -35,12 +33,41 @@ pub fn run_serial<R: Source + Drop, W: Sink>(
     requires slots { slots ≤ 2 ^ 40 }
     requires readers { length readers.items ≡ length plan.request.inputs }
     ensures runs { IfOk result.1 (λ done. (h : List Event)
-        × HasRun (record { run = record { plan = plan; limit = slots }; events = h })
+        × HasRun (record { run = record { plan = plan; limit = slots }; events = h }) 3154116608
         (map R.remaining readers.items) (map R.remaining done.1.items)
         (W.contents writer) (W.contents result.0) done.0) }
     ensures begins { OnErr result.1 ((h : List Event)
-        × HasBegun (record { run = record { plan = plan; limit = slots }; events = h })
-        (map R.remaining readers.items) (W.contents writer) (W.contents result.0)) }
+        × HasBegun R.failures (record { run = record { plan = plan; limit = slots }; events = h }) 3154116608
+        (map R.remaining readers.items) readers.items (W.contents writer) (W.contents result.0)) }
+    ensures readers { IfOk result.1 (λ done. length done.1.items ≡ length readers.items) }
+    ensures read_failed { IfOk result.1 (λ done.
+        FailuresAreTold R.failures readers.items done.1.items done.0.inputs.items) }
+    ensures wrote { OnOk result.1 (W.failures result.0 ≡ W.failures writer) }
+    ensures memory { result.1 ≡ Err RunFault.Memory → W.failures result.0 ≡ W.failures writer }
+    ensures write_failed { result.1 ≡ Err RunFault.Write → FailsOnce (W.failures writer) (W.failures result.0) }
+{
+    run_serial_within(alloc, plan, slots, INPUT_LIMIT, readers, writer)
+}
+
+/// The same with inputs of at most `limit` bytes: up to 140,737,488,355,328.
+pub fn run_serial_within<R: Source + Drop, W: Sink>(
+    alloc: Global,
+    plan: Plan,
+    slots: u64,
+    limit: u64,
+    readers: Vec<R>,
+    writer: W,
+) -> (W, Result<(Summary, Vec<R>), RunFault>)
+    requires slots { slots ≤ 2 ^ 40 }
+    requires limit { limit ≤ MAX_LIMIT }
+    requires readers { length readers.items ≡ length plan.request.inputs }
+    ensures runs { IfOk result.1 (λ done. (h : List Event)
+        × HasRun (record { run = record { plan = plan; limit = slots }; events = h }) limit
+        (map R.remaining readers.items) (map R.remaining done.1.items)
+        (W.contents writer) (W.contents result.0) done.0) }
+    ensures begins { OnErr result.1 ((h : List Event)
+        × HasBegun R.failures (record { run = record { plan = plan; limit = slots }; events = h }) limit
+        (map R.remaining readers.items) readers.items (W.contents writer) (W.contents result.0)) }
     ensures readers { IfOk result.1 (λ done. length done.1.items ≡ length readers.items) }
     ensures read_failed { IfOk result.1 (λ done.
         FailuresAreTold R.failures readers.items done.1.items done.0.inputs.items) }
@@ -49,8 +76,16 @@ pub fn run_serial<R: Source + Drop, W: Sink>(
     ensures write_failed { result.1 ≡ Err RunFault.Write → FailsOnce (W.failures writer) (W.failures result.0) }
 {
     let mut sink = writer;
-    let result = run_to(alloc, plan, slots, readers, &mut sink);
+    let result = run_to(alloc, plan, slots, limit, readers, &mut sink);
     (sink, result)
+}
+
+/// What every plan keeps.
+fn known(plan: &Plan)
+    ensures { IsMultiplexPlan plan.now }
+{
+    let _ = plan.request().rate();
+    let _ = plan.rounds().rate();
 }
 
 /// The same, with the writer lent.
@@ -58,18 +93,20 @@ fn run_to<R: Source + Drop, W: Sink>(
     alloc: Global,
     plan: Plan,
     slots: u64,
+    limit: u64,
     readers: Vec<R>,
     sink: &mut W,
 ) -> Result<(Summary, Vec<R>), RunFault>
     requires slots { slots ≤ 2 ^ 40 }
+    requires limit { limit ≤ MAX_LIMIT }
     requires readers { length readers.items ≡ length plan.request.inputs }
     ensures runs { IfOk result (λ done. (h : List Event)
-        × HasRun (record { run = record { plan = plan; limit = slots }; events = h })
+        × HasRun (record { run = record { plan = plan; limit = slots }; events = h }) limit
         (map R.remaining readers.items) (map R.remaining done.1.items)
         (W.contents sink.old) (W.contents sink.new) done.0) }
     ensures begins { OnErr result ((h : List Event)
-        × HasBegun (record { run = record { plan = plan; limit = slots }; events = h })
-        (map R.remaining readers.items) (W.contents sink.old) (W.contents sink.new)) }
+        × HasBegun R.failures (record { run = record { plan = plan; limit = slots }; events = h }) limit
+        (map R.remaining readers.items) readers.items (W.contents sink.old) (W.contents sink.new)) }
     ensures readers { IfOk result (λ done. length done.1.items ≡ length readers.items) }
     ensures read_failed { IfOk result (λ done.
         FailuresAreTold R.failures readers.items done.1.items done.0.inputs.items) }
@@ -77,7 +114,8 @@ fn run_to<R: Source + Drop, W: Sink>(
     ensures memory { result ≡ Err RunFault.Memory → W.failures sink.new ≡ W.failures sink.old }
     ensures write_failed { result ≡ Err RunFault.Write → FailsOnce (W.failures sink.old) (W.failures sink.new) }
 {
-    let mut run = SerialRun::open(alloc, plan, slots, readers)?;
+    known(&plan);
+    let mut run = SerialRun::open(alloc, plan, slots, limit, readers)?;
     let driven = run.drive(sink);
     // What every multiplex keeps is known with this.
     let _ = run.slots();

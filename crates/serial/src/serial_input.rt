@@ -4,7 +4,7 @@ use plan::Plan;
 use reading::{PacketReader, Source};
 use std::alloc::Global;
 
-/// How many bytes an input may have, at most: 16,777,216 packets.
+/// How many bytes an input of a run of few slots may have, at most: 16,777,216 packets.
 pub const INPUT_LIMIT: u64 = 3_154_116_608;
 
 /// An input, and whether the multiplex was told that nothing more comes of it.
@@ -15,19 +15,21 @@ pub(crate) struct SerialInput<R> {
 }
 
 impl<R: Source> SerialInput<R> {
-    ghost use Rattle.std.specs.Prelude.{◌≡◌, ◌<◌, length, Some, None, IsSome, true, false};
+    ghost use Rattle.std.specs.Prelude.{◌≡◌, ◌<◌, ◌≤◌, length, Some, None, IsSome, true, false};
     ghost use Rattle.reading.specs.declared.stop.Stop.TheVariants.{Gate};
+    ghost use Rattle.tspkt.specs.declared.framer.TheConstants.{MAX_LIMIT};
     ghost use Rattle.serial.specs.Opening.{IsOpened};
 
-    /// The input with this number of a plan, of which nothing was read.
-    pub fn open(alloc: Global, plan: &Plan, number: usize, source: R) -> SerialInput<R>
-        requires { number < length plan.now.request.inputs }
-        ensures { IsOpened R.remaining R.failures plan.now number source result }
+    /// The input with this number of a plan, of which nothing was read, and of which at most so many bytes may come.
+    pub fn open(alloc: Global, plan: &Plan, number: usize, limit: u64, source: R) -> SerialInput<R>
+        requires number { number < length plan.now.request.inputs }
+        requires limit { limit ≤ MAX_LIMIT }
+        ensures { IsOpened R.remaining R.failures limit plan.now number source result }
     {
         // What all requests keep is known with this.
         let _ = plan.request().rate();
         SerialInput {
-            reader: PacketReader::new(alloc, number, &plan.inputs()[number], source, INPUT_LIMIT),
+            reader: PacketReader::new(alloc, number, &plan.inputs()[number], source, limit),
             is_closed: false,
         }
     }

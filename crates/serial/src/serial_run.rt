@@ -37,23 +37,26 @@ impl<R: Source + Drop> SerialRun<R> {
     ghost use Rattle.mux.specs.Totals.{IsCounts};
     ghost use Rattle.serial.specs.Feeding.{AllTellFailures};
     ghost use Rattle.serial.specs.Ending.{AreReported, ArePeaks};
-    ghost use Rattle.serial.specs.Running.{IsRunning, IsOver, AreBegun, steps_left};
+    ghost use Rattle.tspkt.specs.declared.framer.TheConstants.{MAX_LIMIT};
+    ghost use Rattle.serial.specs.Running.{IsRunning, IsOver, AreHalted, steps_left};
 
-    /// A run of a plan for at most this many slots, of which nothing was read or sent.
+    /// A run of a plan for at most this many slots, with inputs of at most `limit` bytes, of which nothing was read or sent.
     pub fn open(
         alloc: Global,
         plan: Plan,
         slots: u64,
+        limit: u64,
         readers: Vec<R>,
     ) -> Result<SerialRun<R>, AllocError>
         requires slots { slots ≤ 2 ^ 40 }
+        requires limit { limit ≤ MAX_LIMIT }
         requires readers { length readers.items ≡ length plan.request.inputs }
-        ensures running { IfOk result (λ r. IsRunning R.remaining (record { plan = plan; limit = slots }) (map R.remaining readers.items) r) }
+        ensures running { IfOk result (λ r. IsRunning R.remaining (record { plan = plan; limit = slots }) limit (map R.remaining readers.items) r) }
         ensures new { IfOk result (λ r. r.mux.events ≡ []) }
         ensures waiting { IfOk result (λ r. r.output.writer ≡ []) }
         ensures failures { IfOk result (λ r. AllTellFailures R.failures (map R.failures readers.items) r.inputs.items) }
     {
-        let inputs = open_inputs(alloc, &plan, readers)?;
+        let inputs = open_inputs(alloc, &plan, limit, readers)?;
         let output = SlotWriter::new(alloc, plan.rate(), plan.request().watch())?;
         let mux = Mux::open(alloc, plan.copy(alloc)?, slots)?;
         Ok(SerialRun {
@@ -94,19 +97,20 @@ impl<R: Source + Drop> SerialRun<R> {
 
     /// Sends slots until nothing is left to send or the run has all its slots, and writes what is in the buffer.
     pub fn drive<W: Sink>(&mut self, sink: &mut W) -> Result<(), RunFault>
-        requires { (run : Run) × (starts : List (Option (List ℕ))) × IsRunning R.remaining run starts self.old }
-        ensures runs { OnOk result ((run : Run) (starts : List (Option (List ℕ)))
-            → IsRunning R.remaining run starts self.old → IsRunning R.remaining run starts self.new) }
+        requires { (run : Run) × (limit : ℕ) × (starts : List (Option (List ℕ))) × IsRunning R.remaining run limit starts self.old }
+        ensures runs { OnOk result ((run : Run) (limit : ℕ) (starts : List (Option (List ℕ)))
+            → IsRunning R.remaining run limit starts self.old → IsRunning R.remaining run limit starts self.new) }
         ensures over { OnOk result (IsOver self.old.mux.run self.new.mux.events) }
         ensures failures { OnOk result (W.failures sink.new ≡ W.failures sink.old) }
         ensures written { OnOk result ((before : Option (List ℕ))
             → Sends before (W.contents sink.old) (bytes_of (emitted self.old.plan self.old.mux.events)) self.old.output.writer
             → Appends before (W.contents sink.new) (bytes_of (emitted self.old.plan self.new.mux.events))) }
-        ensures begun { OnErr result ((run : Run) (starts : List (Option (List ℕ)))
-            → IsRunning R.remaining run starts self.old → AreBegun run.plan self.new.mux.events starts) }
-        ensures failures_told { OnOk result ((befores : List ℕ)
+        ensures halted { OnErr result ((run : Run) (limit : ℕ) (starts : List (Option (List ℕ)))
+            → IsRunning R.remaining run limit starts self.old
+            → AreHalted limit run.plan self.new.mux.events starts self.new.inputs.items) }
+        ensures failures_told { (befores : List ℕ)
             → AllTellFailures R.failures befores self.old.inputs.items
-            → AllTellFailures R.failures befores self.new.inputs.items) }
+            → AllTellFailures R.failures befores self.new.inputs.items }
         ensures run { self.new.mux.run ≡ self.old.mux.run }
         ensures plan { self.new.plan ≡ self.old.plan }
         ensures sent_begun { OnErr result ((before : Option (List ℕ))
@@ -127,20 +131,21 @@ impl<R: Source + Drop> SerialRun<R> {
     /// One step: the next slot is sent, or the input for which the multiplex waits gives a packet or is closed. True is
     /// answered where the run is over, and nothing changed.
     fn step<W: Sink>(&mut self, sink: &mut W) -> Result<bool, RunFault>
-        requires { (run : Run) × (starts : List (Option (List ℕ))) × IsRunning R.remaining run starts self.old }
-        ensures runs { OnOk result ((run : Run) (starts : List (Option (List ℕ)))
-            → IsRunning R.remaining run starts self.old → IsRunning R.remaining run starts self.new) }
+        requires { (run : Run) × (limit : ℕ) × (starts : List (Option (List ℕ))) × IsRunning R.remaining run limit starts self.old }
+        ensures runs { OnOk result ((run : Run) (limit : ℕ) (starts : List (Option (List ℕ)))
+            → IsRunning R.remaining run limit starts self.old → IsRunning R.remaining run limit starts self.new) }
         ensures fewer { result ≡ Ok false
             → steps_left self.old.mux.run self.new.mux.events < steps_left self.old.mux.run self.old.mux.events }
         ensures over { result ≡ Ok true → IsOver self.old.mux.run self.new.mux.events }
         ensures written { OnOk result ((before : Option (List ℕ))
             → Sends before (W.contents sink.old) (bytes_of (emitted self.old.plan self.old.mux.events)) self.old.output.writer
             → Sends before (W.contents sink.new) (bytes_of (emitted self.old.plan self.new.mux.events)) self.new.output.writer) }
-        ensures begun { OnErr result ((run : Run) (starts : List (Option (List ℕ)))
-            → IsRunning R.remaining run starts self.old → AreBegun run.plan self.new.mux.events starts) }
-        ensures failures_told { OnOk result ((befores : List ℕ)
+        ensures halted { OnErr result ((run : Run) (limit : ℕ) (starts : List (Option (List ℕ)))
+            → IsRunning R.remaining run limit starts self.old
+            → AreHalted limit run.plan self.new.mux.events starts self.new.inputs.items) }
+        ensures failures_told { (befores : List ℕ)
             → AllTellFailures R.failures befores self.old.inputs.items
-            → AllTellFailures R.failures befores self.new.inputs.items) }
+            → AllTellFailures R.failures befores self.new.inputs.items }
         ensures run { self.new.mux.run ≡ self.old.mux.run }
         ensures plan { self.new.plan ≡ self.old.plan }
         ensures sent_begun { OnErr result ((before : Option (List ℕ))

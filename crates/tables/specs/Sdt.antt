@@ -56,6 +56,10 @@ pub record IsSdtRow (r : SdtRow) : Type 0 where
 abbrev pub sdt_section_length_of : SdtValue → ℕ
 sdt_section_length_of v = 12 + sum (map (λ (r : SdtRow). 5 + length r.descriptors) v.rows)
 
+-- the most bytes that the rows of a section take: section_length is at most 1,021, and 12 of it are no rows
+abbrev pub rows_room : ℕ
+rows_room = 1009
+
 abbrev pub bit_of : Bool → ℕ
 bit_of b = if b then 1 else 0
 

@@ -38,7 +38,7 @@ pub use pat::Pat;
 pub use pat_row::PatRow;
 pub use pmt::Pmt;
 pub use pmt_row::PmtRow;
-pub use sdt::Sdt;
+pub use sdt::{MAX_SDT_ROWS_LENGTH, Sdt};
 pub use sdt_row::SdtRow;
 pub use service_descriptor::ServiceDescriptor;
 pub use service_list_descriptor::push_service_list;

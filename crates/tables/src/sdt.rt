@@ -6,7 +6,7 @@ ghost use Rattle.tspkt.specs.Bits.{field};
 ghost use Rattle.tables.specs.Descriptors.{are_whole};
 ghost use Rattle.tables.specs.Rows.{rows_of};
 ghost use Rattle.tables.specs.declared.sdt_row.SdtRow.{SdtRow};
-ghost use Rattle.tables.specs.Sdt.{sdt_row_of, sdt_row_bytes, IsSdtRow};
+ghost use Rattle.tables.specs.Sdt.{sdt_row_of, sdt_row_bytes, IsSdtRow, rows_room};
 
 use crate::descriptor_loop::DescriptorLoop;
 use crate::header::{Header, read_header, write_section};
@@ -30,8 +30,8 @@ const ROW_HEAD_LENGTH: usize = 5;
 /// The bytes of a body in front of its rows: original_network_id, and reserved bits.
 const BODY_HEAD_LENGTH: usize = 3;
 
-/// The most bytes of rows that a section holds beside its header, the head of its body and CRC_32.
-const MAX_ROWS_LENGTH: usize = 1009;
+/// The most bytes of rows in a section of the SDT: section_length is at most 1,021, and 12 of it are no rows.
+pub const MAX_SDT_ROWS_LENGTH: usize = 1009;
 
 /// A section of the service description table of the actual transport stream (EN 300 468, 5.2.3).
 /// Its table_id_extension is transport_stream_id. Contracts see its header, original_network_id and
@@ -205,16 +205,16 @@ fn read_rows(alloc: Global, bytes: &[u8]) -> Result<Vec<SdtRow>, TableFault>
 /// The bytes of the rows as they are written; none where no section holds them.
 fn rows_length(rows: &[SdtRow]) -> Option<usize>
     ensures { MatchOption result
-        (MAX_ROWS_LENGTH < sum (map (λ (r : SdtRow). 5 + length r.descriptors) rows.now))
-        (λ n. (n ≡ sum (map (λ (r : SdtRow). 5 + length r.descriptors) rows.now)) × (n ≤ MAX_ROWS_LENGTH)) }
+        (rows_room < sum (map (λ (r : SdtRow). 5 + length r.descriptors) rows.now))
+        (λ n. (n ≡ sum (map (λ (r : SdtRow). 5 + length r.descriptors) rows.now)) × (n ≤ rows_room)) }
 {
-    let mut room = MAX_ROWS_LENGTH;
+    let mut room = MAX_SDT_ROWS_LENGTH;
     for row in rows {
         room = room
             .checked_sub(ROW_HEAD_LENGTH)?
             .checked_sub(row.descriptors.bytes().len())?;
     }
-    Some(MAX_ROWS_LENGTH - room)
+    Some(MAX_SDT_ROWS_LENGTH - room)
 }
 
 /// The row in front of its descriptors.
@@ -242,7 +242,7 @@ fn write_body(
 ) -> Result<Vec<u8>, AllocError>
     requires rows { All IsSdtRow rows.now }
     requires length { rows_length ≡ sum (map (λ (r : SdtRow). 5 + length r.descriptors) rows.now) }
-    requires short { rows_length ≤ MAX_ROWS_LENGTH }
+    requires short { rows_length ≤ rows_room }
     ensures { IfOk result (λ v. v.items
         ≡ (original_network_id / 256) ∷ (original_network_id % 256) ∷ 255 ∷ flat_map sdt_row_bytes rows.now) }
 {

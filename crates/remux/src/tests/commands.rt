@@ -1,11 +1,11 @@
 //! Whole commands: what they print, what they write, and how they end.
 
-use crate::command_fault::CommandFault;
 use crate::tests::devices::TestReader;
 use crate::tests::memory_files::{Done, MemoryFiles, does};
-use crate::tests::runs::{eight_packets, marks_of};
-use crate::{example, first_run};
+use crate::tests::runs::marks_of;
 use anyhow::Result;
+use example::{eight_packets, service};
+use messages::CommandFault;
 use request::PlanFault;
 use std::alloc::{AllocError, Global};
 use std::ops::Range;
@@ -94,7 +94,7 @@ stream 0x0200 input 0 pid 0x0101 leak 2000000
 /// Analyses the example's PAT and so many null packets, and some bytes behind them.
 fn analyses(alloc: Global, nulls: u32, rest: &[u8]) -> Result<Done> {
     let mut bytes = Vec::new(alloc);
-    if let Some(pat) = first_run::first_slots(alloc)?.first() {
+    if let Some(pat) = example::first_slots(alloc)?.first() {
         bytes.extend_from_slice(pat.bytes())?;
     }
     for _ in 0..nulls {
@@ -245,6 +245,19 @@ fn a_plan_is_refused_by_the_number_of_its_fault(rt: HostRuntime) -> Result<(), F
     ] {
         let text = example::PLAN.replacen(alloc, old, new, 1)?;
         refuses(&rt, text.as_bytes(), files(alloc)?, fault)?;
+    }
+    Ok(())
+}
+
+/// A second service of the example's number, and one whose row of the example's PID has another output PID: both are told by
+/// the text alone, and neither as want of memory.
+#[test]
+fn a_plan_that_uses_a_number_twice_is_refused(rt: HostRuntime) -> Result<(), Fail> {
+    let alloc = rt.alloc();
+    for (number, fault) in [(0, "fault 3 ServiceTaken\n"), (1, "fault 4 PidTaken\n")] {
+        let second = service(alloc, number, 0, 200, 257)?;
+        let text = format!(in alloc; "{}{second}", example::PLAN)?;
+        refuses(&rt, text.as_bytes(), MemoryFiles::new(alloc)?, fault)?;
     }
     Ok(())
 }

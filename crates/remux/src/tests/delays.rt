@@ -5,12 +5,10 @@
 //! time, or has ended, or found a queue full; so no packet is taken before a slot asks for it.
 
 use crate::commands::command;
-use crate::example;
 use crate::tests::commands::{LINES, ends, files, with_readers};
 use crate::tests::devices::TestWriter;
-use crate::tests::helpers::{input, service, settings};
 use crate::tests::memory_files::{MemoryFiles, does};
-use crate::tests::runs::{add_packets, eight_packets};
+use example::{add_packets, eight_packets, input, service, settings};
 use std::alloc::{AllocError, Global};
 use std::test::Fail;
 
@@ -27,6 +25,53 @@ fn the_delay_of_a_stream_is_told(rt: HostRuntime) -> Result<(), Fail> {
     let done = does(alloc, &RUN, &mut files(alloc)?)?;
     ends(&rt, &done, 0, LINES, TOLD);
     assert_eq!(rt; done.written_len(), Some(1_692));
+    Ok(())
+}
+
+/// The example's eight packets, where each of the stream's five has the PCR 0.
+fn files_with_pcrs(alloc: Global) -> Result<MemoryFiles, AllocError> {
+    let mut bytes = Vec::new(alloc);
+    for packet in &example::tables(alloc)? {
+        bytes.extend_from_slice(packet.bytes())?;
+    }
+    for counter in [0x30, 0x31, 0x32, 0x33, 0x34] {
+        bytes.extend_from_slice(&[0x47, 0x01, 0x01, counter, 7, 0x10, 0, 0, 0, 0, 0x7E, 0])?;
+        bytes.extend_from_slice(&[0xAA; 176])?;
+    }
+    let mut files = MemoryFiles::new(alloc)?;
+    files.add("x.toml", example::PLAN.as_bytes())?;
+    files.add("x.ts", &bytes)?;
+    Ok(files)
+}
+
+/// The slots of an output whose packets have an adaptation field, with the six bytes of a PCR in it.
+fn pcrs_of(alloc: Global, bytes: &[u8]) -> Result<Vec<(usize, [u8; 6])>, AllocError> {
+    let mut pcrs = Vec::new(alloc);
+    let (packets, _) = bytes.as_chunks::<188>();
+    for (slot, p) in packets.iter().enumerate() {
+        if p[3] / 32 % 2 == 1 {
+            pcrs.push((slot, [p[6], p[7], p[8], p[9], p[10], p[11]]))?;
+        }
+    }
+    Ok(pcrs)
+}
+
+/// The delay of each packet one by one: a PCR of 0 goes out as the packet's delay, which is 0 or 27,000, 90 times 300.
+#[test]
+fn the_delay_of_each_packet_is_in_its_pcr(rt: HostRuntime) -> Result<(), Fail> {
+    let alloc = rt.alloc();
+    let done = does(alloc, &RUN, &mut files_with_pcrs(alloc)?)?;
+    ends(&rt, &done, 0, LINES, TOLD);
+    let written = done.written.ok_or("no output")?;
+    let late = [0, 0, 0, 0x2D, 0x7E, 0];
+    let want = [
+        (3, [0, 0, 0, 0, 0x7E, 0]),
+        (5, late),
+        (6, late),
+        (7, late),
+        (8, late),
+    ];
+    assert_eq!(rt; pcrs_of(alloc, &written)?.as_slice(), want.as_slice());
     Ok(())
 }
 

@@ -3,6 +3,7 @@
 use crate::commands::command;
 use crate::files::Files;
 use crate::tests::devices::{TestReader, TestWriter};
+use input_files::Sources;
 use reading::ReadSource;
 use serial::WriteSink;
 use std::alloc::{AllocError, Global};
@@ -44,10 +45,8 @@ impl MemoryFiles {
     }
 }
 
-impl Files for MemoryFiles {
+impl Sources for MemoryFiles {
     type Reader = ReadSource<TestReader>;
-
-    type Writer = WriteSink<TestWriter>;
 
     fn reader(&mut self, name: &str) -> Option<ReadSource<TestReader>> {
         for file in self.files.iter_mut() {
@@ -57,6 +56,10 @@ impl Files for MemoryFiles {
         }
         None
     }
+}
+
+impl Files for MemoryFiles {
+    type Writer = WriteSink<TestWriter>;
 
     fn writer(&mut self, _name: &str) -> Option<WriteSink<TestWriter>> {
         self.output.take().map(WriteSink::new)

@@ -2,10 +2,9 @@
 
 ghost use Rattle.std.specs.Prelude.{◌≤◌};
 
-use crate::example;
 use crate::tests::devices::{TestReader, TestWriter};
-use crate::tests::helpers::{input, plan, service, settings};
 use anyhow::{Result, bail};
+use example::{add_packets, eight_packets, input, packets, plan_of, service, settings};
 use mux::{Counts, Totals};
 use plan::Plan;
 use reading::{ReadSource, Report, Stop};
@@ -13,32 +12,6 @@ use serial::{InputSummary, RunFault, Summary, WriteSink, run_serial};
 use std::alloc::{AllocError, Global};
 use std::process::Abort;
 use std::test::Fail;
-
-/// Adds packets of PID 0x0101 with these counters, each of 184 bytes 0xAA.
-pub fn add_packets(bytes: &mut Vec<u8>, counters: &[u8]) -> Result<(), AllocError> {
-    for counter in counters {
-        bytes.extend_from_slice(&[0x47, 0x01, 0x01, 0x10 + counter % 16])?;
-        bytes.extend_from_slice(&[0xAA; 184])?;
-    }
-    Ok(())
-}
-
-/// So many packets of PID 0x0101.
-fn packets(alloc: Global, counters: &[u8]) -> Result<Vec<u8>, AllocError> {
-    let mut bytes = Vec::new(alloc);
-    add_packets(&mut bytes, counters)?;
-    Ok(bytes)
-}
-
-/// An input's PAT, PMT and SDT, and five packets of PID 0x0101.
-pub fn eight_packets(alloc: Global) -> Result<Vec<u8>, AllocError> {
-    let mut bytes = Vec::new(alloc);
-    for packet in &example::tables(alloc)? {
-        bytes.extend_from_slice(packet.bytes())?;
-    }
-    add_packets(&mut bytes, &[0, 1, 2, 3, 4])?;
-    Ok(bytes)
-}
 
 type Ran = (TestWriter, Result<Summary, RunFault>);
 
@@ -70,7 +43,7 @@ fn run(
 fn run_one(alloc: Global, slots: u64, reader: TestReader) -> Result<(Vec<u8>, Summary)>
     requires { slots ≤ 1000000 }
 {
-    let plan = plan(alloc, 64, &[0])?;
+    let plan = plan_of(alloc, 64, &[0])?;
     let writer = TestWriter::new(Vec::new(alloc));
     let (writer, result) = run(alloc, plan, slots, vec![in alloc; reader]?, writer)?;
     Ok((writer.bytes, result?))
@@ -78,7 +51,7 @@ fn run_one(alloc: Global, slots: u64, reader: TestReader) -> Result<(Vec<u8>, Su
 
 /// Runs the example plan with two inputs of five packets each, read in pieces of so many bytes.
 fn run_two(alloc: Global, queue: usize, step: usize) -> Result<(Vec<u8>, Summary)> {
-    let plan = plan(alloc, queue, &[0, 0])?;
+    let plan = plan_of(alloc, queue, &[0, 0])?;
     let mut readers = Vec::new(alloc);
     for _ in 0..2 {
         let mut reader = TestReader::new(packets(alloc, &[0, 1, 2, 3, 4])?);
@@ -234,7 +207,7 @@ fn with_unused(alloc: Global) -> Result<String, AllocError> {
 #[test]
 fn an_input_that_no_service_uses_is_read_and_closed(rt: HostRuntime) -> Result<(), Fail> {
     let alloc = rt.alloc();
-    let plan = example::plan(alloc, &with_unused(alloc)?, &example::tables(alloc)?)?;
+    let plan = example::planned(alloc, &with_unused(alloc)?, &example::tables(alloc)?)?;
     let mut readers = Vec::new(alloc);
     for _ in 0..2 {
         readers.push(TestReader::new(eight_packets(alloc)?))?;
@@ -289,7 +262,7 @@ fn a_writer_that_fails_ends_the_run(rt: HostRuntime) -> Result<(), Fail> {
         writer.room = room;
         writer.step = step;
         let readers = vec![in alloc; TestReader::new(eight_packets(alloc)?)]?;
-        let plan = plan(alloc, 64, &[0])?;
+        let plan = plan_of(alloc, 64, &[0])?;
         let (writer, result) = run(alloc, plan, 1_000, readers, writer)?;
         assert_eq!(rt; writer.bytes.as_slice(), whole.get(..room).unwrap_or(&[]));
         let fault = result.err();

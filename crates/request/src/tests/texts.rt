@@ -44,6 +44,40 @@ fn fault(alloc: Global, old: &str, new: &str) -> Result<Option<PlanFault>, Alloc
     Ok(read(alloc, text.as_str()).err())
 }
 
+/// The example plan with a second service of this number, with its PMT and its one stream on these output PIDs.
+fn two(alloc: Global, service: u16, pmt: u16, out: u16, leak: u64) -> Result<String, AllocError> {
+    format!(in alloc;
+        "{EXAMPLE}[[service]]
+input = 0
+program = 200
+service = {service}
+pmt = {pmt}
+[[service.stream]]
+pid = 258
+out = {out}
+leak = {leak}
+"
+    )
+}
+
+/// The faults of a text's parts, each told as what it is and not as want of memory, the least number first.
+#[test]
+fn faults_of_two_services(rt: HostRuntime) -> Result<(), PlanFault> {
+    for (service, pmt, out, leak, wanted) in [
+        (501, 300, 513, 1_000, None),
+        (500, 300, 513, 1_000, Some(PlanFault::ServiceTaken)),
+        (501, 256, 513, 1_000, Some(PlanFault::PidTaken)),
+        (501, 300, 512, 1_000, Some(PlanFault::PidTaken)),
+        (500, 256, 512, 1_000, Some(PlanFault::ServiceTaken)),
+        (500, 256, 512, 999, Some(PlanFault::OutOfRange)),
+    ] {
+        let text = two(rt.alloc(), service, pmt, out, leak)?;
+        let told = read(rt.alloc(), text.as_str()).err();
+        assert_eq!(rt; told, wanted, "{service} {pmt} {out} {leak}");
+    }
+    Ok(())
+}
+
 /// The faults of texts: bad ones, and numbers that are too large or negative.
 #[test]
 fn faults_of_texts(rt: HostRuntime) -> Result<(), PlanFault> {

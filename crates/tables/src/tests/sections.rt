@@ -59,6 +59,13 @@ fn program_association(rt: HostRuntime) -> Result<(), Fail> {
     assert_eq!(rt; pat.rows(), rows.as_slice());
     assert_eq!(rt; pat.write(alloc)?.as_slice(), bytes.as_slice());
 
+    // With another last byte, and without it.
+    let mut other = bytes;
+    other[15] = 0xB3;
+    assert_eq!(rt; Pat::read(alloc, &other).err(), Some(TableFault::BadCrc));
+    let (cut, _) = bytes.split_at(15);
+    assert_eq!(rt; Pat::read(alloc, cut).err(), Some(TableFault::BadLength));
+
     let bytes = pat_with_network();
     let pat = Pat::read(alloc, &bytes)?;
     let rows = [

@@ -3,11 +3,12 @@ use Rattle.std.proofs.lemmas.List.{length-map, drop_all}
 use Rattle.selection.specs.declared.chosen_service.ChosenService.{ChosenService}
 use Rattle.selection.specs.Chosen.{ChosenValue}
 use Rattle.selection.specs.ChosenView.{chosen_value}
-use Rattle.output_tables.specs.Output.{output_row, row_length, rows_room, packets_for}
+use Rattle.tables.specs.Sdt.{rows_room}
+use Rattle.output_tables.specs.Output.{output_row, row_length, packets_for}
 use Rattle.output_tables.proofs.ListLaws.{item_has, rest_split}
 use Rattle.output_tables.proofs.SdtCountLaws.{count_behind, row_counts, row_counts_anew, none_counts, sdt_counted}
 use Rattle.output_tables.proofs.counts.sdt_count.Goals as goal
-use Rattle.output_tables.proofs.counts.sdt_count.Goals.{then-used-length-gt-ROWS_ROOM, else-used-length-gt-ROWS_ROOM}
+use Rattle.output_tables.proofs.counts.sdt_count.Goals.{then-used-length-gt-MAX_SDT_ROWS_LENGTH, else-used-length-gt-MAX_SDT_ROWS_LENGTH}
 
 pub loop-service-preserved : goal.loop-service-preserved
 loop-service-preserved c =
@@ -22,9 +23,9 @@ loop-service-preserved c =
     let split = rest_split chosen i x within c.service-item.is in
     let before : c.loop-service.packets + count_behind c.loop-service.used (row ∷ rows) ≡ count_behind 0 (map output_row (map chosen_value chosen)) =
     ap (λ (l : List ChosenService). c.loop-service.packets + count_behind c.loop-service.used (map output_row (map chosen_value l))) (sym split) ∙ c.loop-service.invariant.counted in
-    let now = c.if-used-length-gt-ROWS_ROOM in
+    let now = c.if-used-length-gt-MAX_SDT_ROWS_LENGTH in
     elim now.branch [
-      | then-used-length-gt-ROWS_ROOM w ↦
+      | then-used-length-gt-MAX_SDT_ROWS_LENGTH w ↦
           let anew = row_counts_anew c.loop-service.used row rows (omega arith) in
           let first : now.used + (5 + length c.bytes.result.now) ≡ row_length row = omega arith in
           let taken : now.packets ≡ c.loop-service.packets + packets_for (12 + c.loop-service.used) = w.packets-is ∙ ap (λ (n : ℕ). c.loop-service.packets + n) w.packets_for-packets.ensures.value in
@@ -35,7 +36,7 @@ loop-service-preserved c =
             used = omega arith;
             few = omega (arith, w.packets_for-packets.ensures.few);
           }
-      | else-used-length-gt-ROWS_ROOM w ↦
+      | else-used-length-gt-MAX_SDT_ROWS_LENGTH w ↦
           let same = row_counts c.loop-service.used row rows (omega arith) in
           let longer : now.used + (5 + length c.bytes.result.now) ≡ c.loop-service.used + row_length row = omega arith in
           record {

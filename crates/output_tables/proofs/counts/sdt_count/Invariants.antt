@@ -1,6 +1,7 @@
 use Rattle.std.proofs.Common.{◌≡◌, ◌+◌, ◌*◌, ◌≤◌, map, drop}
 use Rattle.selection.specs.ChosenView.{chosen_value}
-use Rattle.output_tables.specs.Output.{output_row, rows_room}
+use Rattle.tables.specs.Sdt.{rows_room}
+use Rattle.output_tables.specs.Output.{output_row}
 use Rattle.output_tables.proofs.SdtCountLaws.{count_behind}
 use Rattle.output_tables.proofs.counts.sdt_count.Given as goal
 

@@ -2,12 +2,12 @@ use Rattle.std.proofs.Common.{arith, ◌≡◌, ◌+◌, ◌<◌, ◌≤◌, Lis
 use Rattle.std.specs.VecDeque.{deque_len}
 use Rattle.std.proofs.lemmas.List.{length-map}
 use Rattle.std.proofs.lemmas.List.Elements.{All-map}
-use Rattle.tables.specs.Sdt.{IsSdtRow}
+use Rattle.tables.specs.Sdt.{IsSdtRow, rows_room}
 use Rattle.tables.specs.declared.sdt_row.SdtRow.{SdtRow}
 use Rattle.selection.specs.declared.chosen_service.ChosenService.{ChosenService}
 use Rattle.selection.specs.Chosen.{ChosenValue}
 use Rattle.selection.specs.ChosenView.{chosen_value}
-use Rattle.output_tables.specs.Output.{output_row, row_length, rows_room, sdt_groups_behind, sdt_groups}
+use Rattle.output_tables.specs.Output.{output_row, row_length, sdt_groups_behind, sdt_groups}
 use Rattle.output_tables.proofs.ListLaws.{item_has, rest_split}
 use Rattle.output_tables.proofs.GroupLaws.{begun, row_put, row_begins, sum_push}
 use Rattle.output_tables.proofs.output_sdt.group_rows.Goals as goal

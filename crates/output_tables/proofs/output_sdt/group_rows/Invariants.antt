@@ -1,7 +1,8 @@
 use Rattle.std.proofs.Common.{◌≡◌, ◌+◌, ◌++◌, map, drop, sum, length}
 use Rattle.std.specs.VecDeque.{deque_len}
 use Rattle.selection.specs.ChosenView.{chosen_value}
-use Rattle.output_tables.specs.Output.{output_row, row_length, rows_room, sdt_groups, sdt_groups_behind}
+use Rattle.tables.specs.Sdt.{rows_room}
+use Rattle.output_tables.specs.Output.{output_row, row_length, sdt_groups, sdt_groups_behind}
 use Rattle.output_tables.proofs.output_sdt.group_rows.Given as goal
 
 abbrev pub invariant-loop-service : goal.invariant-loop-service

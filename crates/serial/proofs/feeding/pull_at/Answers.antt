@@ -1,20 +1,42 @@
-use Rattle.std.proofs.Common.{ℕ, ◌<◌, List, Option, set, sym, subst, ap, ◌∙◌, length, arith}
+use Rattle.std.proofs.Common.{ℕ, ◌<◌, ◌≡◌, false, List, Option, set, sym, subst, ap, ◌∙◌, length, arith}
 use Rattle.std.proofs.lemmas.Result.{on_ok_weaker}
 use Rattle.plan.specs.Build.{PlanValue}
 use Rattle.mux.specs.History.{History, with_event}
 use Rattle.mux.specs.Faithful.{IsFaithful}
 use Rattle.serial.specs.Feeding.{Feeds, packet_lists}
 use Rattle.serial.specs.Running.{AreFed}
+use Rattle.mux.specs.Lawful.{is_ready}
 use Rattle.serial.proofs.FailureLaws.{all_tell}
+use Rattle.serial.proofs.HaltedLaws.{halted_refused, all_limited}
+use Rattle.serial.proofs.SendingLaws.{on_err_two}
 use Rattle.serial.proofs.FeedingLaws.{on_ok_two}
 use Rattle.serial.proofs.RunningLaws.{fed_input, set_here}
 use Rattle.serial.proofs.FaithfulLaws.{faithful_on, unstopped_before, on_ok_three}
 use Rattle.serial.proofs.feeding.pull_at.Goals as goal
 
 pub returns-clause-failures : goal.returns-clause-failures
-returns-clause-failures g c =
-    on_ok_two c.pull.result c.pull.ensures.failures c.pull.ensures.event
-    (λ goes event befores all. all_tell g.R.Source.failures befores c.args.inputs.now.items c.args.number c.index_mut.result.now c.pull.new.input c.index_mut.ensures.value goes all)
+returns-clause-failures g c befores all =
+    all_tell g.R.Source.failures befores c.args.inputs.now.items c.args.number c.index_mut.result.now c.pull.new.input c.index_mut.ensures.value c.pull.ensures.failures all
+
+pub returns-clause-limited : goal.returns-clause-limited
+returns-clause-limited g c =
+    let l = c.requires.unready.input in
+    let within : c.args.number < length c.args.inputs.now.items = omega (arith, l, ap (λ (p : PlanValue). length p.request.inputs) c.requires.plan, c.requires.fed.1.count) in
+    on_ok_weaker c.pull.result
+    (λ size limit all. all_limited limit c.args.inputs.now.items c.args.number c.index_mut.result.now c.pull.new.input c.index_mut.ensures.value within size all)
+    c.pull.ensures.limit
+
+pub returns-clause-halted : goal.returns-clause-halted
+returns-clause-halted g c =
+    let h = c.args.mux.now in
+    let i = c.args.number in
+    let l = c.requires.unready.input in
+    let within : i < length c.args.inputs.now.items = omega (arith, l, ap (λ (p : PlanValue). length p.request.inputs) c.requires.plan, c.requires.fed.1.count) in
+    let W : PlanValue → Type 0 = λ p. is_ready p i h.events ≡ false in
+    let waits = subst W c.requires.plan c.requires.unready.unready in
+    on_err_two c.pull.result c.pull.ensures.refused c.pull.ensures.reading
+    (λ memory unstopped limit starts fed limited faithful.
+    halted_refused g.R.Source.remaining limit c.args.plan.now h.events i starts c.args.inputs.now.items c.index_mut.result.now c.pull.new.input c.index_mut.ensures.value within waits unstopped memory fed limited faithful)
 
 pub returns-clause-fed : goal.returns-clause-fed
 returns-clause-fed g c =

@@ -3,27 +3,27 @@ use Rattle.std.proofs.lemmas.List.{length-map}
 use Rattle.std.specs.Io.KnownBytes.{Appends}
 use Rattle.plan.specs.Build.{PlanValue}
 use Rattle.mux.specs.History.{Run, emitted}
-use Rattle.mux.specs.Lawful.{IsLawfulRun}
 use Rattle.serial.specs.Written.{SendsBeginning}
 use Rattle.serial.specs.Sending.{bytes_of}
 use Rattle.serial.specs.Running.{IsOver}
 use Rattle.serial.specs.declared.serial_input.SerialInput.{SerialInput}
 use Rattle.serial.proofs.SendingLaws.{on_err_always}
-use Rattle.serial.proofs.OutcomeLaws.{has_run, has_begun_nothing, has_begun_all, nothing_sent, failures_told}
+use Rattle.serial.proofs.HaltedLaws.{halted_running}
+use Rattle.serial.proofs.OutcomeLaws.{has_run, has_begun_nothing, has_begun, all_begun, nothing_sent, failures_told}
 use Rattle.serial.proofs.run.run_to.Goals as goal
 
 pub finish-requires-clause-inputs : goal.finish-requires-clause-inputs
 finish-requires-clause-inputs g c =
     let run : Run = record { plan = c.args.plan; limit = c.args.slots } in
     let starts = map g.R.Source.remaining c.args.readers.items in
-    let is = c.in_ok-driven.ensures.runs run starts c.in_ok-run.ensures.running in
+    let is = c.in_ok-driven.ensures.runs run c.args.limit starts c.in_ok-run.ensures.running in
     is.fed.count ∙ ap (λ (v : Run). length v.plan.request.inputs) (sym is.run_is)
 
 pub finish-requires-clause-plan : goal.finish-requires-clause-plan
 finish-requires-clause-plan g c =
     let run : Run = record { plan = c.args.plan; limit = c.args.slots } in
     let starts = map g.R.Source.remaining c.args.readers.items in
-    let is = c.in_ok-driven.ensures.runs run starts c.in_ok-run.ensures.running in
+    let is = c.in_ok-driven.ensures.runs run c.args.limit starts c.in_ok-run.ensures.running in
     is.plan_is ∙ ap (λ (v : Run). v.plan) (sym is.run_is)
 
 pub returns-clause-runs : goal.returns-clause-runs
@@ -41,7 +41,7 @@ returns-clause-runs g c =
     let written = subst A opened.running.plan_is (driven.written before (nothing_sent old.plan old.mux.events before old.output.writer opened.new opened.waiting)) in
     let told = c.in_ok-finish.ensures in (
       r.mux.events,
-      has_run g.R.Source.remaining run starts r before after c.in_ok-finish.field-0.0 c.in_ok-finish.field-0.1.items c.requires.slots (driven.runs run starts opened.running)
+      has_run g.R.Source.remaining run c.args.limit starts r before after c.in_ok-finish.field-0.0 c.in_ok-finish.field-0.1.items c.requires.slots (driven.runs run c.args.limit starts opened.running)
           (subst O opened.running.run_is driven.over) c.slots.ensures.sound written told.inputs told.streams told.counts told.faults,
     )
 
@@ -49,7 +49,7 @@ pub returns-clause-readers : goal.returns-clause-readers
 returns-clause-readers g c =
     let run : Run = record { plan = c.args.plan; limit = c.args.slots } in
     let starts = map g.R.Source.remaining c.args.readers.items in
-    let is = c.in_ok-driven.ensures.runs run starts c.in_ok-run.ensures.running in
+    let is = c.in_ok-driven.ensures.runs run c.args.limit starts c.in_ok-run.ensures.running in
     let inputs = c.drive-driven.new.self.inputs.items in
     let source : SerialInput g.row.R.Denot → g.row.R.Denot = λ x. x.reader.stream.source in
     omega (arith, ap length c.in_ok-finish.ensures.inputs.sources_are, length-map inputs source, is.fed.count, c.requires.readers)
@@ -59,12 +59,13 @@ returns-clause-read_failed g c =
     let r = c.drive-driven.new.self in
     let failures = g.R.Source.failures in
     failures_told failures r.mux.run.plan r.mux.events r.inputs.items c.in_ok-finish.field-0.0.inputs.items c.args.readers.items c.in_ok-finish.field-0.1.items
-    (c.in_ok-driven.ensures.failures_told (map failures c.args.readers.items) c.in_ok-run.ensures.failures) c.in_ok-finish.ensures.inputs
+    (c.drive-driven.ensures.failures_told (map failures c.args.readers.items) c.in_ok-run.ensures.failures) c.in_ok-finish.ensures.inputs
 
 pub returns-in_err-run-clause-begins : goal.returns-in_err-run-clause-begins
 returns-in_err-run-clause-begins g c =
     let run : Run = record { plan = c.args.plan; limit = c.args.slots } in
-    on_err_always c.from_residual.result ([], has_begun_nothing run (map g.R.Source.remaining c.args.readers.items) (g.W.Sink.contents c.args.sink.now))
+    on_err_always c.from_residual.result
+    ([], has_begun_nothing g.R.Source.failures run c.args.limit (map g.R.Source.remaining c.args.readers.items) c.args.readers.items (g.W.Sink.contents c.args.sink.now) c.known.ensures c.requires.slots)
 
 pub returns-in_err-driven-clause-begins : goal.returns-in_err-driven-clause-begins
 returns-in_err-driven-clause-begins g c =
@@ -75,15 +76,14 @@ returns-in_err-driven-clause-begins g c =
     let r = c.drive-driven.new.self in
     let before = g.W.Sink.contents c.args.sink.now in
     let after = g.W.Sink.contents c.drive-driven.new.sink in
-    let L : Run → Type 0 = λ v. IsLawfulRun v r.mux.events in
+    let failures = g.R.Source.failures in
     let S : PlanValue → Type 0 = λ p. SendsBeginning before after (bytes_of (emitted p r.mux.events)) in
     on_err_always c.from_residual-in_err-driven.result (
       r.mux.events,
-      record {
-        lawful = subst L (c.drive-driven.ensures.run ∙ opened.running.run_is) c.slots.ensures.sound.run;
-        begun = c.in_err-driven.ensures.begun run starts opened.running;
-        written = subst S opened.running.plan_is (c.in_err-driven.ensures.sent_begun before (nothing_sent old.plan old.mux.events before old.output.writer opened.new opened.waiting));
-      },
+      has_begun failures run c.args.limit starts c.args.readers.items r before after c.requires.readers (c.drive-driven.ensures.run ∙ opened.running.run_is) c.slots.ensures.sound
+          (c.in_err-driven.ensures.halted run c.args.limit starts opened.running)
+          (c.drive-driven.ensures.failures_told (map failures c.args.readers.items) opened.failures)
+          (subst S opened.running.plan_is (c.in_err-driven.ensures.sent_begun before (nothing_sent old.plan old.mux.events before old.output.writer opened.new opened.waiting))),
     )
 
 pub returns-in_err-finish-clause-begins : goal.returns-in_err-finish-clause-begins
@@ -96,7 +96,12 @@ returns-in_err-finish-clause-begins g c =
     let r = c.drive-driven.new.self in
     let before = g.W.Sink.contents c.args.sink.now in
     let after = g.W.Sink.contents c.drive-driven.new.sink in
+    let failures = g.R.Source.failures in
     let A : PlanValue → Type 0 = λ p. Appends before after (bytes_of (emitted p r.mux.events)) in
     let written = subst A opened.running.plan_is (driven.written before (nothing_sent old.plan old.mux.events before old.output.writer opened.new opened.waiting)) in
-    on_err_always c.from_residual-in_err-finish.result
-    (r.mux.events, has_begun_all g.R.Source.remaining run starts r before after (driven.runs run starts opened.running) c.slots.ensures.sound written)
+    let is = driven.runs run c.args.limit starts opened.running in
+    on_err_always c.from_residual-in_err-finish.result (
+      r.mux.events,
+      has_begun failures run c.args.limit starts c.args.readers.items r before after c.requires.readers is.run_is c.slots.ensures.sound (halted_running g.R.Source.remaining run c.args.limit starts r is)
+          (c.drive-driven.ensures.failures_told (map failures c.args.readers.items) opened.failures) (all_begun before after (bytes_of (emitted run.plan r.mux.events)) written),
+    )

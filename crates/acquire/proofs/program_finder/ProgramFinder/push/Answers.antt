@@ -32,7 +32,7 @@ returns-in-Some c programs packets sought =
     let rows = flat_map (λ (p : PatValue). p.rows) c.as_slice.result.now in
     let missing : is_some (pat_found packets) ≡ false =
     ap is_some (rows_found c.args.self.now.pat.table packets sought.sought.taken) ∙ some_mapped (flat_map (λ (p : PatValue). p.rows)) c.args.self.now.pat.table.found ∙ sym c.if-is_found.ensures in
-    let now = c.in_ok-push.ensures packets sought.sought in
+    let now = c.in_ok-push.ensures 0 packets sought.sought in
     let found : pat_found (packets ++ c.args.packet.now ∷ []) ≡ Some rows =
     rows_found c.push.new.self.table (packets ++ c.args.packet.now ∷ []) now.taken
     ∙ ap (option_map (flat_map (λ (p : PatValue). p.rows))) (sym c.in-Some.ensures)

@@ -1,5 +1,5 @@
-use Rattle.std.proofs.Common.{◌≡◌, sym, ◌∙◌, true, false, Some, None, refl}
-use Rattle.std.specs.Prelude.{Option, is_some}
+use Rattle.std.proofs.Common.{◌≡◌, sym, subst, ◌∙◌, true, false, Some, None, refl}
+use Rattle.std.specs.Prelude.{Option, is_some, is_none, IsSome}
 use Rattle.reading.proofs.PacketLaws.{reads_told, reads_reads, reads_nothing}
 use Rattle.reading.proofs.FailureLaws.{goes_kept, goes_goes}
 use Rattle.reading.proofs.packet_reader.PacketReader.search.Goals as goal
@@ -7,6 +7,10 @@ use Rattle.reading.proofs.packet_reader.PacketReader.search.Goals as goal
 none_of : {X : Type 0} (o : Option X) → false ≡ is_some o → o ≡ None
 none_of None h = refl
 none_of (Some x) h = let bad : false ≡ true = h in cc
+
+some_of : {X : Type 0} (o : Option X) → false ≡ is_none o → IsSome o
+some_of None h = let bad : false ≡ true = h in cc
+some_of (Some x) h = refl
 
 pub loop-self-init : goal.loop-self-init
 loop-self-init g c = record {
@@ -50,6 +54,11 @@ returns-in-Err-clause-goes g c =
     let F = g.R.Source.failures in
     let goes = goes_goes F c.args.self.now c.loop-self.self c.find_told.new.self c.loop-self.invariant.goes (goes_kept F c.loop-self.self c.find_told.new.self told.source told.framer told.stopped told.origin told.limit) in
     goes_goes F c.args.self.now c.find_told.new.self c.read.new.self goes c.read.ensures.goes
+
+pub returns-in-Err-clause-reading : goal.returns-in-Err-clause-reading
+returns-in-Err-clause-reading g c =
+    let told = c.find_told.ensures in
+    c.loop-self.invariant.goes.reading (subst IsSome told.framer (some_of c.find_told.new.self.stream.items.framer (sym c.if-is_over.false ∙ c.is_over.ensures)))
 
 pub loop-self-preserved : goal.loop-self-preserved
 loop-self-preserved g c =

@@ -1,6 +1,6 @@
-use Rattle.std.proofs.Common.{◌≢◌, ◌++◌, ap, Err}
+use Rattle.std.proofs.Common.{◌≢◌, ◌++◌, ◌∙◌, ap, sym, refl, Err}
 use Rattle.reading.specs.declared.stop.Stop.TheVariants.{Memory, ReadFailed, TooMuch}
-use Rattle.reading.proofs.StreamLaws.{left_over, full_bytes, fed_passed}
+use Rattle.reading.proofs.StreamLaws.{left_over, full_bytes, fits_bytes, fed_passed}
 use Rattle.reading.proofs.stream_reader.StreamReader.feed.Goals as goal
 
 other : Memory ≢ TooMuch
@@ -22,9 +22,12 @@ returns-in-Err-TooMuch-clause-read g c = λ bytes stopped passed h.
     let items = c.args.self.now.items in
     let full = c.in-Err-TooMuch.ensures.too_much (ap Err c.in-Err-TooMuch.field-0-is) in
     left_over items c.feed.new.self passed bytes c.args.piece.now _ _ stopped TooMuch c.in-Err-TooMuch.ensures.err
-    (λ e. full_bytes items.limit items.framer (passed ++ items.ahead) bytes c.args.piece.now _ stopped h full) unfailed_long c.requires.open h
+    (λ e. full_bytes items.limit items.framer (passed ++ items.ahead) bytes c.args.piece.now _ stopped h full) (λ f. absurd (f refl)) unfailed_long c.requires.open h
 
 pub returns-in-Err-Memory-clause-read : goal.returns-in-Err-Memory-clause-read
 returns-in-Err-Memory-clause-read g c = λ bytes stopped passed h.
     let items = c.args.self.now.items in
-    left_over items c.feed.new.self passed bytes c.args.piece.now _ _ stopped Memory c.in-Err-Memory.ensures.err (λ e. absurd (other e)) unfailed c.requires.open h
+    left_over items c.feed.new.self passed bytes c.args.piece.now _ _ stopped Memory c.in-Err-Memory.ensures.err (λ e. absurd (other e))
+    (λ f. fits_bytes items.limit items.framer (passed ++ items.ahead) bytes c.args.piece.now _ stopped c.requires.open h
+    (λ full. let bad = sym (ap Err c.in-Err-Memory.field-0-is) ∙ c.in-Err-Memory.ensures.full full in cc))
+    unfailed c.requires.open h

@@ -1,6 +1,7 @@
 use Rattle.std.proofs.Common.{◌≢◌}
 use Rattle.reading.specs.declared.stop.Stop.TheVariants.{Memory, ReadFailed, TooMuch}
-use Rattle.reading.proofs.StreamLaws.{left_now, finished_passed}
+use Rattle.std.proofs.Common.{◌++◌}
+use Rattle.reading.proofs.StreamLaws.{left_now, not_much, finished_passed}
 use Rattle.reading.proofs.stream_reader.StreamReader.finish.Goals as goal
 
 other : Memory ≢ TooMuch
@@ -15,4 +16,6 @@ returns-in-Ok-clause-read g c = λ bytes stopped passed there h.
 
 pub returns-in-Err-clause-read : goal.returns-in-Err-clause-read
 returns-in-Err-clause-read g c = λ bytes stopped passed there h.
-    left_now c.args.self.now.items c.finish.new.self passed bytes _ stopped Memory c.in-Err.ensures.err other (λ e. absurd (unfailed e)) h
+    let items = c.args.self.now.items in
+    left_now items c.finish.new.self passed bytes _ stopped Memory c.in-Err.ensures.err other
+    (not_much items.limit items.framer (passed ++ items.ahead) bytes _ stopped c.requires.open h) (λ e. absurd (unfailed e)) h

@@ -3,7 +3,7 @@ use Rattle.std.proofs.lemmas.List.{append-nil}
 use Rattle.std.specs.Io.KnownBytes.{Consumes}
 use Rattle.reading.specs.StreamReading.{HasPassed, stopped_by}
 use Rattle.reading.proofs.KnownLaws.{keeps_consumes}
-use Rattle.reading.proofs.StreamLaws.{passed_elsewhere, left_now, all_passed}
+use Rattle.reading.proofs.StreamLaws.{passed_elsewhere, left_now, not_much, all_passed}
 use Rattle.reading.specs.declared.stop.Stop.TheVariants.{ReadFailed, TooMuch}
 use Rattle.reading.proofs.stream_reader.StreamReader.read.Goals as goal
 
@@ -39,7 +39,8 @@ returns-in-Err-clause-read g c = λ bytes stopped passed h.
     let R = g.R.Source.remaining in
     let now = passed_elsewhere s.items passed bytes _ (R c.read.new.self) stopped c.requires.open h in
     let all = all_passed s.items.limit s.items.framer passed s.items.ahead bytes _ stopped c.requires.ahead c.requires.open h in
-    let left = left_now s.items c.give_up.new.self passed bytes (R c.read.new.self) stopped ReadFailed c.give_up.ensures (λ e. cc) (λ e. all) now in (
+    let left = left_now s.items c.give_up.new.self passed bytes (R c.read.new.self) stopped ReadFailed c.give_up.ensures (λ e. cc)
+    (not_much s.items.limit s.items.framer (passed ++ s.items.ahead) bytes _ stopped c.requires.open h) (λ e. all) now in (
       [],
       keeps_consumes _ _ c.in-Err.ensures.bytes,
       subst (λ (v : List ℕ). HasPassed R (record s { source = c.read.new.self; items = c.give_up.new.self }) v (Some ReadFailed) passed) (sym (append-nil bytes)) left,

@@ -12,7 +12,7 @@ new-requires-clause-input g c =
     let p = c.args.plan.now in
     let i = c.args.number in
     let xs = c.inputs.result.now in
-    let within : i < length xs = omega (arith, c.requires, ap length c.inputs.ensures, length-map xs input_value) in
+    let within : i < length xs = omega (arith, c.requires.number, ap length c.inputs.ensures, length-map xs input_value) in
     let at = input_at p xs i x c.inputs.ensures (slice_get_read xs (length xs) i x refl within c.index-inputs-number.is) in
     let R : RequestValue → Type 0 = IsRequest in
     let request = subst R c.request.ensures.value c.rate.ensures.request in
@@ -24,10 +24,10 @@ returns g c =
     let p = c.args.plan.now in
     let i = c.args.number in
     let xs = c.inputs.result.now in
-    let within : i < length xs = omega (arith, c.requires, ap length c.inputs.ensures, length-map xs input_value) in
+    let within : i < length xs = omega (arith, c.requires.number, ap length c.inputs.ensures, length-map xs input_value) in
     let at = input_at p xs i x c.inputs.ensures (slice_get_read xs (length xs) i x refl within c.index-inputs-number.is) in
     let R : RequestValue → Type 0 = IsRequest in
     let request = subst R c.request.ensures.value c.rate.ensures.request in
-    opened_input g.R.Source.remaining g.R.Source.failures p i (input_value x) c.args.source (record { reader = c.new.result; is_closed = false }) at
+    opened_input g.R.Source.remaining g.R.Source.failures c.args.limit p i (input_value x) c.args.source (record { reader = c.new.result; is_closed = false }) at
     (all_at IsInput p.request.inputs i (input_value x) request.inputs at)
-    c.new.ensures.origin c.new.ensures.limit c.new.ensures.source c.new.ensures.report refl (c.new.ensures.read p) c.new.ensures.failures
+    c.new.ensures.origin c.requires.limit c.new.ensures.limit c.new.ensures.source c.new.ensures.report refl (c.new.ensures.read p) c.new.ensures.failures

@@ -5,12 +5,13 @@ use Rattle.mux.specs.History.{emitted}
 use Rattle.serial.specs.Written.{Sends, SendsBeginning}
 use Rattle.serial.specs.Sending.{bytes_of}
 use Rattle.serial.proofs.SendingLaws.{on_err_always, on_ok_always, on_err_weaker}
-use Rattle.serial.proofs.RunningLaws.{begun, runs_flushed, all_sent, part_sent}
+use Rattle.serial.proofs.HaltedLaws.{halted_running}
+use Rattle.serial.proofs.RunningLaws.{runs_flushed, all_sent, part_sent}
 use Rattle.serial.proofs.serial_run.SerialRun.drive.Goals as goal
 
-pub returns-in_err-step-clause-begun : goal.returns-in_err-step-clause-begun
-returns-in_err-step-clause-begun g c =
-    on_err_always c.from_residual.result (λ run starts is. c.in_err-step.ensures.begun run starts (c.loop.invariant.runs run starts is))
+pub returns-in_err-step-clause-halted : goal.returns-in_err-step-clause-halted
+returns-in_err-step-clause-halted g c =
+    on_err_always c.from_residual.result (λ run limit starts is. c.in_err-step.ensures.halted run limit starts (c.loop.invariant.runs run limit starts is))
 
 pub returns-in_err-step-clause-sent_begun : goal.returns-in_err-step-clause-sent_begun
 returns-in_err-step-clause-sent_begun g c =
@@ -26,24 +27,24 @@ loop-preserved g c =
     let plan = c.loop.invariant.plan in
     let goes = c.loop.invariant.goes in
     record {
-      goes = (goes.0, goes.1, c.in_ok-step.ensures.runs goes.0 goes.1 goes.2);
-      runs = λ run starts is. c.in_ok-step.ensures.runs run starts (c.loop.invariant.runs run starts is);
+      goes = (goes.0, goes.1, goes.2, c.in_ok-step.ensures.runs goes.0 goes.1 goes.2 goes.3);
+      runs = λ run limit starts is. c.in_ok-step.ensures.runs run limit starts (c.loop.invariant.runs run limit starts is);
       written = λ before first.
           let P : PlanValue → Type 0 = λ p. Sends before (g.W.Sink.contents c.loop.sink) (bytes_of (emitted p c.loop.self.mux.events)) c.loop.self.output.writer in
           let Q : PlanValue → Type 0 = λ p. Sends before (g.W.Sink.contents c.step.new.sink) (bytes_of (emitted p c.step.new.self.mux.events)) c.step.new.self.output.writer in
           subst Q plan (c.in_ok-step.ensures.written before (subst P (sym plan) (c.loop.invariant.written before first)));
       run = c.step.ensures.run ∙ c.loop.invariant.run;
       plan = c.step.ensures.plan ∙ plan;
-      failures_told = λ befores all. c.in_ok-step.ensures.failures_told befores (c.loop.invariant.failures_told befores all);
+      failures_told = λ befores all. c.step.ensures.failures_told befores (c.loop.invariant.failures_told befores all);
       failures = c.in_ok-step.ensures.failures ∙ c.loop.invariant.failures;
     }
 
 pub returns-clause-runs : goal.returns-clause-runs
 returns-clause-runs g c =
     on_ok_always c.flush.result
-    (λ run starts is.
-    runs_flushed g.R.Source.remaining run starts c.step.new.self c.flush.new.self
-    (c.in_ok-step.ensures.runs run starts (c.loop.invariant.runs run starts is)) c.flush.ensures.stays)
+    (λ run limit starts is.
+    runs_flushed g.R.Source.remaining run limit starts c.step.new.self c.flush.new.self
+    (c.in_ok-step.ensures.runs run limit starts (c.loop.invariant.runs run limit starts is)) c.flush.ensures.stays)
 
 pub returns-clause-written : goal.returns-clause-written
 returns-clause-written g c =
@@ -56,12 +57,11 @@ returns-clause-written g c =
     (subst Q plan (c.in_ok-step.ensures.written before (subst P (sym plan) (c.loop.invariant.written before first)))) appended)
     c.flush.ensures.ok
 
-pub returns-clause-begun : goal.returns-clause-begun
-returns-clause-begun g c =
+pub returns-clause-halted : goal.returns-clause-halted
+returns-clause-halted g c =
     on_err_always c.flush.result
-    (λ run starts is.
-    let now = c.in_ok-step.ensures.runs run starts (c.loop.invariant.runs run starts is) in
-    begun g.R.Source.remaining run.plan c.step.new.self.mux.events starts c.step.new.self.inputs.items now.fed)
+    (λ run limit starts is.
+    halted_running g.R.Source.remaining run limit starts c.step.new.self (c.in_ok-step.ensures.runs run limit starts (c.loop.invariant.runs run limit starts is)))
 
 pub returns-clause-sent_begun : goal.returns-clause-sent_begun
 returns-clause-sent_begun g c =
@@ -75,5 +75,7 @@ returns-clause-sent_begun g c =
     c.flush.ensures.begun
 
 pub returns-clause-failures_told : goal.returns-clause-failures_told
-returns-clause-failures_told g c =
-    on_ok_always c.flush.result (λ befores all. c.in_ok-step.ensures.failures_told befores (c.loop.invariant.failures_told befores all))
+returns-clause-failures_told g c befores all = c.step.ensures.failures_told befores (c.loop.invariant.failures_told befores all)
+
+pub returns-in_err-step-clause-failures_told : goal.returns-in_err-step-clause-failures_told
+returns-in_err-step-clause-failures_told g c befores all = c.step.ensures.failures_told befores (c.loop.invariant.failures_told befores all)

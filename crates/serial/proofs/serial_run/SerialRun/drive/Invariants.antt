@@ -8,8 +8,8 @@ use Rattle.serial.proofs.serial_run.SerialRun.drive.Given as goal
 
 abbrev pub invariant-loop : goal.invariant-loop
 invariant-loop g l = record {
-  goes : (run : Run) × (starts : List (Option (List ℕ))) × IsRunning g.R.Source.remaining run starts l.self;
-  runs : (run : Run) (starts : List (Option (List ℕ))) → IsRunning g.R.Source.remaining run starts l.fn.self → IsRunning g.R.Source.remaining run starts l.self;
+  goes : (run : Run) × (limit : ℕ) × (starts : List (Option (List ℕ))) × IsRunning g.R.Source.remaining run limit starts l.self;
+  runs : (run : Run) (limit : ℕ) (starts : List (Option (List ℕ))) → IsRunning g.R.Source.remaining run limit starts l.fn.self → IsRunning g.R.Source.remaining run limit starts l.self;
   written : (before : Option (List ℕ)) → Sends before (g.W.Sink.contents l.fn.sink) (bytes_of (emitted l.fn.self.plan l.fn.self.mux.events)) l.fn.self.output.writer
       → Sends before (g.W.Sink.contents l.sink) (bytes_of (emitted l.fn.self.plan l.self.mux.events)) l.self.output.writer;
   run : l.self.mux.run ≡ l.fn.self.mux.run;

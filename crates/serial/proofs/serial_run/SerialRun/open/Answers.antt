@@ -14,7 +14,7 @@ returns-clause-running g c =
     let P : ℕ → Type 0 = λ n. HasAnalysed c.in_ok-output.output n c.watch.result [] in
     let Q : ℕ → Type 0 = λ n. HasAnalysed c.in_ok-output.output p.request.rate n [] in
     let watch = c.watch.ensures.value ∙ ap (λ (v : RequestValue). v.watch) c.request.ensures.value in
-    runs_opened g.R.Source.remaining g.R.Source.failures p c.args.slots c.args.readers.items _ c.plan.view_is mux c.requires.readers c.in_ok-inputs.ensures piece
+    runs_opened g.R.Source.remaining g.R.Source.failures c.args.limit p c.args.slots c.args.readers.items _ c.plan.view_is mux c.requires.readers c.in_ok-inputs.ensures piece
     (subst Q watch (subst P c.rate.ensures c.in_ok-output.ensures.analysed))
 
 pub returns-clause-new : goal.returns-clause-new
@@ -25,4 +25,4 @@ returns-clause-waiting g c = c.in_ok-output.ensures.waiting
 
 pub returns-clause-failures : goal.returns-clause-failures
 returns-clause-failures g c =
-    told_of_opened g.R.Source.remaining g.R.Source.failures c.args.plan c.args.readers.items c.in_ok-inputs.inputs.items c.in_ok-inputs.ensures
+    told_of_opened g.R.Source.remaining g.R.Source.failures c.args.limit c.args.plan c.args.readers.items c.in_ok-inputs.inputs.items c.in_ok-inputs.ensures

@@ -4,39 +4,43 @@ use Rattle.std.specs.Vec.{with_items}
 use Rattle.mux.specs.History.{Run, History, slots}
 use Rattle.mux.proofs.Emitted.{last_sent}
 use Rattle.mux.proofs.Heads.{some_of, lent_last}
-use Rattle.serial.specs.Running.{AreBegun}
+use Rattle.plan.specs.Build.{PlanValue}
+use Rattle.mux.specs.Faithful.{IsFaithful}
+use Rattle.serial.specs.Feeding.{AreKnown, AreUnstopped, packet_lists}
+use Rattle.serial.specs.Running.{AreFed, AreHalted}
+use Rattle.serial.proofs.HaltedLaws.{halted_fed, halted_running}
 use Rattle.serial.proofs.SendingLaws.{on_err_always}
-use Rattle.serial.proofs.RunningLaws.{runs_sent, fewer_sent, written_sent, runs_pulled, fewer_pulled, begun, begun_sent, sent_begun}
+use Rattle.serial.proofs.RunningLaws.{runs_sent, fewer_sent, written_sent, runs_pulled, fewer_pulled, fed_sent, faithful_sent, sent_begun}
 use Rattle.serial.proofs.serial_run.SerialRun.step.Goals as goal
 
 pub unwrap-packet-requires : goal.unwrap-packet-requires
 unwrap-packet-requires g c = some_of c.last.result _ (c.last.ensures ∙ last_sent c.args.self.now.mux c.send_next.new.self c.in-Sent.ensures.answer)
 
 pub returns-in_ok-put-in-Sent-clause-runs : goal.returns-in_ok-put-in-Sent-clause-runs
-returns-in_ok-put-in-Sent-clause-runs g c run starts is =
-    runs_sent g.R.Source.remaining run starts c.args.self.now c.send_next.new.self c.put.new.self c.unwrap-packet.result.now is (lent_last c.args.self.now.mux c.send_next.new.self c.last.result c.unwrap-packet.result c.in-Sent.ensures.answer c.unwrap-packet.ensures c.last.ensures) c.send_next.ensures.run c.in_ok-put-in-Sent.ensures.analysed
+returns-in_ok-put-in-Sent-clause-runs g c run limit starts is =
+    runs_sent g.R.Source.remaining run limit starts c.args.self.now c.send_next.new.self c.put.new.self c.unwrap-packet.result.now is (lent_last c.args.self.now.mux c.send_next.new.self c.last.result c.unwrap-packet.result c.in-Sent.ensures.answer c.unwrap-packet.ensures c.last.ensures) c.send_next.ensures.run c.in_ok-put-in-Sent.ensures.analysed
 
 pub returns-in_ok-put-in-Sent-clause-fewer : goal.returns-in_ok-put-in-Sent-clause-fewer
 returns-in_ok-put-in-Sent-clause-fewer g c e = fewer_sent c.args.self.now.mux c.send_next.new.self c.unwrap-packet.result.now (lent_last c.args.self.now.mux c.send_next.new.self c.last.result c.unwrap-packet.result c.in-Sent.ensures.answer c.unwrap-packet.ensures c.last.ensures)
 
 pub returns-in_ok-put-in-Sent-clause-written : goal.returns-in_ok-put-in-Sent-clause-written
 returns-in_ok-put-in-Sent-clause-written g c before first =
-    let is = c.requires.2 in
+    let is = c.requires.3 in
     let plan : c.args.self.now.mux.run.plan ≡ c.args.self.now.plan = ap (λ (r : Run). r.plan) is.run_is ∙ sym is.plan_is in
     written_sent c.args.self.now.plan c.args.self.now.mux c.send_next.new.self c.unwrap-packet.result.now before (g.W.Sink.contents c.args.sink.now) (g.W.Sink.contents c.put.new.sink)
     c.args.self.now.output.writer c.put.new.self.writer plan (lent_last c.args.self.now.mux c.send_next.new.self c.last.result c.unwrap-packet.result c.in-Sent.ensures.answer c.unwrap-packet.ensures c.last.ensures) first c.in_ok-put-in-Sent.ensures.written
 
 pub returns-in_ok-pull_at-in-NotReady-clause-runs :
     goal.returns-in_ok-pull_at-in-NotReady-clause-runs
-returns-in_ok-pull_at-in-NotReady-clause-runs g c run starts is =
+returns-in_ok-pull_at-in-NotReady-clause-runs g c run limit starts is =
     let old = c.args.self.now in
     let length_is : old.piece.len ≡ length old.piece.items = sym c.as_mut_slice-piece.ensures.len ∙ ap length c.as_mut_slice-piece.ensures.value in
     let kept = length_refill old.piece.len old.piece.items c.pull_at.new.piece length_is in
     let some = is.piece in
-    runs_pulled g.R.Source.remaining run starts old
+    runs_pulled g.R.Source.remaining run limit starts old
     (record old { mux = c.pull_at.new.mux; inputs = c.pull_at.new.inputs; piece = with_items old.piece c.pull_at.new.piece })
     c.send_next.new.self c.in-NotReady.input is c.in-NotReady.ensures.answer.0 refl (omega (arith, some, length_is, kept)) refl
-    c.in_ok-pull_at-in-NotReady.ensures.event c.in_ok-pull_at-in-NotReady.ensures.fed c.in_ok-pull_at-in-NotReady.ensures.going
+    c.in_ok-pull_at-in-NotReady.ensures.event c.in_ok-pull_at-in-NotReady.ensures.fed c.in_ok-pull_at-in-NotReady.ensures.limited c.in_ok-pull_at-in-NotReady.ensures.going
     c.in_ok-pull_at-in-NotReady.ensures.faithful
 
 pub returns-in_ok-pull_at-in-NotReady-clause-fewer :
@@ -45,35 +49,48 @@ returns-in_ok-pull_at-in-NotReady-clause-fewer g c e =
     fewer_pulled c.args.self.now.mux c.send_next.new.self c.pull_at.new.mux c.in-NotReady.input c.in-NotReady.ensures.answer.0 c.in-NotReady.ensures.answer.2.input
     c.in_ok-pull_at-in-NotReady.ensures.event c.in_ok-pull_at-in-NotReady.ensures.fewer
 
-pub returns-in_err-put-in-Sent-clause-begun : goal.returns-in_err-put-in-Sent-clause-begun
-returns-in_err-put-in-Sent-clause-begun g c =
+pub returns-in_err-put-in-Sent-clause-halted : goal.returns-in_err-put-in-Sent-clause-halted
+returns-in_err-put-in-Sent-clause-halted g c =
     let old = c.args.self.now in
+    let packet = c.unwrap-packet.result.now in
+    let answer = lent_last old.mux c.send_next.new.self c.last.result c.unwrap-packet.result c.in-Sent.ensures.answer c.unwrap-packet.ensures c.last.ensures in
     on_err_always c.from_residual.result
-    (λ run starts is. begun_sent run.plan old.mux c.send_next.new.self c.unwrap-packet.result.now starts (lent_last c.args.self.now.mux c.send_next.new.self c.last.result c.unwrap-packet.result c.in-Sent.ensures.answer c.unwrap-packet.ensures c.last.ensures)
-    (begun g.R.Source.remaining run.plan old.mux.events starts old.inputs.items is.fed))
+    (λ run limit starts is.
+    halted_fed g.R.Source.remaining limit run.plan c.send_next.new.self.events starts old.inputs.items
+    (fed_sent g.R.Source.remaining run.plan old.mux c.send_next.new.self packet starts old.inputs.items answer is.fed) is.limited
+    (λ known free. faithful_sent run.plan old.mux c.send_next.new.self packet starts answer (is.faithful known free)))
 
 pub returns-in_err-put-in-Sent-clause-sent_begun :
     goal.returns-in_err-put-in-Sent-clause-sent_begun
 returns-in_err-put-in-Sent-clause-sent_begun g c =
     let old = c.args.self.now in
-    let is = c.requires.2 in
+    let is = c.requires.3 in
     let plan : old.mux.run.plan ≡ old.plan = ap (λ (r : Run). r.plan) is.run_is ∙ sym is.plan_is in
     on_err_always c.from_residual.result
     (λ before first. sent_begun old.plan old.mux c.send_next.new.self c.unwrap-packet.result.now before (g.W.Sink.contents c.args.sink.now) (g.W.Sink.contents c.put.new.sink) old.output.writer plan
     (lent_last c.args.self.now.mux c.send_next.new.self c.last.result c.unwrap-packet.result c.in-Sent.ensures.answer c.unwrap-packet.ensures c.last.ensures) first c.in_err-put-in-Sent.ensures.begun)
 
-pub returns-in_err-pull_at-in-NotReady-clause-begun :
-    goal.returns-in_err-pull_at-in-NotReady-clause-begun
-returns-in_err-pull_at-in-NotReady-clause-begun g c =
+pub returns-in_err-pull_at-in-NotReady-clause-halted :
+    goal.returns-in_err-pull_at-in-NotReady-clause-halted
+returns-in_err-pull_at-in-NotReady-clause-halted g c =
     let old = c.args.self.now in
+    let between = c.send_next.new.self in
+    let now = c.pull_at.new in
     on_err_always c.from_residual-in_err-pull_at-in-NotReady.result
-    (λ run starts is.
-    let P : History → Type 0 = λ v. AreBegun run.plan v.events starts in
-    subst P (sym (c.in_err-pull_at-in-NotReady.ensures.err ∙ c.in-NotReady.ensures.answer.0))
-    (begun g.R.Source.remaining run.plan old.mux.events starts old.inputs.items is.fed))
+    (λ run limit starts is.
+    let plan : old.plan ≡ run.plan = is.plan_is in
+    let same : between ≡ old.mux = c.in-NotReady.ensures.answer.0 in
+    let F : History → Type 0 = λ v. AreFed g.R.Source.remaining old.plan v.events starts old.inputs.items in
+    let G : PlanValue → Type 0 = λ p. AreFed g.R.Source.remaining p old.mux.events starts old.inputs.items in
+    let T : PlanValue → Type 0 = λ p. AreKnown starts → AreUnstopped old.inputs.items → IsFaithful (packet_lists p starts) old.mux.events in
+    let U : History → Type 0 = λ v. AreKnown starts → AreUnstopped old.inputs.items → IsFaithful (packet_lists old.plan starts) v.events in
+    let A : PlanValue → Type 0 = λ p. AreHalted limit p between.events starts now.inputs.items in
+    let B : History → Type 0 = λ v. AreHalted limit run.plan v.events starts now.inputs.items in
+    let halted = c.in_err-pull_at-in-NotReady.ensures.halted limit starts (subst F (sym same) (subst G (sym plan) is.fed)) is.limited (subst U (sym same) (subst T (sym plan) is.faithful)) in
+    subst B (sym c.in_err-pull_at-in-NotReady.ensures.err) (subst A plan halted))
 
-pub returns-in-Memory-clause-begun : goal.returns-in-Memory-clause-begun
-returns-in-Memory-clause-begun g c run starts is =
+pub returns-in-Memory-clause-halted : goal.returns-in-Memory-clause-halted
+returns-in-Memory-clause-halted g c run limit starts is =
     let old = c.args.self.now in
-    let P : History → Type 0 = λ v. AreBegun run.plan v.events starts in
-    subst P (sym c.in-Memory.ensures.answer.0) (begun g.R.Source.remaining run.plan old.mux.events starts old.inputs.items is.fed)
+    let P : History → Type 0 = λ v. AreHalted limit run.plan v.events starts old.inputs.items in
+    subst P (sym c.in-Memory.ensures.answer.0) (halted_running g.R.Source.remaining run limit starts old is)

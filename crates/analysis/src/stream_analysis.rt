@@ -1,0 +1,103 @@
+//! The analysis of a stream's file.
+
+ghost use Rattle.std.specs.Prelude.{◌≡◌, ◌≤◌, length, IfSome};
+
+use analyse::{Analyser, Fault};
+use messages::CommandFault;
+use reading::Source;
+use std::alloc::{AllocError, Global};
+use std::io::Write;
+
+/// The length of a slot, in bytes.
+const SLOT: usize = 188;
+/// How many bytes are analysed at once: whole slots.
+const PIECE: usize = 348 * SLOT;
+
+/// Reads until the piece is full or the source ends, and answers how many bytes; none where a read fails.
+fn fill<R: Source>(source: &mut R, piece: &mut [u8]) -> Option<usize>
+    ensures room { length piece.new ≡ length piece.old }
+    ensures count { IfSome result (λ count. count ≤ length piece.new) }
+{
+    let mut filled = 0;
+    while filled < piece.len() {
+        match source.read(&mut piece[filled..]) {
+            Err(_) => return None,
+            Ok(0) => return Some(filled),
+            Ok(count) => filled += count,
+        }
+    }
+    Some(filled)
+}
+
+/// The analysis of a stream that is read in pieces, and printed as it goes.
+#[derive(Drop)]
+pub struct StreamAnalysis {
+    analyser: Analyser,
+    /// The faults that were not printed yet.
+    found: Vec<Fault>,
+    slots: u64,
+    faults: u64,
+}
+
+impl StreamAnalysis {
+    /// That of a stream of this rate, in bits a second, of which nothing was read. Each PID that a PMT refers to has to come
+    /// within `period` slots.
+    pub fn new(alloc: Global, rate: u64, period: u64) -> StreamAnalysis {
+        StreamAnalysis {
+            analyser: Analyser::new(alloc, rate, period),
+            found: Vec::new(alloc),
+            slots: 0,
+            faults: 0,
+        }
+    }
+
+    /// Reads the stream to its end, and prints a line for each fault and one for the stream. The answer is the number of
+    /// faults, or none where a read fails, and where 2^64 - 1 pieces are no end.
+    pub fn read<R: Source, O: Write>(
+        &mut self,
+        alloc: Global,
+        source: &mut R,
+        out: &mut O,
+    ) -> Result<Option<u64>, CommandFault> {
+        let mut piece = vec![in alloc; 0; PIECE]?;
+        for _ in 0..u64::MAX {
+            let Some(count) = fill(source, piece.as_mut_slice()) else {
+                return Ok(None);
+            };
+            let (slots, rest) = piece[..count].as_chunks::<SLOT>();
+            self.analyse(slots)?;
+            self.print_faults(out)?;
+            if count < PIECE {
+                self.print_end(rest.len(), out)?;
+                return Ok(Some(self.faults));
+            }
+        }
+        Ok(None)
+    }
+
+    /// Analyses the next slots.
+    fn analyse(&mut self, slots: &[[u8; SLOT]]) -> Result<(), AllocError> {
+        for slot in slots {
+            self.analyser.push(slot, &mut self.found)?;
+            self.slots = self.slots.saturating_add(1);
+        }
+        Ok(())
+    }
+
+    /// Prints a line for each fault that was told.
+    fn print_faults<O: Write>(&mut self, out: &mut O) -> Result<(), CommandFault> {
+        for fault in &self.found {
+            writeln!(out, "{fault}")?;
+        }
+        self.faults = self.faults.saturating_add(self.found.len() as u64);
+        self.found.clear();
+        Ok(())
+    }
+
+    /// Prints the line of the stream, which has so many bytes behind its last whole slot.
+    fn print_end<O: Write>(&self, rest: usize, out: &mut O) -> Result<(), CommandFault> {
+        let (slots, faults) = (self.slots, self.faults);
+        writeln!(out, "slots {slots} faults {faults} rest {rest}")?;
+        Ok(())
+    }
+}

@@ -1,0 +1,7 @@
+//! Runs by hand over the example plan, with numbers worked out on paper.
+
+mod helpers;
+mod inputs;
+mod memory;
+mod table_slots;
+mod transport_buffers;

@@ -1,0 +1,50 @@
+-- Packets and end marks of lists of arrivals.
+use Rattle.std.proofs.Common.{◌≡◌, ℕ, ◌+◌, Bool, true, false, List, [], ◌∷◌, ◌++◌, length, refl, ap, sym, ◌∙◌, arith}
+use Rattle.tspkt.specs.declared.stamped.Stamped.{Stamped}
+use Rattle.port.specs.declared.arrival.Arrival.{Arrival}
+use Rattle.port.specs.declared.arrival.Arrival.TheVariants.{Packet, End}
+use Rattle.port.specs.Arrivals.{packets_of, marks_of, mark_count}
+
+pub packets_of_append : (xs ys : List Arrival) → packets_of (xs ++ ys) ≡ packets_of xs ++ packets_of ys
+packets_of_append [] ys = refl
+packets_of_append (Packet x ∷ xs) ys = ap (λ zs. x ∷ zs) (packets_of_append xs ys)
+packets_of_append (End ∷ xs) ys = packets_of_append xs ys
+
+pub marks_of_append : (xs ys : List Arrival) → marks_of (xs ++ ys) ≡ marks_of xs + marks_of ys
+marks_of_append [] ys = omega arith
+marks_of_append (Packet x ∷ xs) ys = marks_of_append xs ys
+marks_of_append (End ∷ xs) ys = omega (arith, marks_of_append xs ys)
+
+-- each arrival is a packet or a mark
+pub length_arrivals : (xs : List Arrival) → length xs ≡ length (packets_of xs) + marks_of xs
+length_arrivals [] = refl
+length_arrivals (Packet x ∷ xs) = omega (arith, length_arrivals xs)
+length_arrivals (End ∷ xs) = omega (arith, length_arrivals xs)
+
+pub packets_of_snoc : (xs : List Arrival) (x : Stamped) → packets_of (xs ++ Packet x ∷ []) ≡ packets_of xs ++ x ∷ []
+packets_of_snoc xs x = packets_of_append xs (Packet x ∷ [])
+
+pub packets_of_mark : (xs : List Arrival) → packets_of (xs ++ End ∷ []) ≡ packets_of xs
+packets_of_mark [] = refl
+packets_of_mark (Packet x ∷ xs) = ap (λ zs. x ∷ zs) (packets_of_mark xs)
+packets_of_mark (End ∷ xs) = packets_of_mark xs
+
+pub marks_of_snoc : (xs : List Arrival) (x : Stamped) → marks_of (xs ++ Packet x ∷ []) ≡ marks_of xs
+marks_of_snoc xs x = omega (arith, marks_of_append xs (Packet x ∷ []))
+
+pub marks_of_mark : (xs : List Arrival) → marks_of (xs ++ End ∷ []) ≡ marks_of xs + 1
+marks_of_mark xs = omega (arith, marks_of_append xs (End ∷ []))
+
+-- what went in is what came out, and then what is left; of the marks, those that are left are those that did not come out
+pub packets_left : (got known all : List Arrival) → got ++ known ≡ all → packets_of all ≡ packets_of got ++ packets_of known
+packets_left got known all e = ap packets_of (sym e) ∙ packets_of_append got known
+
+pub marks_left : (got known all : List Arrival) → got ++ known ≡ all → length known + marks_of got ≡ length (packets_of known) + marks_of all
+marks_left got known all e =
+    let s : marks_of all ≡ marks_of got + marks_of known = ap marks_of (sym e) ∙ marks_of_append got known in
+    omega (arith, length_arrivals known, s)
+
+-- where there is no mark, none came
+pub unmarked : (b : Bool) → mark_count b ≡ 0 → b ≡ false
+unmarked true e = absurd (omega (arith, e))
+unmarked false e = refl

@@ -1,0 +1,22 @@
+-- What went through a ring: packets, and at most one end mark (profile).
+use Rattle.std.specs.Prelude.{ℕ, ◌+◌, List, [], ◌∷◌, Bool, true, false}
+use Rattle.tspkt.specs.declared.stamped.Stamped.{Stamped}
+use Rattle.port.specs.declared.arrival.Arrival.{Arrival}
+use Rattle.port.specs.declared.arrival.Arrival.TheVariants.{Packet, End}
+
+-- the packets among the arrivals, in order
+abbrev pub packets_of : List Arrival → List Stamped
+packets_of [] = []
+packets_of (Packet item ∷ rest) = item ∷ packets_of rest
+packets_of (End ∷ rest) = packets_of rest
+
+-- how many end marks are among the arrivals
+abbrev pub marks_of : List Arrival → ℕ
+marks_of [] = 0
+marks_of (Packet item ∷ rest) = marks_of rest
+marks_of (End ∷ rest) = 1 + marks_of rest
+
+-- one mark or none
+abbrev pub mark_count : Bool → ℕ
+mark_count true = 1
+mark_count false = 0

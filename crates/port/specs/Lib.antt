@@ -1,0 +1,4 @@
+pub mod Arrivals
+pub mod Rings
+pub mod Receiving
+pub mod Stops

@@ -1,0 +1,19 @@
+-- What a look into a ring tells (profile).
+use Rattle.std.specs.Prelude.{◌≡◌, ℕ, List, [], ◌∷◌, ◌++◌, length, true, false, Option, Some, None}
+use Rattle.tspkt.specs.declared.stamped.Stamped.{Stamped}
+use Rattle.port.specs.declared.arrival.Arrival.{Arrival}
+use Rattle.port.specs.declared.arrival.Arrival.TheVariants.{Packet, End}
+use Rattle.port.specs.Rings.{RingEndValue, FinishedValue}
+
+-- A packet came out behind the others, or the end mark came, neither behind an end mark; or nothing did.
+abbrev pub IsReceived : RingEndValue → Option Arrival → RingEndValue → Type 0
+IsReceived old (Some (Packet item)) new =
+    (old.is_ended ≡ false) × (new ≡ record old { received = old.received ++ item ∷ [] })
+IsReceived old (Some End) new = (old.is_ended ≡ false) × (new ≡ record old { is_ended = true })
+IsReceived old None new = new ≡ old
+
+-- The finished port of the end's ring sent what came out of it, and then so many packets that are still in it.
+pub record IsLeft (end : RingEndValue) (finished : FinishedValue) (count : ℕ) : Type 0 where
+  pub rest : List Stamped
+  pub shown : finished.shown ≡ Some (record { ring = end.ring; sent = end.received ++ rest })
+  pub count_is : length rest ≡ count

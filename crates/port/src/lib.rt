@@ -1,0 +1,24 @@
+//! Rings of packets, one an input: a port that sends and an end that receives, each in a thread of its own.
+//!
+//! What goes through a ring comes out in the order in which it went in, each packet once, and nothing comes behind the end
+//! mark. Neither end locks, waits or asks for memory. Nothing here knows of files, of framing or of the multiplex.
+#![tactic(auto)]
+
+mod arrival;
+mod finished_port;
+mod gate;
+mod nothing_after_end;
+mod point;
+mod port;
+mod ring_end;
+mod rings;
+#[cfg(test)]
+mod tests;
+
+pub use arrival::Arrival;
+pub use finished_port::FinishedPort;
+pub use gate::Gate;
+pub use point::Point;
+pub use port::Port;
+pub use ring_end::RingEnd;
+pub use rings::ports;

@@ -1,0 +1,78 @@
+//! The end of a ring that sends.
+
+ghost use Rattle.std.specs.Prelude.{◌≡◌, ◌++◌, ◌∷◌, [], true, false, IfSome, MatchResult};
+
+use crate::arrival::Arrival;
+use crate::finished_port::{FinishedPort, finish};
+use crate::nothing_after_end::NothingAfterEnd;
+use rtrb::{Producer, PushError};
+use std::alloc::Global;
+use std::marker::Model;
+use tspkt::Stamped;
+
+/// The sending end of an input's ring. Contracts see which ring it is, and the packets that it sent. It can go to another
+/// thread, and none of its calls locks, waits or asks for memory.
+#[derive(Drop)]
+pub struct Port {
+    pub(crate) input: usize,
+    pub(crate) producer: Producer<Arrival, Global, NothingAfterEnd>,
+}
+
+impl Model for Port {
+    ghost use Rattle.std.specs.Prelude.{◌≡◌};
+    ghost use Rattle.rtrb.specs.Ring.{sent};
+    ghost use Rattle.port.specs.Arrivals.{packets_of, marks_of};
+    ghost use Rattle.port.specs.Rings.{PortValue, ring_id};
+
+    ghost Value = { PortValue };
+
+    ghost view = { λ p. record {
+      ring = ring_id p.producer.end p.input;
+      sent = packets_of (sent p.producer);
+    } };
+
+    ghost invariant = { λ p. marks_of (sent p.producer) ≡ 0 };
+}
+
+impl Port {
+    /// Sends a packet of the input. Where no free place is seen in the ring the packet comes back, and nothing changed.
+    #[tactic(auto, using(crate::proofs::RingLaws::same_id, crate::proofs::ArrivalLaws::packets_of_snoc, crate::proofs::ArrivalLaws::marks_of_snoc))]
+    pub fn offer(&mut self, item: Stamped) -> Result<(), Stamped>
+        ensures ring { self.new.ring ≡ self.old.ring }
+        ensures sent { MatchResult result
+            (λ _. self.new ≡ record self.old { sent = self.old.sent ++ item ∷ [] })
+            (λ back. (back ≡ item) × (self.new ≡ self.old)) }
+    {
+        let Port { producer, .. } = self;
+        match producer.push(Arrival::Packet(item)) {
+            Ok(()) => Ok(()),
+            Err(PushError::Full(Arrival::Packet(back))) => Err(back),
+            Err(PushError::Full(Arrival::End)) => unreachable!(),
+        }
+    }
+
+    /// Sends the end mark, and nothing after it. Where no free place is seen in the ring the port comes back, unchanged.
+    #[tactic(auto, using(crate::proofs::RingLaws::same_id, crate::proofs::ArrivalLaws::packets_of_mark, crate::proofs::ArrivalLaws::marks_of_mark))]
+    pub fn end(self) -> Result<FinishedPort, Port>
+        ensures { MatchResult result
+            (λ finished. IfSome finished.shown (λ port. port ≡ self) × (finished.is_ended ≡ true))
+            (λ port. port ≡ self) }
+    {
+        let Port {
+            input,
+            mut producer,
+        } = self;
+        match producer.push(Arrival::End) {
+            Ok(()) => Ok(finish(input, producer, true)),
+            Err(_) => Err(Port { input, producer }),
+        }
+    }
+
+    /// Sends nothing more, and no end mark.
+    pub fn finish(self) -> FinishedPort
+        ensures port { IfSome result.shown (λ port. port ≡ self) }
+        ensures unmarked { result.is_ended ≡ false }
+    {
+        finish(self.input, self.producer, false)
+    }
+}

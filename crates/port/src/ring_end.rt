@@ -1,0 +1,88 @@
+//! The end of a ring that receives.
+
+ghost use Rattle.std.specs.Prelude.{◌≡◌, IfSome};
+ghost use Rattle.port.specs.Receiving.{IsReceived, IsLeft};
+
+use crate::arrival::Arrival;
+use crate::finished_port::FinishedPort;
+use crate::nothing_after_end::NothingAfterEnd;
+use rtrb::Consumer;
+use std::alloc::Global;
+use std::marker::Model;
+
+/// The receiving end of an input's ring. Contracts see which ring it is, the packets that came out of it, and whether the end
+/// mark came. None of its calls locks, waits or asks for memory.
+#[derive(Drop)]
+pub struct RingEnd {
+    pub(crate) input: usize,
+    pub(crate) consumer: Consumer<Arrival, Global, NothingAfterEnd>,
+    pub(crate) is_ended: bool,
+}
+
+impl Model for RingEnd {
+    ghost use Rattle.std.specs.Prelude.{◌≡◌};
+    ghost use Rattle.rtrb.specs.Ring.{received};
+    ghost use Rattle.port.specs.Arrivals.{packets_of, marks_of, mark_count};
+    ghost use Rattle.port.specs.Rings.{RingEndValue, ring_id};
+
+    ghost Value = { RingEndValue };
+
+    ghost view = { λ e. record {
+      ring = ring_id e.consumer.end e.input;
+      received = packets_of (received e.consumer);
+      is_ended = e.is_ended;
+    } };
+
+    ghost invariant = { λ e. marks_of (received e.consumer) ≡ mark_count e.is_ended };
+}
+
+impl RingEnd {
+    /// Takes what comes next out of the ring: a packet, or the end mark. `None` is answered where nothing is seen in the
+    /// ring, and always behind the end mark.
+    #[tactic(auto, using(crate::proofs::RingLaws::same_id, crate::proofs::ArrivalLaws::packets_of_snoc, crate::proofs::ArrivalLaws::packets_of_mark, crate::proofs::ArrivalLaws::marks_of_snoc, crate::proofs::ArrivalLaws::marks_of_mark, crate::proofs::ArrivalLaws::unmarked))]
+    pub fn next(&mut self) -> Option<Arrival>
+        ensures ring { self.new.ring ≡ self.old.ring }
+        ensures received { IsReceived self.old result self.new }
+    {
+        let RingEnd {
+            consumer,
+            is_ended,
+            ..
+        } = self;
+        match consumer.pop() {
+            Ok(Arrival::Packet(item)) => Some(Arrival::Packet(item)),
+            Ok(Arrival::End) => {
+                *is_ended = true;
+                Some(Arrival::End)
+            }
+            Err(_) => None,
+        }
+    }
+
+    /// Whether the end mark came.
+    pub fn is_ended(&self) -> bool
+        ensures { result ≡ self.now.is_ended }
+    {
+        self.is_ended
+    }
+
+    /// How many packets are still in the ring, of the port that was made with this end and sends no more. The end mark isn't
+    /// counted. `None` is answered where the ring shows nothing of the port.
+    #[tactic(auto, using(crate::proofs::RingLaws::same_id, crate::proofs::RingLaws::same_ring))]
+    pub fn left(&mut self, finished: &mut FinishedPort) -> Option<u64>
+        requires { IfSome finished.old.shown (λ port. port.ring ≡ self.old.ring) }
+        ensures end { self.new ≡ self.old }
+        ensures port { finished.new ≡ finished.old }
+        ensures left { IfSome result (IsLeft self.old finished.old) }
+    {
+        let FinishedPort {
+            token,
+            is_ended,
+            ..
+        } = finished;
+        let token = token.as_mut()?;
+        let items = self.consumer.slots_after(token);
+        let marks = if *is_ended && !self.is_ended { 1 } else { 0 };
+        Some((items - marks) as u64)
+    }
+}

@@ -1,0 +1,57 @@
+use crate::Arrival;
+use crate::rings::ring;
+use std::test::Fail;
+use tspkt::{Stamped, null};
+
+fn stamped(stamp: u64) -> Stamped {
+    Stamped {
+        packet: null(),
+        stamp,
+    }
+}
+
+fn stamp_of(arrival: Option<Arrival>) -> Option<u64> {
+    match arrival {
+        Some(Arrival::Packet(item)) => Some(item.stamp),
+        _ => None,
+    }
+}
+
+#[test]
+fn what_is_offered_comes_out_in_order_and_the_rest_is_left(rt: HostRuntime) -> Result<(), Fail> {
+    let (mut port, mut end) = ring(rt.alloc(), 0, 2)?;
+    assert!(rt; end.next().is_none());
+    assert!(rt; port.offer(stamped(1)).is_ok());
+    assert!(rt; port.offer(stamped(2)).is_ok());
+    let refused = port.offer(stamped(5));
+    assert!(rt; matches!(&refused, Err(back) if back.stamp == 5));
+    assert_eq!(rt; stamp_of(end.next()), Some(1));
+    let Ok(mut finished) = port.end() else {
+        return Ok(assert!(rt; false));
+    };
+    assert_eq!(rt; end.left(&mut finished), Some(1));
+    assert_eq!(rt; stamp_of(end.next()), Some(2));
+    assert!(rt; matches!(end.next(), Some(Arrival::End)));
+    assert!(rt; end.is_ended());
+    assert!(rt; end.next().is_none());
+    assert_eq!(rt; end.left(&mut finished), Some(0));
+    Ok(())
+}
+
+#[test]
+fn a_full_ring_hands_the_port_back_and_a_port_may_finish_unmarked(
+    rt: HostRuntime,
+) -> Result<(), Fail> {
+    let (mut port, mut end) = ring(rt.alloc(), 0, 1)?;
+    assert!(rt; port.offer(stamped(7)).is_ok());
+    let Err(port) = port.end() else {
+        return Ok(assert!(rt; false));
+    };
+    let mut finished = port.finish();
+    assert_eq!(rt; end.left(&mut finished), Some(1));
+    assert_eq!(rt; stamp_of(end.next()), Some(7));
+    assert!(rt; end.next().is_none());
+    assert!(rt; !end.is_ended());
+    assert_eq!(rt; end.left(&mut finished), Some(0));
+    Ok(())
+}

@@ -1,0 +1,101 @@
+-- The inputs of a run that fails.
+use Rattle.std.proofs.Common.{ℕ, ◌<◌, ◌≡◌, false, List, length, set, get_or, Option, None, Some, ap, ◌∙◌, sym, subst, arith, inl, inr}
+use Rattle.std.specs.List.{slice_get}
+use Rattle.std.proofs.lemmas.Bool.{cases_eq}
+use Rattle.std.proofs.lemmas.List.{length-set}
+use Rattle.std.proofs.lemmas.Option.{same_Some, slice_get-get_or}
+use Rattle.plan.specs.Build.{PlanValue}
+use Rattle.mux.specs.declared.event.Event.{Event}
+use Rattle.mux.specs.History.{taken}
+use Rattle.mux.specs.Lawful.{is_ready}
+use Rattle.mux.specs.Faithful.{IsFaithful}
+use Rattle.reading.specs.declared.stop.Stop.{Stop}
+use Rattle.reading.specs.declared.stop.Stop.TheVariants.{Memory}
+use Rattle.reading.proofs.PacketLaws.{too_much}
+use Rattle.serial.specs.declared.serial_input.SerialInput.{SerialInput}
+use Rattle.serial.specs.declared.serial_run.SerialRun.{SerialRun}
+use Rattle.mux.specs.History.{Run}
+use Rattle.serial.specs.Feeding.{IsOwnStop, Feeds, AreKnown, AreUnstopped, AreLimited, packet_lists}
+use Rattle.serial.specs.Running.{AreFed, IsRunning, IsHalted, IsUnhalted, AreHalted}
+use Rattle.serial.proofs.RunningLaws.{begun, set_here, set_there}
+use Rattle.serial.proofs.OutcomeLaws.{some_read}
+
+halted_one : {R : Type 0} (remaining : R → Option (List ℕ)) (limit : ℕ) (p : PlanValue) (h : List Event) (i : ℕ) (start : Option (List ℕ)) (x : SerialInput R)
+    → Feeds remaining p h i start x → x.reader.stream.items.limit ≡ limit → IsHalted limit p h i start x.reader.report.stopped
+halted_one remaining limit p h i start x f size = record {
+  unleft = f.own.unleft;
+  refused = λ e. absurd (f.own.unrefused e);
+  too_much = λ e all known.
+      let r = f.given.read in
+      let much = too_much remaining p x.reader r.0 (taken i h) r.2 e in
+      let some = some_read start (remaining x.reader.stream.source) r.0 all known r.1 in
+      omega (arith, much, some, size);
+}
+
+unhalted : (stopped : Option Stop) → IsOwnStop stopped → IsUnhalted stopped → stopped ≡ None
+unhalted stopped own (inl e) = e
+unhalted stopped own (inr e) = absurd (own.unrefused e)
+
+-- inputs that go on
+pub halted_fed : {R : Type 0} (remaining : R → Option (List ℕ)) (limit : ℕ) (p : PlanValue) (h : List Event) (starts : List (Option (List ℕ))) (inputs : List (SerialInput R))
+    → AreFed remaining p h starts inputs → AreLimited limit inputs → (AreKnown starts → AreUnstopped inputs → IsFaithful (packet_lists p starts) h) → AreHalted limit p h starts inputs
+halted_fed remaining limit p h starts inputs fed limited faithful = record {
+  count = fed.count;
+  each = λ i start x from at.
+      let f = fed.each i x at in
+      let P : Option (List ℕ) → Type 0 = λ v. IsHalted limit p h i v x.reader.report.stopped in
+      subst P (same_Some f.0 start (sym f.1 ∙ from)) (halted_one remaining limit p h i f.0 x f.2 (limited i x at));
+  begun = begun remaining p h starts inputs fed;
+  faithful = λ known free. faithful known (λ i x at. unhalted x.reader.report.stopped (fed.each i x at).2.own (free i x at));
+}
+
+-- memory was refused for an input that was still read
+pub halted_refused : {R : Type 0} (remaining : R → Option (List ℕ)) (limit : ℕ) (p : PlanValue) (h : List Event) (i : ℕ) (starts : List (Option (List ℕ))) (inputs : List (SerialInput R)) (x y : SerialInput R)
+    → x ≡ get_or inputs i x → i < length inputs → is_ready p i h ≡ false → x.reader.report.stopped ≡ None → y.reader.report.stopped ≡ Some Memory → AreFed remaining p h starts inputs → AreLimited limit inputs
+    → (AreKnown starts → AreUnstopped inputs → IsFaithful (packet_lists p starts) h) → AreHalted limit p h starts (set inputs i y)
+halted_refused remaining limit p h i starts inputs x y at within waits unstopped memory fed limited faithful =
+    let before = halted_fed remaining limit p h starts inputs fed limited faithful in
+    record {
+      count = length-set inputs i y ∙ fed.count;
+      each = λ j start z from there.
+          elim (cases_eq i j) [
+            | inl same ↦
+                (let new : y ≡ z = same_Some y z (sym (set_here inputs i y within) ∙ ap (slice_get (set inputs i y)) same ∙ there) in
+                let stop : z.reader.report.stopped ≡ Some Memory = ap (λ (v : SerialInput _). v.reader.report.stopped) (sym new) ∙ memory in
+                let P : ℕ → Type 0 = λ k. is_ready p k h ≡ false in
+                record {
+                  unleft = λ e. (let bad = sym stop ∙ e in cc);
+                  refused = λ e. subst P same waits;
+                  too_much = λ e all known. (let bad = sym stop ∙ e in cc);
+                })
+            | inr ne ↦ before.each j start z from (sym (set_there inputs i j y ne) ∙ there)
+          ];
+      begun = before.begun;
+      faithful = λ known free.
+          faithful known
+          (λ j z there.
+          elim (cases_eq i j) [
+            | inl same ↦
+                (let here : slice_get inputs i ≡ Some x = slice_get-get_or inputs i x within ∙ ap Some (sym at) in
+                let old : x ≡ z = same_Some x z (sym here ∙ ap (slice_get inputs) same ∙ there) in
+                ap (λ (v : SerialInput _). v.reader.report.stopped) (sym old) ∙ unstopped)
+            | inr ne ↦ unhalted z.reader.report.stopped (fed.each j z there).2.own (free j z (set_there inputs i j y ne ∙ there))
+          ]);
+    }
+
+-- a run that goes on
+pub halted_running : {R : Type 0} (remaining : R → Option (List ℕ)) (run : Run) (limit : ℕ) (starts : List (Option (List ℕ))) (r : SerialRun R)
+    → IsRunning remaining run limit starts r → AreHalted limit run.plan r.mux.events starts r.inputs.items
+halted_running remaining run limit starts r is = halted_fed remaining limit run.plan r.mux.events starts r.inputs.items is.fed is.limited is.faithful
+
+-- input i goes on with its limit
+pub all_limited : {R : Type 0} (limit : ℕ) (inputs : List (SerialInput R)) (i : ℕ) (x y : SerialInput R) → x ≡ get_or inputs i x → i < length inputs
+    → y.reader.stream.items.limit ≡ x.reader.stream.items.limit → AreLimited limit inputs → AreLimited limit (set inputs i y)
+all_limited limit inputs i x y at within size all j z there =
+    elim (cases_eq i j) [
+      | inl same ↦
+          (let here : slice_get inputs i ≡ Some x = slice_get-get_or inputs i x within ∙ ap Some (sym at) in
+          let new : y ≡ z = same_Some y z (sym (set_here inputs i y within) ∙ ap (slice_get (set inputs i y)) same ∙ there) in
+          ap (λ (v : SerialInput _). v.reader.stream.items.limit) (sym new) ∙ size ∙ all i x here)
+      | inr ne ↦ all j z (sym (set_there inputs i j y ne) ∙ there)
+    ]

@@ -1,0 +1,11 @@
+use Rattle.std.proofs.Common.{◌≡◌}
+use Rattle.station.specs.Stations.{IsLawfulStation}
+use Rattle.station.proofs.MovingLaws.{HasMoved}
+use Rattle.station.proofs.station.move_all.Given as goal
+
+abbrev pub invariant-loop-number : goal.invariant-loop-number
+invariant-loop-number l = record {
+  moved : HasMoved l.fn.most l.fn.mux l.fn.inlets.items l.mux l.inlets.items l.number;
+  lawful : IsLawfulStation l.mux l.inlets.items;
+  run : l.mux.run ≡ l.fn.mux.run;
+}

@@ -1,0 +1,5 @@
+pub mod Stations
+pub mod Moving
+pub mod Ticking
+pub mod Opening
+pub mod Settling

@@ -1,0 +1,67 @@
+-- How the packets of a ring come into the multiplex (profile).
+use Rattle.std.specs.Prelude.{◌≡◌, ◌⊎◌, ℕ, suc, List, [], ◌∷◌, ◌++◌, length, Bool, true, false, Some, None, MatchBool}
+use Rattle.std.specs.Option.{option_to_list}
+use Rattle.tspkt.specs.declared.stamped.Stamped.{Stamped}
+use Rattle.mux.specs.declared.event.Event.{Event}
+use Rattle.mux.specs.declared.event.Event.TheVariants.{Took, Close}
+use Rattle.mux.specs.History.{History, with_event}
+use Rattle.mux.specs.Lawful.{Full, refusal_of}
+use Rattle.mux.specs.Answers.{NotesFull}
+use Rattle.station.specs.declared.inlet.Inlet.{Inlet}
+use Rattle.station.specs.Stations.{IsRefusedForGood}
+
+-- these packets of the input were taken, one behind the other
+abbrev pub with_taken : ℕ → List Stamped → History → History
+with_taken i [] h = h
+with_taken i (item ∷ items) h = with_taken i items (with_event h (Took i item))
+
+-- Packets of an open input were taken: first the one that was held, then those that came out of the ring, in order. What came out
+-- and wasn't taken is held.
+pub record TakesSome (i : ℕ) (old : History) (x : Inlet) (new : History) (y : Inlet) : Type 0 where
+  pub items : List Stamped
+  pub came : List Stamped
+  pub history : new ≡ with_taken i items old
+  pub end : y.end ≡ record x.end { received = x.end.received ++ came }
+  pub in_order : option_to_list x.held ++ came ≡ items ++ option_to_list y.held
+  pub open_ : y.is_closed ≡ false
+
+-- the next packet was taken: the one that was held, or one that came out of the ring
+pub record TakesNext (i : ℕ) (old : History) (x : Inlet) (new : History) (y : Inlet) : Type 0 where
+  pub item : Stamped
+  pub came : List Stamped
+  pub history : new ≡ with_event old (Took i item)
+  pub next : option_to_list x.held ++ came ≡ item ∷ []
+  pub inlet : y ≡ record { end = record x.end { received = x.end.received ++ came }; held = None; is_closed = false }
+
+-- The packet that came next isn't taken: the queue of its stream is full, which is noted, or it can never be taken, and the input
+-- is closed. It is held.
+abbrev pub IsHeldBack : ℕ → History → Stamped → History → Bool → Type 0
+IsHeldBack i old item new false = (refusal_of old.run.plan old.events i item ≡ Some Full) × NotesFull old i item new
+IsHeldBack i old item new true = IsRefusedForGood old i item × (new ≡ with_event old (Close i))
+
+-- Nothing more was taken: nothing was seen in the ring, or the end mark came and the input was closed, or the packet that came
+-- next is held back.
+pub data Ending : Type 0 where
+  Nothing : Ending
+  Mark : Ending
+  HeldBack : Stamped → List Stamped → Ending
+
+abbrev pub EndsBy : ℕ → History → Inlet → History → Inlet → Ending → Type 0
+EndsBy i old x new y Nothing = (x.held ≡ None) × (new ≡ old) × (y ≡ x)
+EndsBy i old x new y Mark =
+    (x.held ≡ None) × (new ≡ with_event old (Close i))
+    × (y ≡ record { end = record x.end { is_ended = true }; held = None; is_closed = true })
+EndsBy i old x new y (HeldBack item came) =
+    (option_to_list x.held ++ came ≡ item ∷ []) × IsHeldBack i old item new y.is_closed
+    × (y ≡ record { end = record x.end { received = x.end.received ++ came }; held = Some item; is_closed = y.is_closed })
+
+abbrev pub EndsTaking : ℕ → History → Inlet → History → Inlet → Type 0
+EndsTaking i old x new y = (ending : Ending) × EndsBy i old x new y ending
+
+-- What the ring showed was moved into the multiplex, up to a number of packets: some were taken, and then that number was reached
+-- or nothing more was taken.
+pub record MovesIn (i most : ℕ) (old : History) (x : Inlet) (new : History) (y : Inlet) : Type 0 where
+  pub between : History
+  pub last : Inlet
+  pub takes : TakesSome i old x between last
+  pub ends : EndsTaking i between last new y ⊎ ((length takes.items ≡ most) × (new ≡ between) × (y ≡ last))

@@ -1,0 +1,29 @@
+-- A station of which nothing was taken or sent (profile).
+use Rattle.std.specs.Prelude.{◌≡◌, ℕ, List, [], length, map, false, None, Some}
+use Rattle.std.specs.List.{slice_get}
+use Rattle.plan.specs.Build.{PlanValue}
+use Rattle.mux.specs.History.{opened}
+use Rattle.port.specs.Rings.{PortValue, RingEndValue}
+use Rattle.station.specs.declared.inlet.Inlet.{Inlet}
+use Rattle.station.specs.Stations.{StationValue, rings_of}
+
+-- an input of which nothing came
+abbrev pub new_inlet : RingEndValue → Inlet
+new_inlet end = record { end = end; held = None; is_closed = false }
+
+-- The port of the input with this number, which sent nothing, and the input, of which nothing came, are of one ring.
+pub record IsFresh (i : ℕ) (port : PortValue) (x : Inlet) : Type 0 where
+  pub ring : x.end.ring ≡ port.ring
+  pub number : port.ring.input ≡ i
+  pub unsent : port.sent ≡ []
+  pub unreceived : x.end.received ≡ []
+  pub unheld : x.held ≡ None
+  pub open_ : x.is_closed ≡ false
+
+-- the station of a plan, and the port of each input, in the plan's order
+pub record IsOpened (plan : PlanValue) (limit : ℕ) (station : StationValue) (ports : List PortValue) : Type 0 where
+  pub history : station.history ≡ opened plan limit
+  pub inputs_are : length station.inputs ≡ length plan.request.inputs
+  pub ports_are : length ports ≡ length plan.request.inputs
+  pub each : (i : ℕ) (port : PortValue) (x : Inlet)
+      → slice_get ports i ≡ Some port → slice_get station.inputs i ≡ Some x → IsFresh i port x

@@ -1,0 +1,53 @@
+-- A station, and what each of them keeps (profile).
+use Rattle.std.specs.Prelude.{◌≡◌, ◌≢◌, ◌⊎◌, ℕ, ◌<◌, List, ◌∷◌, ◌++◌, length, map, true, false, Some, None}
+use Rattle.std.specs.List.{slice_get}
+use Rattle.std.specs.Option.{option_to_list}
+use Rattle.tspkt.specs.declared.stamped.Stamped.{Stamped}
+use Rattle.request.specs.declared.stream.Stream.{Stream}
+use Rattle.mux.specs.declared.event.Event.{Event}
+use Rattle.mux.specs.declared.event.Event.TheVariants.{Full}
+use Rattle.mux.specs.History.{History, in_force, taken, is_closed, last_stamp, is_mapped_to}
+use Rattle.mux.specs.Lawful.{is_mapped}
+use Rattle.port.specs.Rings.{RingId}
+use Rattle.station.specs.declared.inlet.Inlet.{Inlet}
+
+-- a station: the history of its multiplex, and its inputs
+pub record StationValue : Type 0 where
+  pub history : History
+  pub inputs : List Inlet
+
+-- which ring each input comes through
+abbrev pub rings_of : List Inlet → List RingId
+rings_of inputs = map (λ x. x.end.ring) inputs
+
+-- The packet can never be taken of the input: no stream of the plan has its PID, or its time is before that of the packet last
+-- taken.
+abbrev pub IsRefusedForGood : History → ℕ → Stamped → Type 0
+IsRefusedForGood h i item =
+    (is_mapped (in_force h.run.plan h.events) i item ≡ false) ⊎ (item.stamp < last_stamp i h.events)
+
+-- Wherever a full queue of the input was noted, it was that of the packet that came next behind those taken before.
+abbrev pub FullsAreOfNext : ℕ → List Stamped → List Event → Type 0
+FullsAreOfNext i received events =
+    (after before : List Event) (st : Stream) → events ≡ after ++ Full i st ∷ before
+    → (item : Stamped) × (slice_get received (length (taken i before)) ≡ Some item) × (is_mapped_to st i item ≡ true)
+
+-- What a station keeps of an input.
+pub record IsLawfulInlet (h : History) (i : ℕ) (x : Inlet) : Type 0 where
+  -- the packets that came out of the ring are those that were taken, and then the one that is held
+  pub received : x.end.received ≡ taken i h.events ++ option_to_list x.held
+  pub fulls : FullsAreOfNext i x.end.received h.events
+  -- it is closed where the multiplex was told so
+  pub closed : x.is_closed ≡ is_closed i h.events
+  -- which is where the end mark came and no packet is held, or where the packet that is held can never be taken
+  pub closes : x.is_closed ≡ true
+      → ((x.end.is_ended ≡ true) × (x.held ≡ None)) ⊎ ((item : Stamped) × (x.held ≡ Some item) × IsRefusedForGood h i item)
+
+-- there is one an input of the plan, in the plan's order
+pub record IsLawfulStation (h : History) (inputs : List Inlet) : Type 0 where
+  pub count : length inputs ≡ length h.run.plan.request.inputs
+  pub each : (i : ℕ) (x : Inlet) → slice_get inputs i ≡ Some x → IsLawfulInlet h i x
+
+-- what a station keeps of the other inputs it keeps still
+abbrev pub LeavesOthers : ℕ → History → History → Type 0
+LeavesOthers i old new = (j : ℕ) (x : Inlet) → j ≢ i → IsLawfulInlet old j x → IsLawfulInlet new j x

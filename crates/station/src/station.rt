@@ -1,0 +1,152 @@
+//! The station: its state, and its ticks.
+
+ghost use Rattle.std.specs.Prelude.{◌≡◌, ◌<◌, ◌≤◌, ◌^◌, ◌-◌, Some, length, map, IfOk, IfSome, option_copied};
+ghost use Rattle.std.specs.List.{slice_get};
+ghost use Rattle.mux.specs.History.{slots, emitted};
+ghost use Rattle.mux.specs.Totals.{IsTotals, IsCounts};
+ghost use Rattle.mux.specs.Headline.{IsSound};
+ghost use Rattle.station.specs.Stations.{IsLawfulStation, rings_of};
+ghost use Rattle.station.specs.Ticking.{Ticks, MovesAll};
+ghost use Rattle.station.specs.Opening.{IsOpened, new_inlet};
+ghost use Rattle.station.specs.Settling.{IsSettled};
+
+use crate::inlet::Inlet;
+use crate::moving::move_in;
+use crate::settled::Settled;
+use mux::{Counts, Mux, Sending, Totals};
+use plan::Plan;
+use port::{FinishedPort, Port, RingEnd, ports};
+use std::alloc::{AllocError, Global};
+use std::marker::Model;
+use tspkt::Packet;
+
+/// A multiplex, and the rings that its inputs' packets come through. Contracts see the history of the multiplex, and of each
+/// input what came out of its ring and the packet that is held.
+///
+/// Whenever a station is seen its history is lawful, and of each input the packets that came out of the ring are those that
+/// were taken, and then the one that is held.
+#[derive(Drop)]
+pub struct Station {
+    mux: Mux,
+    inlets: Vec<Inlet>,
+    /// How many packets a ring has room for.
+    ring: usize,
+}
+
+impl Model for Station {
+    ghost use Rattle.std.specs.Prelude.{◌≡◌};
+    ghost use Rattle.station.specs.Stations.{StationValue, IsLawfulStation};
+
+    ghost Value = { StationValue };
+
+    ghost view = { λ s. record { history = s.mux; inputs = s.inlets.items } };
+
+    ghost invariant = { λ s. IsLawfulStation s.mux s.inlets.items
+        × (s.ring ≡ s.mux.run.plan.request.ring) };
+}
+
+/// The inputs that come through these rings, of which nothing came.
+fn new_inlets(alloc: Global, ends: Vec<RingEnd>) -> Result<Vec<Inlet>, AllocError>
+    ensures { IfOk result (λ v. v.items ≡ map new_inlet ends.items) }
+{
+    let mut inlets = Vec::new(alloc);
+    for end in ends {
+        inlets.push(Inlet {
+            end,
+            held: None,
+            is_closed: false,
+        })?;
+    }
+    Ok(inlets)
+}
+
+/// Moves what the rings show into the multiplex, input 0 first, at most so many packets an input.
+fn move_all(mux: &mut Mux, inlets: &mut Vec<Inlet>, most: usize)
+    requires { IsLawfulStation mux.old inlets.old.items }
+    ensures moves { MovesAll 0 most mux.old inlets.old.items mux.new inlets.new.items }
+    ensures lawful { IsLawfulStation mux.new inlets.new.items }
+    ensures run { mux.new.run ≡ mux.old.run }
+{
+    for number in 0..inlets.len() {
+        move_in(mux, number, &mut inlets[number], most);
+    }
+}
+
+impl Station {
+    /// A station of this plan with nothing taken or sent, for at most this many slots (at most 2^40), and the port of each
+    /// input. `Err` is want of memory.
+    pub fn open(alloc: Global, plan: Plan, slots: u64) -> Result<(Station, Vec<Port>), AllocError>
+        requires { slots ≤ 2 ^ 40 }
+        ensures { IfOk result (λ r. IsOpened plan slots r.0 r.1.items) }
+    {
+        let ring = plan.request().ring();
+        let (ports, ends) = ports(alloc, plan.inputs().len(), ring)?;
+        let inlets = new_inlets(alloc, ends)?;
+        let mux = Mux::open(alloc, plan, slots)?;
+        Ok((Station { mux, inlets, ring }, ports))
+    }
+
+    /// Moves what the rings show into the multiplex, input 0 first, at most as many packets an input as a ring has room for,
+    /// and then sends the next slot, where the multiplex can. A packet that isn't taken is held, and stays the next one of its
+    /// input. An input is closed at its end mark, and where its next packet can never be taken: no stream has its PID, or its
+    /// time is before that of the packet taken before it.
+    pub fn tick(&mut self) -> Sending
+        ensures ticks { Ticks self.old result self.new }
+        ensures rings { rings_of self.new.inputs ≡ rings_of self.old.inputs }
+        ensures run { self.new.history.run ≡ self.old.history.run }
+    {
+        move_all(&mut self.mux, &mut self.inlets, self.ring);
+        self.mux.send_next()
+    }
+
+    /// How many slots were sent. What every station keeps is known with it.
+    pub fn slots(&self) -> u64
+        ensures count { result ≡ slots self.now.history.events }
+        ensures sound { IsSound self.now.history }
+        ensures lawful { IsLawfulStation self.now.history self.now.inputs }
+    {
+        self.mux.slots()
+    }
+
+    /// The packet of the slot that was sent last, lent; none where none was sent.
+    pub fn last(&self) -> Option<&Packet>
+        ensures { option_copied result
+            ≡ slice_get (emitted self.now.history.run.plan self.now.history.events) (slots self.now.history.events - 1) }
+    {
+        self.mux.last()
+    }
+
+    /// What became of the packets that were taken of an input.
+    pub fn totals(&self, input: usize) -> Totals
+        requires { input < length self.now.history.run.plan.request.inputs }
+        ensures { IsTotals self.now.history.run.plan input self.now.history.events result }
+    {
+        self.mux.totals(input)
+    }
+
+    /// What the slots carried.
+    pub fn counts(&self) -> Counts
+        ensures { IsCounts self.now.history.events result }
+    {
+        self.mux.counts()
+    }
+
+    /// What became of the packets that a port of this station sent, which sends no more. `None` is answered where the ring
+    /// shows nothing of the port.
+    pub fn settle(&mut self, port: FinishedPort) -> Option<Settled>
+        requires { IfSome port.shown (λ p. slice_get (rings_of self.old.inputs) p.ring.input ≡ Some p.ring) }
+        ensures same { self.new ≡ self.old }
+        ensures settled { IfSome result (IsSettled self.old port) }
+    {
+        let mut port = port;
+        let input = port.input();
+        let inlet = self.inlets.get_mut(input)?;
+        let left = inlet.end.left(&mut port)?;
+        let held = if inlet.held.is_some() { 1 } else { 0 };
+        Some(Settled {
+            taken: self.mux.totals(input).taken,
+            held,
+            left,
+        })
+    }
+}

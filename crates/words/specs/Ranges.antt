@@ -1,0 +1,31 @@
+-- What a command line may ask for (profile).
+use Rattle.std.specs.Prelude.{ℕ, ◌≤◌}
+use Rattle.words.specs.declared.command.Command.{Command}
+use Rattle.words.specs.declared.command.Command.TheVariants.{Run, Check, Analyse}
+use Rattle.words.specs.declared.run_length.RunLength.{RunLength}
+use Rattle.words.specs.declared.run_length.RunLength.TheVariants.{Slots, All}
+
+-- the number is in its range
+pub record IsWithin (least most number : ℕ) : Type 0 where
+  pub from : least ≤ number
+  pub to : number ≤ most
+
+-- how many slots a run may have: those that it is given, 1 to 1,000,000, or 2^40 where it goes on until its inputs end
+abbrev pub IsAllowedLength : RunLength → Type 0
+IsAllowedLength (Slots slots) = IsWithin 1 1000000 slots
+IsAllowedLength All = Unit {0}
+
+abbrev pub most_slots_of : RunLength → ℕ
+most_slots_of (Slots slots) = slots
+most_slots_of All = 1099511627776
+
+-- how many bytes of an input such a run reads, at most: 16,777,216 packets, or what framing takes
+abbrev pub most_bytes_of : RunLength → ℕ
+most_bytes_of (Slots slots) = 3154116608
+most_bytes_of All = 140737488355328
+
+-- the numbers of a command are in their ranges: slots of a run, a rate in bits a second, and a period in slots
+abbrev pub IsAllowed : Command → Type 0
+IsAllowed (Run plan out length serial delays) = IsAllowedLength length
+IsAllowed (Check plan) = Unit {0}
+IsAllowed (Analyse rate period file) = IsWithin 500000 100000000 rate × IsWithin 1 1000000 period

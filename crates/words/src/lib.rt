@@ -1,0 +1,13 @@
+//! The words of a command line: what the program can be asked to do, and the help that it gives.
+//!
+//! `line` reads the words with `clap`, and looks at each number once more, so that its range is proved.
+#![tactic(auto)]
+
+mod command;
+mod command_line;
+mod options;
+mod run_length;
+
+pub use command::{Command, LineFault};
+pub use command_line::line;
+pub use run_length::{RunLength, most_bytes, most_slots};

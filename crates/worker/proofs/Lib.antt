@@ -1,0 +1,3 @@
+pub mod PlanLaws
+pub mod SendingLaws
+pub mod WorkingLaws

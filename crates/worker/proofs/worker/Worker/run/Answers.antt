@@ -1,0 +1,58 @@
+use Rattle.std.proofs.Common.{◌≡◌, ◌<◌, ℕ, List, [], length, Option, Some, None, ap, refl, subst, sym, ◌∙◌, arith}
+use Rattle.std.proofs.lemmas.Option.{slice_get_read, same_Some}
+use Rattle.std.proofs.lemmas.List.{length-map}
+use Rattle.request.specs.Request.{RequestValue, InputValue, IsRequest, input_value, IsInput}
+use Rattle.plan.specs.Build.{PlanValue}
+use Rattle.reading.specs.Takeable.{OriginValue, origin_of}
+use Rattle.reading.specs.declared.report.Report.{Report}
+use Rattle.worker.specs.declared.sender.Sender.{Sender}
+use Rattle.worker.proofs.PlanLaws.{all_at, input_at}
+use Rattle.worker.proofs.WorkingLaws.{empty_of, worked, told_failed, told_gate, told_unmarked}
+use Rattle.worker.proofs.worker.Worker.run.Goals as goal
+
+pub new-reader-requires-clause-input : goal.new-reader-requires-clause-input
+new-reader-requires-clause-input g c =
+    let x = c.index-inputs-number.result in
+    let p = c.args.self.plan in
+    let i = c.args.self.number in
+    let xs = c.inputs.result.now in
+    let within : i < length xs = omega (arith, c.args.self.known, ap length c.inputs.ensures, length-map xs input_value) in
+    let at = input_at p xs i x c.inputs.ensures (slice_get_read xs (length xs) i x refl within c.index-inputs-number.is) in
+    let R : RequestValue → Type 0 = IsRequest in
+    let request = subst R c.request.ensures.value c.rate.ensures.request in
+    all_at IsInput p.request.inputs i (input_value x) request.inputs at
+
+pub returns-clause-sent : goal.returns-clause-sent
+returns-clause-sent g c input at =
+    let x = c.index-inputs-number.result in
+    let p = c.args.self.plan in
+    let i = c.args.self.number in
+    let xs = c.inputs.result.now in
+    let within : i < length xs = omega (arith, c.args.self.known, ap length c.inputs.ensures, length-map xs input_value) in
+    let is_at = input_at p xs i x c.inputs.ensures (slice_get_read xs (length xs) i x refl within c.index-inputs-number.is) in
+    let same : input_value x ≡ input = same_Some (input_value x) input (sym is_at ∙ at) in
+    let unsent : c.args.self.port.sent ≡ [] = empty_of c.args.self.port.sent c.args.self.unsent in
+    let a : Sender _ _ = record { plan = p; reader = c.new-reader.result; gate = c.args.self.gate; port = c.args.self.port } in
+    worked g.R.Source.remaining g.R.Source.failures a c.send-stop.new.self p (origin_of i input) c.args.self.source c.finish.result.2 c.send-stop.result c.finish.result.0 c.finish.result.1
+    refl (c.new-reader.ensures.origin ∙ ap (origin_of i) same) c.new-reader.ensures.source c.new-reader.ensures.limit (c.new-reader.ensures.read p) unsent
+    c.send-stop.ensures.sent c.finish.ensures.source c.send-stop.ensures.over c.send-stop.ensures.causes c.finish.ensures.counts c.finish.ensures.cause c.finish.ensures.port
+
+pub returns-clause-failed : goal.returns-clause-failed
+returns-clause-failed g c e =
+    let a : Sender _ _ = record { plan = c.args.self.plan; reader = c.new-reader.result; gate = c.args.self.gate; port = c.args.self.port } in
+    told_failed g.R.Source.remaining g.R.Source.failures a c.send-stop.new.self c.args.self.source c.finish.result.2 c.send-stop.result c.finish.result.1.is_ended c.finish.result.0.stopped
+    c.new-reader.ensures.source c.new-reader.ensures.failures c.send-stop.ensures.sent c.finish.ensures.source c.send-stop.ensures.causes c.finish.ensures.cause e
+
+pub returns-clause-gate : goal.returns-clause-gate
+returns-clause-gate g c e =
+    let old = c.new-reader.ensures.report in
+    told_gate c.send-stop.result c.send-stop.new.self.reader.report.stopped c.finish.result.0.stopped c.finish.result.1.is_ended
+    (g.G.Gate.stops c.args.self.gate) (g.G.Gate.stops c.send-stop.new.self.gate) (g.G.Gate.stops c.finish.result.3)
+    c.finish.ensures.cause c.send-stop.ensures.causes (λ left. let bad = sym (ap (λ (v : Report). v.stopped) old) ∙ c.send-stop.ensures.sent.unleft left in cc)
+    c.send-stop.ensures.stopped (λ s. (c.finish.ensures.stopped s).0) c.send-stop.ensures.gate c.finish.ensures.gate e
+
+pub returns-clause-marked : goal.returns-clause-marked
+returns-clause-marked g c e =
+    told_unmarked c.send-stop.result c.finish.result.1.is_ended
+    (g.G.Gate.stops c.args.self.gate) (g.G.Gate.stops c.send-stop.new.self.gate) (g.G.Gate.stops c.finish.result.3)
+    c.send-stop.ensures.causes c.send-stop.ensures.stopped (λ s. (c.finish.ensures.stopped s).0) c.send-stop.ensures.gate c.finish.ensures.gate e

@@ -1,0 +1,47 @@
+-- What a worker has done at its end (profile).
+use Rattle.std.specs.Prelude.{◌≡◌, ℕ, ◌<◌, List, ◌++◌, length, Option, Some, None, IfSome}
+use Rattle.std.specs.Option.{option_to_list}
+use Rattle.std.specs.Io.KnownBytes.{Consumes, IsAtEnd}
+use Rattle.tspkt.specs.Framed.{framed}
+use Rattle.tspkt.specs.declared.item.Item.{Item}
+use Rattle.tspkt.specs.declared.stamped.Stamped.{Stamped}
+use Rattle.plan.specs.Build.{PlanValue}
+use Rattle.reading.specs.Takeable.{OriginValue, takeable, CountsItems}
+use Rattle.reading.specs.PacketReading.{BeginsTakeable}
+use Rattle.reading.specs.StreamReading.{BeginsFramed}
+use Rattle.reading.specs.declared.report.Report.{Report}
+use Rattle.reading.specs.declared.stop.Stop.TheVariants.{ReadFailed, TooMuch}
+use Rattle.port.specs.Rings.{RingId, FinishedValue}
+
+-- The input ended by itself: all that can be taken of its bytes was sent, and the report counts all of their framing.
+pub record IsSentWhole (plan : PlanValue) (origin : OriginValue) (bytes : List ℕ) (left : Option (List ℕ)) (report : Report) (sent : List Stamped) : Type 0 where
+  pub sent_is : sent ≡ takeable plan origin (framed 188 bytes)
+  pub counts : CountsItems plan origin (framed 188 bytes) report
+  pub at_end : IsAtEnd left
+
+-- The report counts a beginning of the framing, of which all was sent that can be taken, but for at most one packet.
+pub record IsCounted (plan : PlanValue) (origin : OriginValue) (bytes : List ℕ) (left : Option (List ℕ)) (report : Report) (sent : List Stamped) : Type 0 where
+  pub looked : List Item
+  pub framing : BeginsFramed bytes (IsAtEnd left) looked
+  pub counts : CountsItems plan origin looked report
+  pub held : Option Stamped
+  pub sent_is : takeable plan origin looked ≡ sent ++ option_to_list held
+
+-- Of a source that had these bytes to give at first and has those left, the worker sent these packets.
+pub record HasSentOf (plan : PlanValue) (origin : OriginValue) (start left : Option (List ℕ)) (report : Report) (sent : List Stamped) : Type 0 where
+  pub bytes : List ℕ
+  pub read : Consumes start left bytes
+  -- they begin what can be taken of the bytes that were read, whatever follows these
+  pub begins : BeginsTakeable plan origin bytes sent
+  -- and are all of it where nothing stopped the worker
+  pub whole : report.stopped ≡ None → IsSentWhole plan origin bytes left report sent
+  -- at a failed read they are all of it too
+  pub failed : report.stopped ≡ Some ReadFailed → sent ≡ takeable plan origin (framed 188 bytes)
+  pub too_much : report.stopped ≡ Some TooMuch → 3154116608 < length bytes
+  pub counted : IsCounted plan origin bytes left report sent
+
+-- What its port sent, as far as the ring shows it, is what it read.
+abbrev pub HasWorked : PlanValue → OriginValue → Option (List ℕ) → Option (List ℕ) → RingId → Report → FinishedValue → Type 0
+HasWorked plan origin start left ring report finished =
+    (sent : List Stamped) × HasSentOf plan origin start left report sent
+    × IfSome finished.shown (λ port. port ≡ record { ring = ring; sent = sent })

@@ -1,0 +1,11 @@
+//! A worker: it reads an input, and sends its packets that a plan names into the input's ring.
+//!
+//! Each worker may run in a thread of its own. What it read, counted and sent is said of what it hands back. Nothing here
+//! knows of the multiplex, of files or of what is written.
+#![tactic(auto)]
+
+mod pause;
+mod sender;
+mod worker;
+
+pub use worker::{INPUT_LIMIT, Worker};

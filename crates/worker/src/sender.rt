@@ -1,0 +1,152 @@
+//! An input on its way into its ring.
+
+ghost use Rattle.std.specs.Prelude.{◌≡◌, IfSome, MatchBool};
+ghost use Rattle.port.specs.Stops.{StopsOnce};
+
+use crate::pause::pause;
+use plan::Plan;
+use port::{FinishedPort, Gate, Point, Port};
+use reading::{PacketReader, Report, Source, Stop};
+use std::alloc::Global;
+use std::sync::Wait;
+use std::time::Clock;
+
+/// How many bytes are read at once, at most.
+const PIECE: usize = 65_536;
+
+/// An input that is read, the port that its packets go to, and the gate that may stop it.
+#[derive(Drop)]
+pub(crate) struct Sender<R, G> {
+    pub plan: Plan,
+    pub reader: PacketReader<R>,
+    pub gate: G,
+    pub port: Port,
+}
+
+impl<R: Source + Drop, G: Gate + Drop> Sender<R, G> {
+    ghost use Rattle.std.specs.Prelude.{◌≡◌, ◌<◌, ◌⊎◌, ℕ, length, true, false, None, Some, IfSome, IsSome, MatchBool};
+    ghost use Rattle.reading.specs.PacketReading.{IsSpent};
+    ghost use Rattle.reading.specs.declared.stop.Stop.TheVariants.{Gate, Memory};
+    ghost use Rattle.port.specs.Stops.{StopsOnce};
+    ghost use Rattle.worker.specs.Sending.{SendsOn, IsLastCause};
+
+    /// Sends all packets of the input that the plan names, and answers what stopped it, if anything did beside the input: the
+    /// gate, or want of memory to read with.
+    pub fn send<T: Wait + Clock>(&mut self, alloc: Global, rt: &T) -> Option<Stop>
+        ensures sent { SendsOn R.remaining R.failures self.old self.new }
+        ensures over { result ≡ None
+            → IsSpent self.new.reader ⊎ (self.new.reader.report.stopped ≡ Some Memory) }
+        ensures causes { IfSome result (λ stop. (stop ≡ Gate) ⊎ (stop ≡ Memory)) }
+        ensures stopped { result ≡ Some Gate → StopsOnce (G.stops self.old.gate) (G.stops self.new.gate) }
+        ensures gate { (result ≡ Some Gate → ⊥) → G.stops self.new.gate ≡ G.stops self.old.gate }
+    {
+        let Ok(mut piece) = vec![in alloc; 0; PIECE] else {
+            return Some(Stop::Memory);
+        };
+        if self.send_all(rt, piece.as_mut_slice()) {
+            None
+        } else {
+            Some(Stop::Gate)
+        }
+    }
+
+    /// The same, in pieces of at most the length of `piece`. False is answered where the gate said no.
+    fn send_all<T: Wait + Clock>(&mut self, rt: &T, piece: &mut [u8]) -> bool
+        requires { 0 < length piece.old }
+        ensures sent { SendsOn R.remaining R.failures self.old self.new }
+        ensures gate { MatchBool result (G.stops self.new.gate ≡ G.stops self.old.gate)
+            (StopsOnce (G.stops self.old.gate) (G.stops self.new.gate)) }
+        ensures over { result ≡ true
+            → IsSpent self.new.reader ⊎ (self.new.reader.report.stopped ≡ Some Memory) }
+    {
+        for _ in rt.forever() {
+            if !self.gate.pass(Point::Read) {
+                return false;
+            }
+            match self.reader.find(&self.plan, piece) {
+                Ok(true) => {}
+                Ok(false) | Err(_) => return true,
+            }
+            if !self.send_held(rt) {
+                return false;
+            }
+        }
+        unreachable!()
+    }
+
+    /// Sends the packet that the reader holds. False is answered where the gate said no, before or after it was sent.
+    fn send_held<T: Wait + Clock>(&mut self, rt: &T) -> bool
+        requires { IsSome self.old.reader.held }
+        ensures sent { SendsOn R.remaining R.failures self.old self.new }
+        ensures gate { MatchBool result (G.stops self.new.gate ≡ G.stops self.old.gate)
+            (StopsOnce (G.stops self.old.gate) (G.stops self.new.gate)) }
+    {
+        let mut waited = 0;
+        for _ in rt.forever() {
+            let item = *self.reader.held().unwrap();
+            if self.port.offer(item).is_ok() {
+                self.reader.release();
+                return self.gate.pass(Point::Offered);
+            }
+            if !self.gate.pass(Point::Full) {
+                return false;
+            }
+            waited = pause(rt, waited);
+        }
+        unreachable!()
+    }
+
+    /// Ends the port, with the end mark unless the gate says no or said so before, and tells what was found. `stop` is what
+    /// stopped the sending beside what stopped the reading.
+    pub fn finish<T: Wait + Clock>(self, rt: &T, stop: Option<Stop>) -> (Report, FinishedPort, R, G)
+        ensures source { result.2 ≡ self.reader.stream.source }
+        ensures port { IfSome result.1.shown (λ port. port ≡ self.port) }
+        ensures counts { result.0 ≡ record self.reader.report { stopped = result.0.stopped } }
+        ensures cause { IsLastCause stop self.reader.report.stopped result.1.is_ended result.0.stopped }
+        ensures stopped { stop ≡ Some Gate
+            → (G.stops result.3 ≡ G.stops self.gate) × (result.1.is_ended ≡ false) }
+        ensures gate { (stop ≡ Some Gate → ⊥) → MatchBool result.1.is_ended
+            (G.stops result.3 ≡ G.stops self.gate) (StopsOnce (G.stops self.gate) (G.stops result.3)) }
+    {
+        let Sender {
+            reader,
+            mut gate,
+            port,
+            ..
+        } = self;
+        let mut report = reader.report();
+        if stop.is_some() {
+            report.stopped = stop;
+        }
+        let finished = if matches!(stop, Some(Stop::Gate)) {
+            port.finish()
+        } else {
+            end(rt, port, &mut gate)
+        };
+        if report.stopped.is_none() && !finished.is_ended() {
+            report.stopped = Some(Stop::Gate);
+        }
+        (report, finished, reader.into_source(), gate)
+    }
+}
+
+/// Ends a port with the end mark, or without it where the gate says no before the mark found a free place.
+pub(crate) fn end<G: Gate, T: Wait + Clock>(rt: &T, port: Port, gate: &mut G) -> FinishedPort
+    ensures port { IfSome result.shown (λ shown. shown ≡ port) }
+    ensures gate { MatchBool result.is_ended (G.stops gate.new ≡ G.stops gate.old)
+        (StopsOnce (G.stops gate.old) (G.stops gate.new)) }
+{
+    let mut port = port;
+    let mut waited = 0;
+    for _ in rt.forever() {
+        match port.end() {
+            Ok(finished) => return finished,
+            Err(back) => port = back,
+        }
+        if !gate.pass(Point::Full) {
+            return port.finish();
+        }
+        waited = pause(rt, waited);
+    }
+    unreachable!()
+}
