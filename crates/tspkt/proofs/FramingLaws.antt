@@ -3,7 +3,7 @@ use Rattle.std.proofs.Common.{◌≡◌, ℕ, zero, suc, ◌+◌, ◌-◌, ◌*�
 use Rattle.std.proofs.lemmas.List.{get_or_past, drop_all, append_assoc, length-drop, length-append, take-append-le, drop-append-le, drop-drop, get_or-drop, get_or_append_left, append-nil}
 use Rattle.std.proofs.lemmas.Bool.{cases_lt}
 use Rattle.std.proofs.lemmas.Bool.Decides.{nat_tests}
-use Rattle.tspkt.specs.Framed.{framed, framed_from, is_sync, acquires_sync, keeps_sync, lost, packets_of, FramerState, still_to_tell, IsFramedSoFar, BeginsFraming}
+use Rattle.tspkt.specs.Framed.{framed, framed_from, is_sync, acquires_sync, keeps_sync, lost, packets_of, FramerState, still_to_tell, IsFramedSoFar}
 use Rattle.tspkt.specs.Stepping.{told_of_last, told_at_end, IsWaiting, TellsSame}
 use Rattle.tspkt.specs.declared.item.Item.{Item}
 use Rattle.tspkt.specs.declared.item.Item.TheVariants.{Packet, Bad, SyncLoss, Lost}
@@ -295,8 +295,16 @@ pub whole_framed : (f : FramerState) (told items : List Item) (bytes : List ℕ)
 whole_framed f told items bytes s h e = e ∙ h [] ∙ ap (framed f.stride) (append-nil bytes) ∙ ap (λ (stride : ℕ). framed stride bytes) s
 
 -- what was told so far begins the framing of whatever follows, and has the packets of the bytes so far
-pub begins_framed : (f : FramerState) (told : List Item) (bytes : List ℕ) → f.stride ≡ 188 → IsFramedSoFar f told bytes → BeginsFraming 188 bytes told
+pub begins_framed : (f : FramerState) (told : List Item) (bytes : List ℕ) → f.stride ≡ 188 → IsFramedSoFar f told bytes → (more : List ℕ) → (later : List Item) × (told ++ later ≡ framed 188 (bytes ++ more))
 begins_framed f told bytes s h = λ more. (still_to_tell f more, h more ∙ ap (λ (stride : ℕ). framed stride (bytes ++ more)) s)
 
 pub packets_framed : (f : FramerState) (told : List Item) (bytes : List ℕ) → f.stride ≡ 188 → IsFramedSoFar f told bytes → packets_of (still_to_tell f []) ≡ [] → packets_of told ≡ packets_of (framed 188 bytes)
 packets_framed f told bytes s h n = all_told told (still_to_tell f []) (framed 188 bytes) (h [] ∙ ap (framed f.stride) (append-nil bytes) ∙ ap (λ (stride : ℕ). framed stride bytes) s) n
+
+-- a framer that has something left to tell was given bytes
+pub left_of_bytes : (f : FramerState) (told : List Item) (bytes : List ℕ) → IsFramedSoFar f told bytes → 0 < length (still_to_tell f []) → 0 < length bytes
+unfolding framed_from
+left_of_bytes f told [] h some =
+    let none : length told + length (still_to_tell f []) ≡ 0 = sym (length-append told (still_to_tell f [])) ∙ ap length (h []) in
+    absurd (omega (arith, none, some))
+left_of_bytes f told (b ∷ bytes) h some = omega arith

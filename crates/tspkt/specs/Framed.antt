@@ -121,8 +121,3 @@ abbrev pub ExactOnPackets : List ℕ → List Item → Type 0
 ExactOnPackets stream items =
     (packets : List (List ℕ)) (rest : List ℕ) → 5 ≤ length packets → All IsWhole packets → length rest < 188
     → stream ≡ flat_map (λ packet. packet) packets ++ rest → items ≡ packets_at 0 packets ++ lost 0 (length rest)
-
--- It is a beginning of the items of every stream that begins with these bytes.
-abbrev pub BeginsFraming : ℕ → List ℕ → List Item → Type 0
-BeginsFraming stride bytes told =
-    (more : List ℕ) → (later : List Item) × (told ++ later ≡ framed stride (bytes ++ more))

@@ -101,7 +101,9 @@ impl Framer {
         ensures room { result ≡ Err FeedFault.Memory
             → vec_capacity out.old < vec_len out.old + length self.old.kept + length piece.now }
         ensures piece { result ≡ Err FeedFault.Memory → 0 < length piece.now }
+        ensures long { result ≡ Err FeedFault.Memory → 188 ≤ length self.old.kept + length piece.now }
         ensures err { OnErr result ((self.new ≡ self.old) × (out.new.items ≡ out.old.items)) }
+        ensures capacity { vec_capacity out.old ≤ vec_capacity out.new }
     {
         self.take_piece(piece, out)
     }
@@ -114,7 +116,9 @@ impl Framer {
         ensures room { result ≡ Err FeedFault.Memory
             → vec_capacity out.old < vec_len out.old + length self.old.kept + length piece.now }
         ensures piece { result ≡ Err FeedFault.Memory → 0 < length piece.now }
+        ensures long { result ≡ Err FeedFault.Memory → 188 ≤ length self.old.kept + length piece.now }
         ensures err { OnErr result ((self.new ≡ self.old) × (out.new.items ≡ out.old.items)) }
+        ensures capacity { vec_capacity out.old ≤ vec_capacity out.new }
     {
         if piece.len() as u64 > self.limit - self.position - self.count as u64 {
             return Err(FeedFault::TooMuch);
@@ -148,6 +152,7 @@ impl Framer {
         ensures room { OnErr result (vec_capacity out.old ≤ vec_len out.old) }
         ensures left { OnErr result (0 < length (still_to_tell self [])) }
         ensures err { IfErr result (λ back. (back.0 ≡ self) × (out.new.items ≡ out.old.items)) }
+        ensures capacity { vec_capacity out.old ≤ vec_capacity out.new }
     {
         let end = self.position + self.count as u64;
         match tell_end(self.mode, self.position, end, out) {

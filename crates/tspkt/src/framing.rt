@@ -1,8 +1,8 @@
-//! Framing a whole stream, and a stream so far.
+//! Framing a whole stream.
 
 ghost use Rattle.std.specs.Prelude.{◌≡◌, ◌<◌, ◌≤◌, [], length, All, sum_by, Err, IfOk, OnOk};
 ghost use Rattle.std.specs.List.{flat_map};
-ghost use Rattle.tspkt.specs.Framed.{framed, packets_of, still_to_tell, IsFramedSoFar, covered, IsAtItsPlace, ExactOnPackets, BeginsFraming};
+ghost use Rattle.tspkt.specs.Framed.{framed, packets_of, still_to_tell, IsFramedSoFar, covered, IsAtItsPlace, ExactOnPackets};
 
 use crate::feed_fault::FeedFault;
 use crate::framer::Framer;
@@ -18,6 +18,7 @@ fn fed(alloc: Global, pieces: &[Vec<u8>]) -> Result<(Framer, Vec<Item>), FeedFau
     ensures within { OnOk result (length (flat_map (λ piece. piece.items) pieces.now) ≤ 3154116608) }
     ensures too_much { result ≡ Err FeedFault.TooMuch
         → 3154116608 < length (flat_map (λ piece. piece.items) pieces.now) }
+    ensures memory { result ≡ Err FeedFault.Memory → 0 < length (flat_map (λ piece. piece.items) pieces.now) }
 {
     let mut framer = Framer::new();
     let mut items = Vec::new(alloc);
@@ -28,7 +29,8 @@ fn fed(alloc: Global, pieces: &[Vec<u8>]) -> Result<(Framer, Vec<Item>), FeedFau
 }
 
 /// The items of a whole stream that comes in these pieces: packets of 188 bytes, at most 3,154,116,608 bytes in all.
-/// `TooMuch` comes only where the stream passes that, `Ok` only where it doesn't.
+/// `TooMuch` comes only where the stream passes that, `Ok` only where it doesn't, and `Memory`, that there is no memory for
+/// the items, never of a stream without bytes.
 pub fn frame(alloc: Global, pieces: &[Vec<u8>]) -> Result<Vec<Item>, FeedFault>
     ensures items { IfOk result (λ items. items.items ≡ framed 188 (flat_map (λ piece. piece.items) pieces.now)) }
 
@@ -43,25 +45,11 @@ pub fn frame(alloc: Global, pieces: &[Vec<u8>]) -> Result<Vec<Item>, FeedFault>
     ensures within { OnOk result (length (flat_map (λ piece. piece.items) pieces.now) ≤ 3154116608) }
     ensures too_much { result ≡ Err FeedFault.TooMuch
         → 3154116608 < length (flat_map (λ piece. piece.items) pieces.now) }
+    ensures memory { result ≡ Err FeedFault.Memory → 0 < length (flat_map (λ piece. piece.items) pieces.now) }
 {
     let (framer, mut items) = fed(alloc, pieces)?;
     match framer.finish(&mut items) {
         Ok(()) => Ok(items),
         Err(_) => Err(FeedFault::Memory),
     }
-}
-
-/// What is told of a stream that began with these pieces and has not ended: its packets are those of the bytes so far.
-/// `TooMuch` comes only where they pass 3,154,116,608 bytes, `Ok` only where they don't.
-pub fn frame_so_far(alloc: Global, pieces: &[Vec<u8>]) -> Result<Vec<Item>, FeedFault>
-    ensures begins { IfOk result (λ items.
-        BeginsFraming 188 (flat_map (λ piece. piece.items) pieces.now) items.items) }
-    ensures packets { IfOk result (λ items.
-        packets_of items.items ≡ packets_of (framed 188 (flat_map (λ piece. piece.items) pieces.now))) }
-    ensures within { OnOk result (length (flat_map (λ piece. piece.items) pieces.now) ≤ 3154116608) }
-    ensures too_much { result ≡ Err FeedFault.TooMuch
-        → 3154116608 < length (flat_map (λ piece. piece.items) pieces.now) }
-{
-    let (_framer, items) = fed(alloc, pieces)?;
-    Ok(items)
 }

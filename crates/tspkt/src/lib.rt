@@ -26,7 +26,7 @@ mod window;
 pub use counters::follows;
 pub use feed_fault::FeedFault;
 pub use framer::{Framer, MAX_LIMIT};
-pub use framing::{frame, frame_so_far};
+pub use framing::frame;
 pub use item::Item;
 pub use malformed::Malformed;
 pub use packet::{NULL_PID, PCR_MODULUS, Packet, null, rewrite};

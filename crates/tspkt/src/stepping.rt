@@ -45,6 +45,7 @@ fn step_hunting(
     ensures few { IfOk result (λ r. IfSome r (λ next. vec_len out.new + at ≤ vec_len out.old + next.0)) }
     ensures capacity { vec_capacity out.old ≤ vec_capacity out.new }
     ensures room { OnErr result (vec_capacity out.old + at < vec_len out.old + length window.now) }
+    ensures whole { OnErr result (at + 188 ≤ length window.now) }
 {
     if window.len() - at <= 4 * stride {
         return Ok(None);
@@ -80,6 +81,7 @@ fn step_synced(
     ensures few { IfOk result (λ r. IfSome r (λ next. vec_len out.new + at ≤ vec_len out.old + next.0)) }
     ensures capacity { vec_capacity out.old ≤ vec_capacity out.new }
     ensures room { OnErr result (vec_capacity out.old + at < vec_len out.old + length window.now) }
+    ensures whole { OnErr result (at + 188 ≤ length window.now) }
 {
     let left = window.len() - at;
     if skip > 0 {
@@ -128,6 +130,7 @@ fn step(
     ensures few { IfOk result (λ r. IfSome r (λ next. vec_len out.new + at ≤ vec_len out.old + next.0)) }
     ensures capacity { vec_capacity out.old ≤ vec_capacity out.new }
     ensures room { OnErr result (vec_capacity out.old + at < vec_len out.old + length window.now) }
+    ensures whole { OnErr result (at + 188 ≤ length window.now) }
 {
     match mode {
         Mode::Hunting(from) => step_hunting(stride, base, window, at, from, out),
@@ -151,6 +154,8 @@ pub fn advance(
     ensures waits { IfOk result (λ next. IsWaiting stride next.1 (drop next.0 window.now)) }
     ensures kept { take (length out.old.items) out.new.items ≡ out.old.items }
     ensures room { OnErr result (vec_capacity out.old < vec_len out.old + length window.now) }
+    ensures whole { OnErr result (188 ≤ length window.now) }
+    ensures capacity { vec_capacity out.old ≤ vec_capacity out.new }
 {
     let mut at = 0;
     let mut mode = mode;
@@ -168,6 +173,7 @@ fn tell_last(place: u64, end: u64, out: &mut Vec<Item>) -> Result<(), AllocError
     ensures err { OnErr result (out.new.items ≡ out.old.items) }
     ensures room { OnErr result (vec_capacity out.old ≤ vec_len out.old) }
     ensures left { OnErr result (0 < length (told_of_last place (end - place))) }
+    ensures capacity { vec_capacity out.old ≤ vec_capacity out.new }
 {
     if end == place {
         return Ok(());
@@ -187,6 +193,7 @@ pub fn tell_end(mode: Mode, place: u64, end: u64, out: &mut Vec<Item>) -> Result
     ensures err { OnErr result (out.new.items ≡ out.old.items) }
     ensures room { OnErr result (vec_capacity out.old ≤ vec_len out.old) }
     ensures left { OnErr result (0 < length (told_at_end mode place (end - place))) }
+    ensures capacity { vec_capacity out.old ≤ vec_capacity out.new }
 {
     match mode {
         Mode::Hunting(from) => tell_lost(from, end, out),

@@ -1,6 +1,6 @@
 //! Framing of small streams, whole and in pieces.
 
-use crate::{FeedFault, Framer, Item, frame, frame_so_far};
+use crate::{FeedFault, Framer, Item, frame};
 use std::alloc::Global;
 use std::test::Fail;
 
@@ -137,10 +137,11 @@ fn streams_in_pieces(rt: HostRuntime) -> Result<(), Fail> {
 #[test]
 fn told_at_the_fifth_sync_byte(rt: HostRuntime) -> Result<(), Fail> {
     let alloc = rt.alloc();
-    let mut pieces = vec![in alloc; stream(alloc, &ROWS[0])?]?;
-    assert_eq!(rt; frame_so_far(alloc, &pieces)?.len(), 0);
-    pieces.push(vec![in alloc; 0x47]?)?;
-    let items = frame_so_far(alloc, &pieces)?;
+    let mut framer = Framer::new();
+    let mut items = Vec::new(alloc);
+    feed(&mut framer, stream(alloc, &ROWS[0])?.as_slice(), &mut items)?;
+    assert_eq!(rt; items.len(), 0);
+    feed(&mut framer, &[0x47], &mut items)?;
     assert_eq!(rt;
         text(alloc, &items)?.as_str(),
         "packet 0;packet 188;packet 376;packet 564;"

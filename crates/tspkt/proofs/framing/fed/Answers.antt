@@ -7,3 +7,8 @@ pub returns-in_err-feed-clause-too_much : goal.returns-in_err-feed-clause-too_mu
 returns-in_err-feed-clause-too_much c =
     let fits = length-flat_map-take (λ piece. piece.items) c.args.pieces.now c.loop-piece.piece-index c.piece-item.result (omega arith) in
     grind (arith, common_steps, fits)
+
+pub returns-in_err-feed-clause-memory : goal.returns-in_err-feed-clause-memory
+returns-in_err-feed-clause-memory c =
+    let fits = length-flat_map-take (λ piece. piece.items) c.args.pieces.now c.loop-piece.piece-index c.piece-item.result (omega arith) in
+    grind (arith, common_steps, fits)
