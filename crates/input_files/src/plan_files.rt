@@ -6,7 +6,7 @@ use crate::sources::Sources;
 use acquire::{Acquire, Found};
 use messages::CommandFault;
 use plan::Plan;
-use reading::{Source, Stop, StreamReader};
+use reading::{INPUT_LIMIT, Source, Stop, StreamReader};
 use request::{PlanFault, Request};
 use selection::seek;
 use std::alloc::{AllocError, Global};
@@ -15,8 +15,6 @@ use tspkt::{Item, Packet};
 
 /// How many bytes are read at once.
 const PIECE: usize = 1 << 16;
-/// The most bytes of an input: those that a run reads of it.
-const INPUT_LIMIT: u64 = 3_154_116_608;
 
 /// All bytes of a source; none where a read fails, and where 2^64 - 1 pieces are no end.
 fn read_all<R: Source>(alloc: Global, source: &mut R) -> Result<Option<Vec<u8>>, AllocError> {

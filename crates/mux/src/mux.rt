@@ -150,6 +150,13 @@ impl Mux {
         })
     }
 
+    /// Its plan, lent.
+    pub fn plan(&self) -> &Plan
+        ensures { result.now ≡ self.now.run.plan }
+    {
+        &self.plan
+    }
+
     /// How many slots were sent. What every multiplex keeps is known with it.
     pub fn slots(&self) -> u64
         ensures count { result ≡ slots self.now.events }

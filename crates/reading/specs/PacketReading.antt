@@ -58,6 +58,12 @@ pub record GoesOn {R : Type 0} (failures : R → ℕ) (old new : PacketReader R)
   pub origin : new.origin ≡ old.origin
   pub limit : new.stream.items.limit ≡ old.stream.items.limit
 
+-- It is read on: no packet is held, all items that were told were looked at, and more may be told.
+pub record WantsMore {R : Type 0} (x : PacketReader R) : Type 0 where
+  pub held : x.held ≡ None
+  pub ahead : x.stream.items.ahead ≡ []
+  pub framer : IsSome x.stream.items.framer
+
 -- nothing is left to give
 pub record IsSpent {R : Type 0} (x : PacketReader R) : Type 0 where
   pub framer : x.stream.items.framer ≡ None

@@ -7,6 +7,7 @@
 
 mod classify;
 mod item_reader;
+mod look;
 mod origin;
 mod packet_reader;
 mod report;
@@ -16,8 +17,9 @@ mod stream_reader;
 #[cfg(test)]
 mod tests;
 
+pub use look::Look;
 pub use origin::Origin;
-pub use packet_reader::PacketReader;
+pub use packet_reader::{INPUT_LIMIT, PacketReader};
 pub use report::Report;
 pub use source::{ReadSource, Source};
 pub use stop::Stop;

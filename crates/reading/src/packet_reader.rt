@@ -1,6 +1,7 @@
 //! The packets of an input that a plan names, each with its time.
 
 use crate::classify::classify;
+use crate::look::Look;
 use crate::origin::Origin;
 use crate::report::Report;
 use crate::source::Source;
@@ -10,6 +11,9 @@ use plan::Plan;
 use request::Input;
 use std::alloc::{AllocError, Global};
 use tspkt::Stamped;
+
+/// How many bytes an input may have, where the caller doesn't say more: 16,777,216 packets (profile).
+pub const INPUT_LIMIT: u64 = 3_154_116_608;
 
 /// An input: its stream, when its packets come, the packet that it gives next, and what was found so far.
 #[derive(Drop)]
@@ -33,7 +37,7 @@ impl<R: Source> PacketReader<R> {
     ghost use Rattle.reading.specs.Takeable.{origin_of};
     ghost use Rattle.reading.specs.Items.{given_up, left_to_read};
     ghost use Rattle.std.specs.Io.KnownBytes.{IsAtEnd};
-    ghost use Rattle.reading.specs.PacketReading.{HasRead, ReadsOn, GoesOn, TellsFailures, IsSpent, BeginsTakeable, IsWhole, CountsTold};
+    ghost use Rattle.reading.specs.PacketReading.{HasRead, ReadsOn, GoesOn, TellsFailures, WantsMore, IsSpent, BeginsTakeable, IsWhole, CountsTold};
 
     /// The input with this number in the plan, of which nothing was read, and of which at most so many bytes may come: up to
     /// 140,737,488,355,328.
@@ -79,40 +83,42 @@ impl<R: Source> PacketReader<R> {
             → (self.old.report.stopped ≡ Some Stop.ReadFailed)
             ⊎ FailsOnce (R.failures self.old.stream.source) (R.failures self.new.stream.source) }
     {
-        if self.held.is_some() {
-            return Ok(true);
-        }
-        self.search(plan, piece)
-    }
-
-    /// The same of an input that holds none.
-    fn search(&mut self, plan: &Plan, piece: &mut [u8]) -> Result<bool, AllocError>
-        requires piece { 0 < length piece.old }
-        requires held { self.old.held ≡ None }
-        ensures read { ReadsOn R.remaining plan.now self.old self.new }
-        ensures goes { GoesOn R.failures self.old self.new }
-        ensures found { result ≡ Ok true → IsSome self.new.held }
-        ensures done { result ≡ Ok false → IsSpent self.new }
-        ensures memory { OnErr result (self.new.report.stopped ≡ Some Stop.Memory) }
-        ensures reading { OnErr result (IsSome self.old.stream.items.framer) }
-        ensures unrefused { OnOk result (self.new.report.stopped ≡ Some Stop.Memory
-            → self.old.report.stopped ≡ Some Stop.Memory) }
-    {
         loop {
-            if self.find_told(plan) {
-                return Ok(true);
-            }
-            if self.stream.is_over() {
-                return Ok(false);
-            }
-            match self.read(piece) {
-                Ok(()) => {}
-                Err(e) => return Err(e),
+            match self.look(plan) {
+                Look::Packet => return Ok(true),
+                Look::Over => return Ok(false),
+                Look::More => self.read(piece)?,
             }
         }
     }
 
-    /// The same among the items that were told.
+    /// Looks for the next packet that the plan names among what was read, and holds it. It reads nothing, and looks at nothing
+    /// where a packet is held.
+    pub fn look(&mut self, plan: &Plan) -> Look
+        ensures read { (bytes : List ℕ) (given : List GivenPacket) → HasRead R.remaining plan.now self.old bytes given
+            → HasRead R.remaining plan.now self.new bytes given }
+        ensures goes { GoesOn R.failures self.old self.new }
+        ensures found { result ≡ Look.Packet → IsSome self.new.held }
+        ensures more { result ≡ Look.More → WantsMore self.new }
+        ensures over { result ≡ Look.Over → IsSpent self.new }
+        ensures stays { IsSome self.old.held → self.new ≡ self.old }
+        ensures source { self.new.stream.source ≡ self.old.stream.source }
+        ensures stopped { self.new.report.stopped ≡ self.old.report.stopped }
+        ensures left { left_to_read self.new.stream.items ≡ left_to_read self.old.stream.items }
+    {
+        if self.held.is_some() {
+            return Look::Packet;
+        }
+        if self.find_told(plan) {
+            Look::Packet
+        } else if self.stream.is_over() {
+            Look::Over
+        } else {
+            Look::More
+        }
+    }
+
+    /// Holds the next packet that the plan names of the items that were told, if there is one.
     fn find_told(&mut self, plan: &Plan) -> bool
         requires { self.old.held ≡ None }
         ensures read { (bytes : List ℕ) (given : List GivenPacket) → HasRead R.remaining plan.now self.old bytes given
@@ -141,12 +147,12 @@ impl<R: Source> PacketReader<R> {
         false
     }
 
-    /// Reads the next piece and frames it, where all items were looked at. A failed read and a stream that is too long
-    /// end the input, and what framing hasn't told is given up.
-    fn read(&mut self, piece: &mut [u8]) -> Result<(), AllocError>
+    /// Reads the next piece, of at most the length of `piece`, and frames it, where a look found that more has to be read. A
+    /// failed read and a stream that is too long end the input, and what framing hasn't told is given up. An `Err` is want of
+    /// memory, and ends the input.
+    pub fn read(&mut self, piece: &mut [u8]) -> Result<(), AllocError>
         requires piece { 0 < length piece.old }
-        requires ahead { self.old.stream.items.ahead ≡ [] }
-        requires open { IsSome self.old.stream.items.framer }
+        requires more { WantsMore self.old }
         ensures read { (plan : PlanValue) → ReadsOn R.remaining plan self.old self.new }
         ensures goes { GoesOn R.failures self.old self.new }
         ensures smaller { left_to_read self.new.stream.items < left_to_read self.old.stream.items }

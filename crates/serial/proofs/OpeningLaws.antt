@@ -23,7 +23,7 @@ use Rattle.mux.specs.Faithful.{IsFaithful}
 use Rattle.serial.specs.Feeding.{packet_lists, AreLimited, AllTellFailures}
 use Rattle.serial.specs.Sending.{HasAnalysed}
 use Rattle.serial.specs.Opening.{IsOpened, AreOpened}
-use Rattle.serial.specs.Running.{AreFed, IsRunning}
+use Rattle.serial.specs.Running.{AreFed, IsRunning, TakesAsNeeded}
 use Rattle.serial.specs.declared.serial_run.SerialRun.{SerialRun}
 use Rattle.serial.specs.declared.serial_input.SerialInput.{SerialInput}
 
@@ -132,19 +132,19 @@ opened_input {R} remaining failures limit p i input reader x at is origin most s
 
 -- a run of which nothing was read or sent
 pub runs_opened : {R : Type 0} (remaining : R → Option (List ℕ)) (failures : R → ℕ) (limit : ℕ) (p : PlanValue) (slots : ℕ) (readers : List R) (r : SerialRun R)
-    → r.plan ≡ p → r.mux ≡ opened p slots → length readers ≡ length p.request.inputs → AreOpened remaining failures limit p readers r.inputs.items → 0 < length r.piece.items
+    → r.mux ≡ opened p slots → length readers ≡ length p.request.inputs → AreOpened remaining failures limit p readers r.inputs.items → 0 < length r.piece.items
     → HasAnalysed r.output p.request.rate p.request.watch [] → IsRunning remaining (record { plan = p; limit = slots }) limit (map remaining readers) r
-runs_opened remaining failures limit p slots readers r plan mux count are piece analysed =
+runs_opened remaining failures limit p slots readers r mux count are piece analysed =
     let none : [] ≡ r.mux.events = sym (ap (λ (v : History). v.events) mux) in
     let F : List Event → Type 0 = λ h. AreFed remaining p h (map remaining readers) r.inputs.items in
     let G : List Event → Type 0 = IsFaithful (packet_lists p (map remaining readers)) in
     let H : List Event → Type 0 = λ h. HasAnalysed r.output p.request.rate p.request.watch (emitted p h) in
     record {
-      plan_is = plan;
       run_is = ap (λ (v : History). v.run) mux;
       fed = subst F none (fed_of_opened remaining failures limit p readers r.inputs.items count are);
       limited = limited_of_opened remaining failures limit p readers r.inputs.items are;
       piece = piece;
       faithful = λ known unstopped. subst G none tt;
+      needed = subst (TakesAsNeeded (record { plan = p; limit = slots })) none tt;
       analysed = subst H none analysed;
     }

@@ -15,11 +15,11 @@ use Rattle.mux.specs.declared.content.Content.{Content}
 use Rattle.mux.specs.History.{Run, History, with_event, slots, emitted, packet_behind, taken, is_closed, full_noted}
 use Rattle.mux.specs.declared.slot.Slot.TheVariants.{Sent}
 use Rattle.mux.specs.declared.sending.Sending.TheVariants as sending
-use Rattle.mux.specs.Answers.{SendAnswers, SlotAnswers}
+use Rattle.mux.specs.Answers.{SendAnswers, SlotAnswers, IsLeastUnready}
 use Rattle.mux.specs.Faithful.{IsFaithful}
 use Rattle.tspkt.specs.declared.stamped.Stamped.{Stamped}
 use Rattle.serial.specs.Feeding.{HasGiven, Feeds, AreKnown, AreUnstopped, AreLimited, packet_lists, IsOfInput, turns_left}
-use Rattle.serial.specs.Running.{AreFed, AreBegun, IsRunning, steps_left}
+use Rattle.serial.specs.Running.{AreFed, AreBegun, IsRunning, WaitsFor, IsNeeded, TakesAsNeeded, steps_left}
 use Rattle.serial.specs.Sending.{bytes_of, HasAnalysed}
 use Rattle.serial.specs.Written.{Sends, SendsBeginning}
 use Rattle.reading.specs.Takeable.{takeable, origin_of, EndsAtTaken}
@@ -208,12 +208,12 @@ runs_sent remaining run limit starts old mux output packet is answer same analys
     let A : List (List ℕ) → Type 0 = HasAnalysed output p.request.rate p.request.watch in
     let T : List Event → Type 0 = IsFaithful (packet_lists p starts) in
     record {
-      plan_is = is.plan_is;
       run_is = same ∙ is.run_is;
       fed = subst F (sym sent.events) (fed_slot remaining p old.mux.events sent.content starts old.inputs.items is.fed);
       limited = is.limited;
       piece = is.piece;
       faithful = λ known going. subst T (sym sent.events) (is.faithful known going);
+      needed = subst (TakesAsNeeded run) (sym sent.events) (tt, is.needed);
       analysed = subst A (sym sent.out) (analysed p.request.rate p.request.watch (emitted p old.mux.events) is.analysed);
     }
 
@@ -245,40 +245,50 @@ written_sent p old new packet before a b waiting now plan answer first second =
 
 -- An input had its turn.
 
+-- what comes of the input that the multiplex waits for is needed
+needed_of : (run : Run) (i : ℕ) (e : Event) (h : List Event) → IsOfInput i e → WaitsFor run h i → IsNeeded run e h
+needed_of run i (Took j item) h is waits = subst (WaitsFor run h) (sym is) waits
+needed_of run i (Full j st) h is waits = subst (WaitsFor run h) (sym is) waits
+needed_of run i (Close j) h is waits = subst (WaitsFor run h) (sym is) waits
+needed_of run i (Slot c) h is waits = absurd is
+
 pub runs_pulled : {R : Type 0} (remaining : R → Option (List ℕ)) (run : Run) (limit : ℕ) (starts : List (Option (List ℕ))) (old new : SerialRun R) (between : History) (i : ℕ)
-    → IsRunning remaining run limit starts old → between ≡ old.mux → new.plan ≡ old.plan → 0 < length new.piece.items → new.output ≡ old.output
+    → IsRunning remaining run limit starts old → slots old.mux.events < old.mux.run.limit → IsLeastUnready old.mux i → between ≡ old.mux → 0 < length new.piece.items → new.output ≡ old.output
     → ((e : Event) × (new.mux ≡ with_event between e) × IsOfInput i e)
-    → ((s : List (Option (List ℕ))) → AreFed remaining old.plan between.events s old.inputs.items → AreFed remaining old.plan new.mux.events s new.inputs.items)
+    → ((s : List (Option (List ℕ))) → AreFed remaining between.run.plan between.events s old.inputs.items → AreFed remaining between.run.plan new.mux.events s new.inputs.items)
     → ((most : ℕ) → AreLimited most old.inputs.items → AreLimited most new.inputs.items)
     → (AreUnstopped new.inputs.items → AreUnstopped old.inputs.items)
-    → ((s : List (Option (List ℕ))) → AreFed remaining old.plan between.events s old.inputs.items → AreKnown s → AreUnstopped new.inputs.items
-    → IsFaithful (packet_lists old.plan s) between.events → IsFaithful (packet_lists old.plan s) new.mux.events)
+    → ((s : List (Option (List ℕ))) → AreFed remaining between.run.plan between.events s old.inputs.items → AreKnown s → AreUnstopped new.inputs.items
+    → IsFaithful (packet_lists between.run.plan s) between.events → IsFaithful (packet_lists between.run.plan s) new.mux.events)
     → IsRunning remaining run limit starts new
-runs_pulled remaining run limit starts old new between i is same plan piece output event fed limited going faithful =
+runs_pulled remaining run limit starts old new between i is more unready same piece output event fed limited going faithful =
     let p = run.plan in
     let e = event.0 in
+    let plan : between.run.plan ≡ p = ap (λ (v : History). v.run.plan) same ∙ ap (λ (r : Run). r.plan) is.run_is in
     let mux : new.mux ≡ with_event old.mux e = event.1 ∙ ap (λ v. with_event v e) same in
     let events : new.mux.events ≡ e ∷ old.mux.events = ap (λ (v : History). v.events) mux in
-    let B : List Event → Type 0 = λ h. AreFed remaining old.plan h starts old.inputs.items in
+    let B : List Event → Type 0 = λ h. AreFed remaining between.run.plan h starts old.inputs.items in
     let Q : PlanValue → Type 0 = λ q. AreFed remaining q old.mux.events starts old.inputs.items in
     let N : PlanValue → Type 0 = λ q. AreFed remaining q new.mux.events starts new.inputs.items in
-    let before : AreFed remaining old.plan between.events starts old.inputs.items =
-    subst B (sym (ap (λ (v : History). v.events) same)) (subst Q (sym is.plan_is) is.fed) in
+    let before : AreFed remaining between.run.plan between.events starts old.inputs.items =
+    subst B (sym (ap (λ (v : History). v.events) same)) (subst Q (sym plan) is.fed) in
     let T : PlanValue → Type 0 = λ q. IsFaithful (packet_lists q starts) old.mux.events in
     let U : PlanValue → Type 0 = λ q. IsFaithful (packet_lists q starts) new.mux.events in
-    let V : List Event → Type 0 = IsFaithful (packet_lists old.plan starts) in
+    let V : List Event → Type 0 = IsFaithful (packet_lists between.run.plan starts) in
     let A : List (List ℕ) → Type 0 = HasAnalysed old.output p.request.rate p.request.watch in
     let O : SlotWriter → Type 0 = λ w. HasAnalysed w p.request.rate p.request.watch (emitted p new.mux.events) in
     record {
-      plan_is = plan ∙ is.plan_is;
       run_is = ap (λ (v : History). v.run) mux ∙ is.run_is;
-      fed = subst N is.plan_is (fed starts before);
+      fed = subst N plan (fed starts before);
       limited = limited limit is.limited;
       piece = piece;
       faithful = λ known goes.
-          subst U is.plan_is
+          subst U plan
           (faithful starts before known goes
-          (subst V (sym (ap (λ (v : History). v.events) same)) (subst T (sym is.plan_is) (is.faithful known (going goes)))));
+          (subst V (sym (ap (λ (v : History). v.events) same)) (subst T (sym plan) (is.faithful known (going goes)))));
+      needed =
+          (let W : Run → Type 0 = λ v. WaitsFor v old.mux.events i in
+          subst (TakesAsNeeded run) (sym events) (needed_of run i e old.mux.events event.2 (subst W is.run_is (more, unready)), is.needed));
       analysed = subst O (sym output) (subst A (sym (ap (emitted p) events ∙ emitted_same p i e old.mux.events event.2)) is.analysed);
     }
 
@@ -344,12 +354,12 @@ runs_flushed remaining run limit starts old output is same =
     let O : SlotWriter → Type 0 = λ w. HasAnalysed w p.request.rate p.request.watch (emitted p old.mux.events) in
     let a = is.analysed in
     record {
-      plan_is = is.plan_is;
       run_is = is.run_is;
       fed = is.fed;
       limited = is.limited;
       piece = is.piece;
       faithful = is.faithful;
+      needed = is.needed;
       analysed = subst O (sym same) (record { seen = a.seen; rate_is = a.rate_is; period_is = a.period_is; faults_are = a.faults_are });
     }
 

@@ -1,13 +1,15 @@
 -- A run: its inputs, its multiplex and what went out (profile).
-use Rattle.std.specs.Prelude.{◌≡◌, ◌⊎◌, ℕ, ◌+◌, ◌*◌, ◌-◌, ◌<◌, ◌≤◌, List, ◌++◌, length, sum_by, Option, Some, None, false}
+use Rattle.std.specs.Prelude.{◌≡◌, ◌⊎◌, ℕ, ◌+◌, ◌*◌, ◌-◌, ◌<◌, ◌≤◌, List, [], ◌∷◌, ◌++◌, length, sum_by, Option, Some, None, false}
 use Rattle.std.specs.List.{slice_get, range_with_len}
 use Rattle.tspkt.specs.Framed.{framed}
 use Rattle.tspkt.specs.declared.stamped.Stamped.{Stamped}
 use Rattle.request.specs.Request.{InputValue}
 use Rattle.plan.specs.Build.{PlanValue}
 use Rattle.mux.specs.declared.event.Event.{Event}
+use Rattle.mux.specs.declared.event.Event.TheVariants.{Took, Full, Close, Slot}
 use Rattle.mux.specs.History.{Run, slots, taken, emitted}
 use Rattle.mux.specs.Lawful.{IsDone, is_ready}
+use Rattle.mux.specs.Answers.{IsLeastUnready}
 use Rattle.reading.specs.Takeable.{takeable, origin_of}
 use Rattle.mux.specs.Faithful.{IsFaithful}
 use Rattle.reading.specs.declared.stop.Stop.{Stop}
@@ -23,15 +25,31 @@ pub record AreFed {R : Type 0} (remaining : R → Option (List ℕ)) (p : PlanVa
   pub each : (i : ℕ) (x : SerialInput R) → slice_get inputs i ≡ Some x
       → (start : Option (List ℕ)) × (slice_get starts i ≡ Some start) × Feeds remaining p h i start x
 
--- The run goes on over these sources, each of at most so many bytes: it takes the inputs' packets in their order, while nothing stops them, and its packets
--- were analysed.
+-- the multiplex waits for the input: it has slots left, and of the inputs that aren't ready this is the first
+abbrev pub WaitsFor : Run → List Event → ℕ → Type 0
+WaitsFor run h i = (slots h < run.limit) × IsLeastUnready (record { run = run; events = h }) i
+
+-- what comes of an input comes where the multiplex waits for it
+abbrev pub IsNeeded : Run → Event → List Event → Type 0
+IsNeeded run (Took i item) h = WaitsFor run h i
+IsNeeded run (Full i st) h = WaitsFor run h i
+IsNeeded run (Close i) h = WaitsFor run h i
+IsNeeded run (Slot c) h = Unit {0}
+
+-- No packet was offered and no input closed but where the multiplex waited for it.
+abbrev pub TakesAsNeeded : Run → List Event → Type 0
+TakesAsNeeded run [] = Unit {0}
+TakesAsNeeded run (e ∷ h) = IsNeeded run e h × TakesAsNeeded run h
+
+-- The run goes on over these sources, each of at most so many bytes: it takes the inputs' packets in their order, while nothing
+-- stops them, and as they are needed, and its packets were analysed.
 pub record IsRunning {R : Type 0} (remaining : R → Option (List ℕ)) (run : Run) (limit : ℕ) (starts : List (Option (List ℕ))) (r : SerialRun R) : Type 0 where
-  pub plan_is : r.plan ≡ run.plan
   pub run_is : r.mux.run ≡ run
   pub fed : AreFed remaining run.plan r.mux.events starts r.inputs.items
   pub limited : AreLimited limit r.inputs.items
   pub piece : 0 < length r.piece.items
   pub faithful : AreKnown starts → AreUnstopped r.inputs.items → IsFaithful (packet_lists run.plan starts) r.mux.events
+  pub needed : TakesAsNeeded run r.mux.events
   pub analysed : HasAnalysed r.output run.plan.request.rate run.plan.request.watch (emitted run.plan r.mux.events)
 
 -- What was taken of each input begins what can be taken of its source's bytes, where they are known.

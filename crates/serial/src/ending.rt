@@ -7,7 +7,6 @@ ghost use Rattle.serial.specs.Ending.{AreReported, ArePeaks};
 use crate::serial_input::SerialInput;
 use crate::summary::{InputSummary, Summary};
 use mux::{Mux, Peak};
-use plan::Plan;
 use reading::Source;
 use std::alloc::{AllocError, Global};
 
@@ -45,22 +44,20 @@ pub(crate) fn end_streams(alloc: Global, mux: &Mux, streams: usize) -> Result<Ve
     Ok(peaks)
 }
 
-/// What became of a run of this plan, with so many faults told, and its readers. An input that wasn't closed is left.
+/// What became of a run, with so many faults told, and its readers. An input that wasn't closed is left.
 pub(crate) fn end_run<R: Source + Drop>(
     alloc: Global,
-    plan: &Plan,
     mux: &Mux,
     inputs: Vec<SerialInput<R>>,
     faults: u64,
 ) -> Result<(Summary, Vec<R>), AllocError>
-    requires inputs { length inputs.items ≡ length mux.now.run.plan.request.inputs }
-    requires plan { plan.now ≡ mux.now.run.plan }
+    requires { length inputs.items ≡ length mux.now.run.plan.request.inputs }
     ensures inputs { IfOk result (λ done. AreReported mux.now.run.plan mux.now.events inputs.items done.0.inputs.items done.1.items) }
     ensures streams { IfOk result (λ done. ArePeaks mux.now.run.plan mux.now.events done.0.streams.items) }
     ensures counts { IfOk result (λ done. IsCounts mux.now.events done.0.counts) }
     ensures faults { IfOk result (λ done. done.0.faults ≡ faults) }
 {
-    let streams = end_streams(alloc, mux, plan.streams().len())?;
+    let streams = end_streams(alloc, mux, mux.plan().streams().len())?;
     let (inputs, readers) = end_inputs(alloc, mux, inputs)?;
     let summary = Summary {
         inputs,

@@ -15,25 +15,22 @@ ghost use Rattle.reading.specs.PacketReading.{TellsFailures};
 
 use crate::serial_input::SerialInput;
 use mux::{Mux, Offered};
-use plan::Plan;
 use reading::Source;
 use std::alloc::AllocError;
 
 /// Gives the multiplex the next packet of an input that it waits for, or closes the input where there is none. A packet
 /// whose queue is full stays held. An `Err` is want of memory for an input that was still read.
 pub(crate) fn pull<R: Source>(
-    plan: &Plan,
     mux: &mut Mux,
     number: usize,
     input: &mut SerialInput<R>,
     piece: &mut [u8],
 ) -> Result<(), AllocError>
-    requires plan { mux.old.run.plan ≡ plan.now }
     requires unready { IsLeastUnready mux.old number }
     requires piece { 0 < length piece.old }
-    requires feeds { (start : Option (List ℕ)) × Feeds R.remaining plan.now mux.old.events number start input.old }
-    ensures feeds { OnOk result ((start : Option (List ℕ)) → Feeds R.remaining plan.now mux.old.events number start input.old
-        → Feeds R.remaining plan.now mux.new.events number start input.new) }
+    requires feeds { (start : Option (List ℕ)) × Feeds R.remaining mux.old.run.plan mux.old.events number start input.old }
+    ensures feeds { OnOk result ((start : Option (List ℕ)) → Feeds R.remaining mux.old.run.plan mux.old.events number start input.old
+        → Feeds R.remaining mux.old.run.plan mux.new.events number start input.new) }
     ensures going { OnOk result (input.new.reader.report.stopped ≡ None → input.old.reader.report.stopped ≡ None) }
     ensures noted { OnOk result ((st : Stream) → mux.new ≡ with_event mux.old (Event.Full number st)
         → Holds number st input.new) }
@@ -46,7 +43,7 @@ pub(crate) fn pull<R: Source>(
     ensures reading { OnErr result (input.old.reader.report.stopped ≡ None) }
     ensures err { OnErr result (mux.new ≡ mux.old) }
 {
-    if input.reader.find(plan, piece)? {
+    if input.reader.find(mux.plan(), piece)? {
         give(mux, number, input);
         Ok(())
     } else {
@@ -57,25 +54,23 @@ pub(crate) fn pull<R: Source>(
 
 /// The same of the input at this place.
 pub(crate) fn pull_at<R: Source>(
-    plan: &Plan,
     mux: &mut Mux,
     number: usize,
     inputs: &mut Vec<SerialInput<R>>,
     piece: &mut [u8],
 ) -> Result<(), AllocError>
-    requires plan { mux.old.run.plan ≡ plan.now }
     requires unready { IsLeastUnready mux.old number }
     requires piece { 0 < length piece.old }
-    requires fed { (starts : List (Option (List ℕ))) × AreFed R.remaining plan.now mux.old.events starts inputs.old.items }
+    requires fed { (starts : List (Option (List ℕ))) × AreFed R.remaining mux.old.run.plan mux.old.events starts inputs.old.items }
     ensures fed { OnOk result ((starts : List (Option (List ℕ)))
-        → AreFed R.remaining plan.now mux.old.events starts inputs.old.items
-        → AreFed R.remaining plan.now mux.new.events starts inputs.new.items) }
+        → AreFed R.remaining mux.old.run.plan mux.old.events starts inputs.old.items
+        → AreFed R.remaining mux.old.run.plan mux.new.events starts inputs.new.items) }
     ensures going { OnOk result (AreUnstopped inputs.new.items → AreUnstopped inputs.old.items) }
     ensures faithful { OnOk result ((starts : List (Option (List ℕ)))
-        → AreFed R.remaining plan.now mux.old.events starts inputs.old.items
+        → AreFed R.remaining mux.old.run.plan mux.old.events starts inputs.old.items
         → AreKnown starts → AreUnstopped inputs.new.items
-        → IsFaithful (packet_lists plan.now starts) mux.old.events
-        → IsFaithful (packet_lists plan.now starts) mux.new.events) }
+        → IsFaithful (packet_lists mux.old.run.plan starts) mux.old.events
+        → IsFaithful (packet_lists mux.old.run.plan starts) mux.new.events) }
     ensures event { OnOk result ((e : Event) × (mux.new ≡ with_event mux.old e) × IsOfInput number e) }
     ensures fewer { OnOk result (turns_left number mux.new.events < turns_left number mux.old.events) }
     ensures limited { OnOk result ((limit : ℕ) → AreLimited limit inputs.old.items → AreLimited limit inputs.new.items) }
@@ -83,13 +78,13 @@ pub(crate) fn pull_at<R: Source>(
         → AllTellFailures R.failures befores inputs.old.items
         → AllTellFailures R.failures befores inputs.new.items }
     ensures halted { OnErr result ((limit : ℕ) (starts : List (Option (List ℕ)))
-        → AreFed R.remaining plan.now mux.old.events starts inputs.old.items
+        → AreFed R.remaining mux.old.run.plan mux.old.events starts inputs.old.items
         → AreLimited limit inputs.old.items
-        → (AreKnown starts → AreUnstopped inputs.old.items → IsFaithful (packet_lists plan.now starts) mux.old.events)
-        → AreHalted limit plan.now mux.old.events starts inputs.new.items) }
+        → (AreKnown starts → AreUnstopped inputs.old.items → IsFaithful (packet_lists mux.old.run.plan starts) mux.old.events)
+        → AreHalted limit mux.old.run.plan mux.old.events starts inputs.new.items) }
     ensures err { OnErr result (mux.new ≡ mux.old) }
 {
-    pull(plan, mux, number, &mut inputs[number], piece)
+    pull(mux, number, &mut inputs[number], piece)
 }
 
 /// Closes an input of which nothing is left.

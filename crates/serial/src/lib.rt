@@ -16,9 +16,7 @@ mod summary;
 #[cfg(test)]
 mod tests;
 
-pub use packet_writer::PacketWriter;
 pub use run::{run_serial, run_serial_within};
 pub use run_fault::RunFault;
-pub use serial_input::INPUT_LIMIT;
 pub use sink::{Sink, WriteSink};
 pub use summary::{InputSummary, Summary};

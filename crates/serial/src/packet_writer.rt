@@ -14,7 +14,7 @@ const ROOM: usize = 65_424;
 
 /// Packets on their way to a sink: a buffer that is written whenever it is full.
 #[derive(Drop)]
-pub struct PacketWriter {
+pub(crate) struct PacketWriter {
     bytes: Vec<u8>,
     count: usize,
 }

@@ -6,14 +6,14 @@ ghost use Rattle.mux.specs.declared.event.Event.{Event};
 ghost use Rattle.mux.specs.Plans.{IsMultiplexPlan};
 ghost use Rattle.reading.specs.Failures.{FailsOnce};
 ghost use Rattle.serial.specs.Outcome.{HasRun, HasBegun, FailuresAreTold};
+ghost use Rattle.serial.specs.Running.{TakesAsNeeded};
 
 use crate::run_fault::RunFault;
-use crate::serial_input::INPUT_LIMIT;
 use crate::serial_run::SerialRun;
 use crate::sink::Sink;
 use crate::summary::Summary;
 use plan::Plan;
-use reading::Source;
+use reading::{INPUT_LIMIT, Source};
 use std::alloc::Global;
 
 /// Runs a plan in one thread: reads one reader an input, at most 3,154,116,608 bytes of each, and writes the packet of each slot,
@@ -21,8 +21,9 @@ use std::alloc::Global;
 ///
 /// The memory that it takes grows neither with the slots nor with the inputs. The writer comes back, and without a fault the
 /// readers too, in their order, each read as far as the run read it.
-/// `Memory` is answered where memory was refused, and goes before `Write`, which is answered where the writer failed; what
-/// was written is then a beginning of the output. A reader that fails ends its input, and the run goes on.
+/// An input is read only where the multiplex waits for it: no packet is taken ahead. `Memory` is answered where memory was
+/// refused before any write failed, and `Write` where the writer failed; what was written is then a beginning of the output.
+/// A reader that fails ends its input, and the run goes on.
 pub fn run_serial<R: Source + Drop, W: Sink>(
     alloc: Global,
     plan: Plan,
@@ -35,7 +36,8 @@ pub fn run_serial<R: Source + Drop, W: Sink>(
     ensures runs { IfOk result.1 (λ done. (h : List Event)
         × HasRun (record { run = record { plan = plan; limit = slots }; events = h }) 3154116608
         (map R.remaining readers.items) (map R.remaining done.1.items)
-        (W.contents writer) (W.contents result.0) done.0) }
+        (W.contents writer) (W.contents result.0) done.0
+        × TakesAsNeeded (record { plan = plan; limit = slots }) h) }
     ensures begins { OnErr result.1 ((h : List Event)
         × HasBegun R.failures (record { run = record { plan = plan; limit = slots }; events = h }) 3154116608
         (map R.remaining readers.items) readers.items (W.contents writer) (W.contents result.0)) }
@@ -64,7 +66,8 @@ pub fn run_serial_within<R: Source + Drop, W: Sink>(
     ensures runs { IfOk result.1 (λ done. (h : List Event)
         × HasRun (record { run = record { plan = plan; limit = slots }; events = h }) limit
         (map R.remaining readers.items) (map R.remaining done.1.items)
-        (W.contents writer) (W.contents result.0) done.0) }
+        (W.contents writer) (W.contents result.0) done.0
+        × TakesAsNeeded (record { plan = plan; limit = slots }) h) }
     ensures begins { OnErr result.1 ((h : List Event)
         × HasBegun R.failures (record { run = record { plan = plan; limit = slots }; events = h }) limit
         (map R.remaining readers.items) readers.items (W.contents writer) (W.contents result.0)) }
@@ -103,7 +106,8 @@ fn run_to<R: Source + Drop, W: Sink>(
     ensures runs { IfOk result (λ done. (h : List Event)
         × HasRun (record { run = record { plan = plan; limit = slots }; events = h }) limit
         (map R.remaining readers.items) (map R.remaining done.1.items)
-        (W.contents sink.old) (W.contents sink.new) done.0) }
+        (W.contents sink.old) (W.contents sink.new) done.0
+        × TakesAsNeeded (record { plan = plan; limit = slots }) h) }
     ensures begins { OnErr result ((h : List Event)
         × HasBegun R.failures (record { run = record { plan = plan; limit = slots }; events = h }) limit
         (map R.remaining readers.items) readers.items (W.contents sink.old) (W.contents sink.new)) }

@@ -4,9 +4,6 @@ use plan::Plan;
 use reading::{PacketReader, Source};
 use std::alloc::Global;
 
-/// How many bytes an input of a run of few slots may have, at most: 16,777,216 packets.
-pub const INPUT_LIMIT: u64 = 3_154_116_608;
-
 /// An input, and whether the multiplex was told that nothing more comes of it.
 #[derive(Drop)]
 pub(crate) struct SerialInput<R> {

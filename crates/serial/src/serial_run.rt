@@ -19,7 +19,6 @@ const PIECE: usize = 65_536;
 /// A run in one thread: the multiplex, its inputs, and what the output goes through.
 #[derive(Drop)]
 pub(crate) struct SerialRun<R> {
-    plan: Plan,
     mux: Mux,
     inputs: Vec<SerialInput<R>>,
     piece: Vec<u8>,
@@ -58,9 +57,8 @@ impl<R: Source + Drop> SerialRun<R> {
     {
         let inputs = open_inputs(alloc, &plan, limit, readers)?;
         let output = SlotWriter::new(alloc, plan.rate(), plan.request().watch())?;
-        let mux = Mux::open(alloc, plan.copy(alloc)?, slots)?;
+        let mux = Mux::open(alloc, plan, slots)?;
         Ok(SerialRun {
-            plan,
             mux,
             inputs,
             piece: vec![in alloc; 0; PIECE]?,
@@ -78,21 +76,19 @@ impl<R: Source + Drop> SerialRun<R> {
 
     /// What became of the run, and its readers.
     pub fn finish(self, alloc: Global) -> Result<(Summary, Vec<R>), AllocError>
-        requires inputs { length self.inputs.items ≡ length self.mux.run.plan.request.inputs }
-        requires plan { self.plan ≡ self.mux.run.plan }
+        requires { length self.inputs.items ≡ length self.mux.run.plan.request.inputs }
         ensures inputs { IfOk result (λ done. AreReported self.mux.run.plan self.mux.events self.inputs.items done.0.inputs.items done.1.items) }
         ensures streams { IfOk result (λ done. ArePeaks self.mux.run.plan self.mux.events done.0.streams.items) }
         ensures counts { IfOk result (λ done. IsCounts self.mux.events done.0.counts) }
         ensures faults { IfOk result (λ done. done.0.faults ≡ self.output.faults) }
     {
         let SerialRun {
-            plan,
             mux,
             inputs,
             output,
             ..
         } = self;
-        end_run(alloc, &plan, &mux, inputs, output.faults())
+        end_run(alloc, &mux, inputs, output.faults())
     }
 
     /// Sends slots until nothing is left to send or the run has all its slots, and writes what is in the buffer.
@@ -103,8 +99,8 @@ impl<R: Source + Drop> SerialRun<R> {
         ensures over { OnOk result (IsOver self.old.mux.run self.new.mux.events) }
         ensures failures { OnOk result (W.failures sink.new ≡ W.failures sink.old) }
         ensures written { OnOk result ((before : Option (List ℕ))
-            → Sends before (W.contents sink.old) (bytes_of (emitted self.old.plan self.old.mux.events)) self.old.output.writer
-            → Appends before (W.contents sink.new) (bytes_of (emitted self.old.plan self.new.mux.events))) }
+            → Sends before (W.contents sink.old) (bytes_of (emitted self.old.mux.run.plan self.old.mux.events)) self.old.output.writer
+            → Appends before (W.contents sink.new) (bytes_of (emitted self.old.mux.run.plan self.new.mux.events))) }
         ensures halted { OnErr result ((run : Run) (limit : ℕ) (starts : List (Option (List ℕ)))
             → IsRunning R.remaining run limit starts self.old
             → AreHalted limit run.plan self.new.mux.events starts self.new.inputs.items) }
@@ -112,10 +108,9 @@ impl<R: Source + Drop> SerialRun<R> {
             → AllTellFailures R.failures befores self.old.inputs.items
             → AllTellFailures R.failures befores self.new.inputs.items }
         ensures run { self.new.mux.run ≡ self.old.mux.run }
-        ensures plan { self.new.plan ≡ self.old.plan }
         ensures sent_begun { OnErr result ((before : Option (List ℕ))
-            → Sends before (W.contents sink.old) (bytes_of (emitted self.old.plan self.old.mux.events)) self.old.output.writer
-            → SendsBeginning before (W.contents sink.new) (bytes_of (emitted self.old.plan self.new.mux.events))) }
+            → Sends before (W.contents sink.old) (bytes_of (emitted self.old.mux.run.plan self.old.mux.events)) self.old.output.writer
+            → SendsBeginning before (W.contents sink.new) (bytes_of (emitted self.old.mux.run.plan self.new.mux.events))) }
         ensures memory { result ≡ Err RunFault.Memory → W.failures sink.new ≡ W.failures sink.old }
         ensures failed { result ≡ Err RunFault.Write
             → FailsOnce (W.failures sink.old) (W.failures sink.new) }
@@ -138,8 +133,8 @@ impl<R: Source + Drop> SerialRun<R> {
             → steps_left self.old.mux.run self.new.mux.events < steps_left self.old.mux.run self.old.mux.events }
         ensures over { result ≡ Ok true → IsOver self.old.mux.run self.new.mux.events }
         ensures written { OnOk result ((before : Option (List ℕ))
-            → Sends before (W.contents sink.old) (bytes_of (emitted self.old.plan self.old.mux.events)) self.old.output.writer
-            → Sends before (W.contents sink.new) (bytes_of (emitted self.old.plan self.new.mux.events)) self.new.output.writer) }
+            → Sends before (W.contents sink.old) (bytes_of (emitted self.old.mux.run.plan self.old.mux.events)) self.old.output.writer
+            → Sends before (W.contents sink.new) (bytes_of (emitted self.old.mux.run.plan self.new.mux.events)) self.new.output.writer) }
         ensures halted { OnErr result ((run : Run) (limit : ℕ) (starts : List (Option (List ℕ)))
             → IsRunning R.remaining run limit starts self.old
             → AreHalted limit run.plan self.new.mux.events starts self.new.inputs.items) }
@@ -147,10 +142,9 @@ impl<R: Source + Drop> SerialRun<R> {
             → AllTellFailures R.failures befores self.old.inputs.items
             → AllTellFailures R.failures befores self.new.inputs.items }
         ensures run { self.new.mux.run ≡ self.old.mux.run }
-        ensures plan { self.new.plan ≡ self.old.plan }
         ensures sent_begun { OnErr result ((before : Option (List ℕ))
-            → Sends before (W.contents sink.old) (bytes_of (emitted self.old.plan self.old.mux.events)) self.old.output.writer
-            → SendsBeginning before (W.contents sink.new) (bytes_of (emitted self.old.plan self.new.mux.events))) }
+            → Sends before (W.contents sink.old) (bytes_of (emitted self.old.mux.run.plan self.old.mux.events)) self.old.output.writer
+            → SendsBeginning before (W.contents sink.new) (bytes_of (emitted self.old.mux.run.plan self.new.mux.events))) }
         ensures failures { OnOk result (W.failures sink.new ≡ W.failures sink.old) }
         ensures memory { result ≡ Err RunFault.Memory → W.failures sink.new ≡ W.failures sink.old }
         ensures failed { result ≡ Err RunFault.Write
@@ -164,7 +158,7 @@ impl<R: Source + Drop> SerialRun<R> {
             }
             Sending::NotReady(input) => {
                 let piece = self.piece.as_mut_slice();
-                pull_at(&self.plan, &mut self.mux, input, &mut self.inputs, piece)?;
+                pull_at(&mut self.mux, input, &mut self.inputs, piece)?;
                 Ok(false)
             }
             Sending::Done | Sending::RunFull => Ok(true),

@@ -55,7 +55,7 @@ impl SlotWriter {
         ensures begun { OnErr result
             (SendsBeginning (W.contents sink.old) (W.contents sink.new) (self.old.writer ++ packet.now)) }
         ensures failures { OnOk result (W.failures sink.new ≡ W.failures sink.old) }
-        ensures memory { result ≡ Err RunFault.Memory → W.failures sink.new ≡ W.failures sink.old }
+        ensures memory { result ≡ Err RunFault.Memory → sink.new ≡ sink.old }
         ensures failed { result ≡ Err RunFault.Write
             → FailsOnce (W.failures sink.old) (W.failures sink.new) }
     {

@@ -5,6 +5,7 @@ use Rattle.std.specs.Io.KnownBytes.{Consumes}
 use Rattle.reading.specs.PacketReading.{HasRead, ReadsOn, GoesOn, TellsFailures}
 use Rattle.reading.specs.declared.packet_reader.PacketReader.{PacketReader}
 use Rattle.reading.proofs.KnownLaws.{consumes_on}
+use Rattle.reading.proofs.PacketLaws.{reads_nothing, reads_told}
 use Rattle.port.specs.Rings.{PortValue}
 use Rattle.plan.specs.Build.{PlanValue}
 use Rattle.tspkt.specs.declared.stamped.Stamped.{Stamped}
@@ -33,7 +34,7 @@ sends_sends remaining failures a b c u v = record {
   limit = v.limit ∙ u.limit;
 }
 
--- the next packet was looked for
+-- the input was read on
 pub sends_found : {R G : Type 0} (remaining : R → Option (List ℕ)) (failures : R → ℕ) (a : Sender R G) (x : PacketReader R) → ReadsOn remaining a.plan a.reader x → GoesOn failures a.reader x
     → SendsOn remaining failures a (record a { reader = x })
 sends_found remaining failures a x reads goes = record {
@@ -47,6 +48,13 @@ sends_found remaining failures a x reads goes = record {
   origin = goes.origin;
   limit = goes.limit;
 }
+
+-- the next packet was looked for among what was read
+pub sends_looked : {R G : Type 0} (remaining : R → Option (List ℕ)) (failures : R → ℕ) (a : Sender R G) (x : PacketReader R)
+    → ((bytes : List ℕ) (given : List Stamped) → HasRead remaining a.plan a.reader bytes given → HasRead remaining a.plan x bytes given)
+    → x.stream.source ≡ a.reader.stream.source → GoesOn failures a.reader x → SendsOn remaining failures a (record a { reader = x })
+sends_looked remaining failures a x same source goes =
+    sends_found remaining failures a x (reads_told remaining a.plan a.reader a.reader x (reads_nothing remaining a.plan a.reader) same source) goes
 
 -- the packet that the reader held was sent
 pub sends_released : {R G : Type 0} (remaining : R → Option (List ℕ)) (failures : R → ℕ) (a : Sender R G) (x : PacketReader R) (port : PortValue) (item : Stamped)

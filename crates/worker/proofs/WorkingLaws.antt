@@ -42,12 +42,12 @@ counts_of plan o items old report is counts =
     subst P (sym is) (counted_stopped plan o items old report.stopped counts)
 
 -- what a reader gave was sent, and this is told of it
-pub sent_of : {R : Type 0} (remaining : R → Option (List ℕ)) (plan : PlanValue) (x : PacketReader R) (start : Option (List ℕ)) (bytes : List ℕ) (sent : List Stamped) (stop : Option Stop) (is_ended : Bool) (report : Report)
-    → Consumes start (remaining x.stream.source) bytes → HasRead remaining plan x bytes sent → x.stream.items.limit ≡ 3154116608
+pub sent_of : {R : Type 0} (remaining : R → Option (List ℕ)) (most : ℕ) (plan : PlanValue) (x : PacketReader R) (start : Option (List ℕ)) (bytes : List ℕ) (sent : List Stamped) (stop : Option Stop) (is_ended : Bool) (report : Report)
+    → Consumes start (remaining x.stream.source) bytes → HasRead remaining plan x bytes sent → x.stream.items.limit ≡ most
     → IsLastCause stop x.report.stopped is_ended report.stopped → IfSome stop (λ s. (s ≡ Gate) ⊎ (s ≡ Memory))
     → (stop ≡ None → IsSpent x ⊎ (x.report.stopped ≡ Some Memory)) → report ≡ record x.report { stopped = report.stopped }
-    → HasSentOf plan x.origin start (remaining x.stream.source) report sent
-sent_of remaining plan x start bytes sent stop is_ended report read has limit cause own over counts = record {
+    → HasSentOf most plan x.origin start (remaining x.stream.source) report sent
+sent_of remaining most plan x start bytes sent stop is_ended report read has limit cause own over counts = record {
   bytes = bytes;
   read = read;
   begins = given_begins remaining plan x bytes sent has;
@@ -78,20 +78,20 @@ if_some_so None P Q f h = h
 if_some_so (Some x) P Q f h = f x h
 
 -- what a worker did, from what its sending did
-pub worked : {R G : Type 0} (remaining : R → Option (List ℕ)) (failures : R → ℕ) (a b : Sender R G) (plan : PlanValue) (origin : OriginValue) (source left : R) (stop : Option Stop) (report : Report) (finished : FinishedValue)
-    → a.plan ≡ plan → a.reader.origin ≡ origin → a.reader.stream.source ≡ source → a.reader.stream.items.limit ≡ 3154116608 → HasRead remaining a.plan a.reader [] [] → a.port.sent ≡ []
+pub worked : {R G : Type 0} (remaining : R → Option (List ℕ)) (failures : R → ℕ) (most : ℕ) (a b : Sender R G) (plan : PlanValue) (origin : OriginValue) (source left : R) (stop : Option Stop) (report : Report) (finished : FinishedValue)
+    → a.plan ≡ plan → a.reader.origin ≡ origin → a.reader.stream.source ≡ source → a.reader.stream.items.limit ≡ most → HasRead remaining a.plan a.reader [] [] → a.port.sent ≡ []
     → SendsOn remaining failures a b → left ≡ b.reader.stream.source → (stop ≡ None → IsSpent b.reader ⊎ (b.reader.report.stopped ≡ Some Memory)) → IfSome stop (λ s. (s ≡ Gate) ⊎ (s ≡ Memory))
     → report ≡ record b.reader.report { stopped = report.stopped } → IsLastCause stop b.reader.report.stopped finished.is_ended report.stopped → IfSome finished.shown (λ port. port ≡ b.port)
-    → HasWorked plan origin (remaining source) (remaining left) a.port.ring report finished
-worked {R} {G} remaining failures a b plan origin source left stop report finished plan_is origin_is source_is limit fresh unsent on left_is over own counts cause shown =
+    → HasWorked most plan origin (remaining source) (remaining left) a.port.ring report finished
+worked {R} {G} remaining failures most a b plan origin source left stop report finished plan_is origin_is source_is limit fresh unsent on left_is over own counts cause shown =
     let start = remaining source in
     let C : R → Type 0 = λ v. Consumes start (remaining v) [] in
     let H : List Stamped → Type 0 = HasRead remaining a.plan a.reader [] in
     let r = on.sent start ([], subst C (sym source_is) (consumes_nothing start), subst H (sym unsent) fresh) in
-    let s = sent_of remaining b.plan b.reader start r.0 b.port.sent stop finished.is_ended report r.1 r.2 (on.limit ∙ limit) cause own over counts in
-    let P : PlanValue → Type 0 = λ v. HasSentOf v b.reader.origin start (remaining b.reader.stream.source) report b.port.sent in
-    let O : OriginValue → Type 0 = λ v. HasSentOf plan v start (remaining b.reader.stream.source) report b.port.sent in
-    let L : R → Type 0 = λ v. HasSentOf plan origin start (remaining v) report b.port.sent in (
+    let s = sent_of remaining most b.plan b.reader start r.0 b.port.sent stop finished.is_ended report r.1 r.2 (on.limit ∙ limit) cause own over counts in
+    let P : PlanValue → Type 0 = λ v. HasSentOf most v b.reader.origin start (remaining b.reader.stream.source) report b.port.sent in
+    let O : OriginValue → Type 0 = λ v. HasSentOf most plan v start (remaining b.reader.stream.source) report b.port.sent in
+    let L : R → Type 0 = λ v. HasSentOf most plan origin start (remaining v) report b.port.sent in (
       b.port.sent,
       subst L (sym left_is) (subst O (on.origin ∙ origin_is) (subst P (on.plan ∙ plan_is) s)),
       if_some_so finished.shown (λ port. port ≡ b.port) (λ port. port ≡ record { ring = a.port.ring; sent = b.port.sent })

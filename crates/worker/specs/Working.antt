@@ -27,8 +27,8 @@ pub record IsCounted (plan : PlanValue) (origin : OriginValue) (bytes : List ℕ
   pub held : Option Stamped
   pub sent_is : takeable plan origin looked ≡ sent ++ option_to_list held
 
--- Of a source that had these bytes to give at first and has those left, the worker sent these packets.
-pub record HasSentOf (plan : PlanValue) (origin : OriginValue) (start left : Option (List ℕ)) (report : Report) (sent : List Stamped) : Type 0 where
+-- Of a source that had these bytes to give at first and has those left, and may have so many, the worker sent these packets.
+pub record HasSentOf (limit : ℕ) (plan : PlanValue) (origin : OriginValue) (start left : Option (List ℕ)) (report : Report) (sent : List Stamped) : Type 0 where
   pub bytes : List ℕ
   pub read : Consumes start left bytes
   -- they begin what can be taken of the bytes that were read, whatever follows these
@@ -37,11 +37,11 @@ pub record HasSentOf (plan : PlanValue) (origin : OriginValue) (start left : Opt
   pub whole : report.stopped ≡ None → IsSentWhole plan origin bytes left report sent
   -- at a failed read they are all of it too
   pub failed : report.stopped ≡ Some ReadFailed → sent ≡ takeable plan origin (framed 188 bytes)
-  pub too_much : report.stopped ≡ Some TooMuch → 3154116608 < length bytes
+  pub too_much : report.stopped ≡ Some TooMuch → limit < length bytes
   pub counted : IsCounted plan origin bytes left report sent
 
 -- What its port sent, as far as the ring shows it, is what it read.
-abbrev pub HasWorked : PlanValue → OriginValue → Option (List ℕ) → Option (List ℕ) → RingId → Report → FinishedValue → Type 0
-HasWorked plan origin start left ring report finished =
-    (sent : List Stamped) × HasSentOf plan origin start left report sent
+abbrev pub HasWorked : ℕ → PlanValue → OriginValue → Option (List ℕ) → Option (List ℕ) → RingId → Report → FinishedValue → Type 0
+HasWorked limit plan origin start left ring report finished =
+    (sent : List Stamped) × HasSentOf limit plan origin start left report sent
     × IfSome finished.shown (λ port. port ≡ record { ring = ring; sent = sent })

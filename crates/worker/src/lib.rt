@@ -8,4 +8,4 @@ mod pause;
 mod sender;
 mod worker;
 
-pub use worker::{INPUT_LIMIT, Worker};
+pub use worker::Worker;

@@ -6,7 +6,7 @@ ghost use Rattle.port.specs.Stops.{StopsOnce};
 use crate::pause::pause;
 use plan::Plan;
 use port::{FinishedPort, Gate, Point, Port};
-use reading::{PacketReader, Report, Source, Stop};
+use reading::{Look, PacketReader, Report, Source, Stop};
 use std::alloc::Global;
 use std::sync::Wait;
 use std::time::Clock;
@@ -60,15 +60,21 @@ impl<R: Source + Drop, G: Gate + Drop> Sender<R, G> {
             → IsSpent self.new.reader ⊎ (self.new.reader.report.stopped ≡ Some Memory) }
     {
         for _ in rt.forever() {
-            if !self.gate.pass(Point::Read) {
-                return false;
-            }
-            match self.reader.find(&self.plan, piece) {
-                Ok(true) => {}
-                Ok(false) | Err(_) => return true,
-            }
-            if !self.send_held(rt) {
-                return false;
+            match self.reader.look(&self.plan) {
+                Look::Packet => {
+                    if !self.send_held(rt) {
+                        return false;
+                    }
+                }
+                Look::More => {
+                    if !self.gate.pass(Point::Read) {
+                        return false;
+                    }
+                    if self.reader.read(piece).is_err() {
+                        return true;
+                    }
+                }
+                Look::Over => return true,
             }
         }
         unreachable!()

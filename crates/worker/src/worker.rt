@@ -1,6 +1,7 @@
 //! A worker.
 
-ghost use Rattle.std.specs.Prelude.{◌≡◌, ◌<◌, length};
+ghost use Rattle.std.specs.Prelude.{◌≡◌, ◌<◌, ◌≤◌, length};
+ghost use Rattle.tspkt.specs.declared.framer.TheConstants.{MAX_LIMIT};
 
 use crate::sender::Sender;
 use plan::Plan;
@@ -10,19 +11,18 @@ use std::alloc::Global;
 use std::sync::Wait;
 use std::time::Clock;
 
-/// How many bytes an input may have, at most: 16,777,216 packets.
-pub const INPUT_LIMIT: u64 = 3_154_116_608;
-
-/// An input of a plan, what it is read from, the port that its packets go to, and the gate that may stop it.
+/// An input of a plan, how many bytes it may have, what it is read from, the port that its packets go to, and the gate that may stop it.
 #[derive(Drop)]
 pub struct Worker<R, G> {
     alloc: Global,
     plan: Plan,
     number: usize,
+    limit: u64,
     source: R,
     gate: G,
     port: Port,
     ghost known: { number < length plan.request.inputs },
+    ghost within: { limit ≤ MAX_LIMIT },
     ghost unsent: { length port.sent ≡ 0 },
 }
 
@@ -35,7 +35,8 @@ impl<R: Source + Drop, G: Gate + Drop> Worker<R, G> {
     ghost use Rattle.port.specs.Stops.{StopsOnce};
     ghost use Rattle.worker.specs.Working.{HasWorked};
 
-    /// The worker of the plan's input with this number, whose port sent nothing yet. It takes no memory before it runs.
+    /// The worker of the plan's input with this number, of at most `limit` bytes (up to 140,737,488,355,328), whose port sent
+    /// nothing yet. It takes no memory before it runs.
     pub fn new(
         alloc: Global,
         source: R,
@@ -43,16 +44,19 @@ impl<R: Source + Drop, G: Gate + Drop> Worker<R, G> {
         port: Port,
         plan: Plan,
         number: usize,
+        limit: u64,
     ) -> Worker<R, G>
         requires number { number < length plan.request.inputs }
+        requires limit { limit ≤ MAX_LIMIT }
         requires unsent { port.sent ≡ [] }
-        ensures input { (result.plan ≡ plan) × (result.number ≡ number) }
+        ensures input { (result.plan ≡ plan) × (result.number ≡ number) × (result.limit ≡ limit) }
         ensures ends { (result.source ≡ source) × (result.gate ≡ gate) × (result.port ≡ port) }
     {
         Worker {
             alloc,
             plan,
             number,
+            limit,
             source,
             gate,
             port,
@@ -60,14 +64,13 @@ impl<R: Source + Drop, G: Gate + Drop> Worker<R, G> {
     }
 
     /// Reads the input, and sends its packets that the plan names, each with its time, until the input ends, a fault ends it,
-    /// or the gate says no. Then it sends the end mark, unless the gate said no. The gate is asked before the next packet is
-    /// looked for, after each packet that went into the ring, and after each packet or end mark that found it full.
+    /// or the gate says no. Then it sends the end mark, unless the gate said no. The gate is asked before each read, after each packet that went into the ring, and after each packet or end mark that found it full.
     ///
     /// It answers what was found in the input, the finished port, and the source and the gate. Of several causes that stop it
     /// the first is told.
     pub fn run<T: Wait + Clock>(self, rt: &T) -> (Report, FinishedPort, R, G)
         ensures sent { (input : InputValue) → slice_get self.plan.request.inputs self.number ≡ Some input
-            → HasWorked self.plan (origin_of self.number input) (R.remaining self.source) (R.remaining result.2)
+            → HasWorked self.limit self.plan (origin_of self.number input) (R.remaining self.source) (R.remaining result.2)
             self.port.ring result.0 result.1 }
         ensures failed { result.0.stopped ≡ Some Stop.ReadFailed
             → FailsOnce (R.failures self.source) (R.failures result.2) }
@@ -78,13 +81,14 @@ impl<R: Source + Drop, G: Gate + Drop> Worker<R, G> {
             alloc,
             plan,
             number,
+            limit,
             source,
             gate,
             port,
         } = self;
         // What all requests keep is known with this.
         let _ = plan.request().rate();
-        let reader = PacketReader::new(alloc, number, &plan.inputs()[number], source, INPUT_LIMIT);
+        let reader = PacketReader::new(alloc, number, &plan.inputs()[number], source, limit);
         let mut sender = Sender {
             plan,
             reader,

@@ -2,7 +2,7 @@
 
 use super::bytes_of;
 use super::device::TestReader;
-use crate::{PacketReader, ReadSource, Report, Stop};
+use crate::{INPUT_LIMIT, PacketReader, ReadSource, Report, Stop};
 use acquire::Found;
 use plan::Plan;
 use request::{Input, InputParts, Parts, Request, ServiceParts, StreamParts};
@@ -110,7 +110,7 @@ fn times(alloc: Global, step: usize, fails_at: usize) -> Result<(Vec<u64>, Repor
         rate: 10_000_000,
         offset: 0,
     };
-    let mut input = PacketReader::new(alloc, 0, &input, ReadSource::new(device), 3_154_116_608);
+    let mut input = PacketReader::new(alloc, 0, &input, ReadSource::new(device), INPUT_LIMIT);
     let mut times = Vec::new(alloc);
     let mut piece = [0; 1000];
     for _ in 0..10 {

@@ -3,10 +3,10 @@ use Rattle.plan.specs.Build.{PlanValue}
 use Rattle.serial.proofs.ending.end_run.Goals as goal
 
 pub end_streams-requires : goal.end_streams-requires
-end_streams-requires g c = ap length c.streams.ensures ∙ ap (λ (v : PlanValue). length v.request.streams) c.requires.plan
+end_streams-requires g c = ap length c.streams.ensures ∙ ap (λ (v : PlanValue). length v.request.streams) c.plan.ensures
 
 pub end_inputs-requires : goal.end_inputs-requires
-end_inputs-requires g c = c.requires.inputs
+end_inputs-requires g c = c.requires
 
 pub returns-clause-inputs : goal.returns-clause-inputs
 returns-clause-inputs g c = c.in_ok-inputs.ensures

@@ -4,7 +4,8 @@ use Rattle.serial.proofs.SendingLaws.{on_err_always}
 use Rattle.plan.specs.Build.{PlanValue}
 use Rattle.mux.specs.History.{History, taken}
 use Rattle.serial.specs.declared.serial_input.SerialInput.{SerialInput}
-use Rattle.serial.specs.Feeding.{Feeds, MayBeTaken}
+use Rattle.reading.specs.PacketReading.{ReadsOn}
+use Rattle.serial.specs.Feeding.{Feeds}
 use Rattle.serial.proofs.FeedingLaws.{given_on, given_released, some_held, waited_for, next_may_be_taken, feeds_closed, feeds_given, fewer, few_given}
 use Rattle.serial.proofs.feeding.pull.Goals as goal
 
@@ -16,10 +17,9 @@ give-requires-clause-may g c =
     let feeds = c.requires.feeds in
     let item = some_held x.reader.held (c.find.ensures.found (c.in_ok-find.was ∙ ap Ok c.if-branch.true)) in
     let wait = waited_for h.run.plan i h.events c.requires.unready.unready in
-    let given = given_on g.R.Source.remaining c.args.plan.now i feeds.0 c.args.input.now x (taken i h.events) feeds.1.given c.find.ensures.read c.find.ensures.goes.origin c.find.ensures.goes.limit in
-    let released = given_released g.R.Source.remaining c.args.plan.now i feeds.0 x (taken i h.events) item.0 item.1 given in
-    let P : PlanValue → Type 0 = λ p. MayBeTaken p h.events i item.0 in
-    (item.0, item.1, subst P (sym c.requires.plan) (next_may_be_taken g.R.Source.remaining c.args.plan.now h.events i feeds.0 _ item.0 wait.open_ released.0))
+    let given = given_on g.R.Source.remaining c.args.mux.now.run.plan i feeds.0 c.args.input.now x (taken i h.events) feeds.1.given (subst (λ (v : PlanValue). ReadsOn g.R.Source.remaining v c.args.input.now.reader c.find.new.self) c.plan.ensures c.find.ensures.read) c.find.ensures.goes.origin c.find.ensures.goes.limit in
+    let released = given_released g.R.Source.remaining c.args.mux.now.run.plan i feeds.0 x (taken i h.events) item.0 item.1 given in
+    (item.0, item.1, next_may_be_taken g.R.Source.remaining c.args.mux.now.run.plan h.events i feeds.0 _ item.0 wait.open_ released.0)
 
 pub returns-then-branch-clause-feeds : goal.returns-then-branch-clause-feeds
 returns-then-branch-clause-feeds g c =
@@ -29,8 +29,8 @@ returns-then-branch-clause-feeds g c =
     let item = some_held x.reader.held (c.find.ensures.found (c.in_ok-find.was ∙ ap Ok c.if-branch.true)) in
     let wait = waited_for h.run.plan i h.events c.requires.unready.unready in
     λ start feeds.
-    feeds_given g.R.Source.remaining c.args.plan.now h c.give.new.mux i start x c.give.new.input item.0 (c.give.ensures item.0 item.1) item.1
-    (given_on g.R.Source.remaining c.args.plan.now i start c.args.input.now x (taken i h.events) feeds.given c.find.ensures.read c.find.ensures.goes.origin c.find.ensures.goes.limit)
+    feeds_given g.R.Source.remaining c.args.mux.now.run.plan h c.give.new.mux i start x c.give.new.input item.0 (c.give.ensures item.0 item.1) item.1
+    (given_on g.R.Source.remaining c.args.mux.now.run.plan i start c.args.input.now x (taken i h.events) feeds.given (subst (λ (v : PlanValue). ReadsOn g.R.Source.remaining v c.args.input.now.reader c.find.new.self) c.plan.ensures c.find.ensures.read) c.find.ensures.goes.origin c.find.ensures.goes.limit)
     wait.open_ feeds.closed (record { unleft = λ e. feeds.own.unleft (c.find.ensures.goes.unleft e); unrefused = λ e. feeds.own.unrefused (c.in_ok-find.ensures.unrefused e) })
 
 pub returns-then-branch-clause-fewer : goal.returns-then-branch-clause-fewer
@@ -41,9 +41,9 @@ returns-then-branch-clause-fewer g c =
     let feeds = c.requires.feeds in
     let item = some_held x.reader.held (c.find.ensures.found (c.in_ok-find.was ∙ ap Ok c.if-branch.true)) in
     let wait = waited_for h.run.plan i h.events c.requires.unready.unready in
-    let given = given_on g.R.Source.remaining c.args.plan.now i feeds.0 c.args.input.now x (taken i h.events) feeds.1.given c.find.ensures.read c.find.ensures.goes.origin c.find.ensures.goes.limit in
-    let released = given_released g.R.Source.remaining c.args.plan.now i feeds.0 x (taken i h.events) item.0 item.1 given in
-    fewer h c.give.new.mux i x c.give.new.input item.0 (c.give.ensures item.0 item.1) (few_given g.R.Source.remaining c.args.plan.now i feeds.0 _ _ released.0) wait.noted
+    let given = given_on g.R.Source.remaining c.args.mux.now.run.plan i feeds.0 c.args.input.now x (taken i h.events) feeds.1.given (subst (λ (v : PlanValue). ReadsOn g.R.Source.remaining v c.args.input.now.reader c.find.new.self) c.plan.ensures c.find.ensures.read) c.find.ensures.goes.origin c.find.ensures.goes.limit in
+    let released = given_released g.R.Source.remaining c.args.mux.now.run.plan i feeds.0 x (taken i h.events) item.0 item.1 given in
+    fewer h c.give.new.mux i x c.give.new.input item.0 (c.give.ensures item.0 item.1) (few_given g.R.Source.remaining c.args.mux.now.run.plan i feeds.0 _ _ released.0) wait.noted
 
 pub returns-else-branch-clause-feeds : goal.returns-else-branch-clause-feeds
 returns-else-branch-clause-feeds g c =
@@ -52,14 +52,14 @@ returns-else-branch-clause-feeds g c =
     let x = record c.args.input.now { reader = c.find.new.self } in
     let done = c.find.ensures.done (c.in_ok-find.was ∙ ap Ok c.if-branch.false) in
     λ start feeds.
-    let given = given_on g.R.Source.remaining c.args.plan.now i start c.args.input.now x (taken i h.events) feeds.given c.find.ensures.read c.find.ensures.goes.origin c.find.ensures.goes.limit in
-    let M : History → Type 0 = λ v. Feeds g.R.Source.remaining c.args.plan.now v.events i start c.close.new.input in
-    let N : SerialInput _ → Type 0 = Feeds g.R.Source.remaining c.args.plan.now _ i start in
-    subst M (sym c.close.ensures.closed) (subst N (sym c.close.ensures.input) (feeds_closed g.R.Source.remaining c.args.plan.now h.events i start x given done
+    let given = given_on g.R.Source.remaining c.args.mux.now.run.plan i start c.args.input.now x (taken i h.events) feeds.given (subst (λ (v : PlanValue). ReadsOn g.R.Source.remaining v c.args.input.now.reader c.find.new.self) c.plan.ensures c.find.ensures.read) c.find.ensures.goes.origin c.find.ensures.goes.limit in
+    let M : History → Type 0 = λ v. Feeds g.R.Source.remaining c.args.mux.now.run.plan v.events i start c.close.new.input in
+    let N : SerialInput _ → Type 0 = Feeds g.R.Source.remaining c.args.mux.now.run.plan _ i start in
+    subst M (sym c.close.ensures.closed) (subst N (sym c.close.ensures.input) (feeds_closed g.R.Source.remaining c.args.mux.now.run.plan h.events i start x given done
     (record { unleft = λ e. feeds.own.unleft (c.find.ensures.goes.unleft e); unrefused = λ e. feeds.own.unrefused (c.in_ok-find.ensures.unrefused e) })))
 
 pub returns-in_err-find-clause-reading : goal.returns-in_err-find-clause-reading
 returns-in_err-find-clause-reading g c =
     let feeds = c.requires.feeds in
     let read = feeds.1.given.read in
-    on_err_always c.from_residual.result (unstopped_reading g.R.Source.remaining c.args.plan.now c.args.input.now.reader read.0 _ read.2 c.in_err-find.ensures.reading)
+    on_err_always c.from_residual.result (unstopped_reading g.R.Source.remaining c.args.mux.now.run.plan c.args.input.now.reader read.0 _ read.2 c.in_err-find.ensures.reading)

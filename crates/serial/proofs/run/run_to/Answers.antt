@@ -12,19 +12,12 @@ use Rattle.serial.proofs.HaltedLaws.{halted_running}
 use Rattle.serial.proofs.OutcomeLaws.{has_run, has_begun_nothing, has_begun, all_begun, nothing_sent, failures_told}
 use Rattle.serial.proofs.run.run_to.Goals as goal
 
-pub finish-requires-clause-inputs : goal.finish-requires-clause-inputs
-finish-requires-clause-inputs g c =
+pub finish-requires : goal.finish-requires
+finish-requires g c =
     let run : Run = record { plan = c.args.plan; limit = c.args.slots } in
     let starts = map g.R.Source.remaining c.args.readers.items in
     let is = c.in_ok-driven.ensures.runs run c.args.limit starts c.in_ok-run.ensures.running in
     is.fed.count ∙ ap (λ (v : Run). length v.plan.request.inputs) (sym is.run_is)
-
-pub finish-requires-clause-plan : goal.finish-requires-clause-plan
-finish-requires-clause-plan g c =
-    let run : Run = record { plan = c.args.plan; limit = c.args.slots } in
-    let starts = map g.R.Source.remaining c.args.readers.items in
-    let is = c.in_ok-driven.ensures.runs run c.args.limit starts c.in_ok-run.ensures.running in
-    is.plan_is ∙ ap (λ (v : Run). v.plan) (sym is.run_is)
 
 pub returns-clause-runs : goal.returns-clause-runs
 returns-clause-runs g c =
@@ -38,11 +31,13 @@ returns-clause-runs g c =
     let after = g.W.Sink.contents c.drive-driven.new.sink in
     let O : Run → Type 0 = λ v. IsOver v r.mux.events in
     let A : PlanValue → Type 0 = λ p. Appends before after (bytes_of (emitted p r.mux.events)) in
-    let written = subst A opened.running.plan_is (driven.written before (nothing_sent old.plan old.mux.events before old.output.writer opened.new opened.waiting)) in
+    let written = subst A (ap (λ (v : Run). v.plan) opened.running.run_is) (driven.written before (nothing_sent old.mux.run.plan old.mux.events before old.output.writer opened.new opened.waiting)) in
+    let is = driven.runs run c.args.limit starts opened.running in
     let told = c.in_ok-finish.ensures in (
       r.mux.events,
-      has_run g.R.Source.remaining run c.args.limit starts r before after c.in_ok-finish.field-0.0 c.in_ok-finish.field-0.1.items c.requires.slots (driven.runs run c.args.limit starts opened.running)
+      has_run g.R.Source.remaining run c.args.limit starts r before after c.in_ok-finish.field-0.0 c.in_ok-finish.field-0.1.items c.requires.slots is
           (subst O opened.running.run_is driven.over) c.slots.ensures.sound written told.inputs told.streams told.counts told.faults,
+      is.needed,
     )
 
 pub returns-clause-readers : goal.returns-clause-readers
@@ -83,7 +78,7 @@ returns-in_err-driven-clause-begins g c =
       has_begun failures run c.args.limit starts c.args.readers.items r before after c.requires.readers (c.drive-driven.ensures.run ∙ opened.running.run_is) c.slots.ensures.sound
           (c.in_err-driven.ensures.halted run c.args.limit starts opened.running)
           (c.drive-driven.ensures.failures_told (map failures c.args.readers.items) opened.failures)
-          (subst S opened.running.plan_is (c.in_err-driven.ensures.sent_begun before (nothing_sent old.plan old.mux.events before old.output.writer opened.new opened.waiting))),
+          (subst S (ap (λ (v : Run). v.plan) opened.running.run_is) (c.in_err-driven.ensures.sent_begun before (nothing_sent old.mux.run.plan old.mux.events before old.output.writer opened.new opened.waiting))),
     )
 
 pub returns-in_err-finish-clause-begins : goal.returns-in_err-finish-clause-begins
@@ -98,7 +93,7 @@ returns-in_err-finish-clause-begins g c =
     let after = g.W.Sink.contents c.drive-driven.new.sink in
     let failures = g.R.Source.failures in
     let A : PlanValue → Type 0 = λ p. Appends before after (bytes_of (emitted p r.mux.events)) in
-    let written = subst A opened.running.plan_is (driven.written before (nothing_sent old.plan old.mux.events before old.output.writer opened.new opened.waiting)) in
+    let written = subst A (ap (λ (v : Run). v.plan) opened.running.run_is) (driven.written before (nothing_sent old.mux.run.plan old.mux.events before old.output.writer opened.new opened.waiting)) in
     let is = driven.runs run c.args.limit starts opened.running in
     on_err_always c.from_residual-in_err-finish.result (
       r.mux.events,

@@ -1,7 +1,7 @@
-use Rattle.std.proofs.Common.{◌∙◌, sym, subst}
+use Rattle.std.proofs.Common.{◌∙◌, ap, sym, subst}
 use Rattle.std.proofs.lemmas.Result.{on_ok_weaker}
 use Rattle.plan.specs.Build.{PlanValue}
-use Rattle.mux.specs.History.{emitted}
+use Rattle.mux.specs.History.{Run, emitted}
 use Rattle.serial.specs.Written.{Sends, SendsBeginning}
 use Rattle.serial.specs.Sending.{bytes_of}
 use Rattle.serial.proofs.SendingLaws.{on_err_always, on_ok_always, on_err_weaker}
@@ -15,7 +15,7 @@ returns-in_err-step-clause-halted g c =
 
 pub returns-in_err-step-clause-sent_begun : goal.returns-in_err-step-clause-sent_begun
 returns-in_err-step-clause-sent_begun g c =
-    let plan = c.loop.invariant.plan in
+    let plan = ap (λ (r : Run). r.plan) c.loop.invariant.run in
     on_err_always c.from_residual.result
     (λ before first.
     let P : PlanValue → Type 0 = λ p. Sends before (g.W.Sink.contents c.loop.sink) (bytes_of (emitted p c.loop.self.mux.events)) c.loop.self.output.writer in
@@ -24,7 +24,7 @@ returns-in_err-step-clause-sent_begun g c =
 
 pub loop-preserved : goal.loop-preserved
 loop-preserved g c =
-    let plan = c.loop.invariant.plan in
+    let plan = ap (λ (r : Run). r.plan) c.loop.invariant.run in
     let goes = c.loop.invariant.goes in
     record {
       goes = (goes.0, goes.1, goes.2, c.in_ok-step.ensures.runs goes.0 goes.1 goes.2 goes.3);
@@ -34,7 +34,6 @@ loop-preserved g c =
           let Q : PlanValue → Type 0 = λ p. Sends before (g.W.Sink.contents c.step.new.sink) (bytes_of (emitted p c.step.new.self.mux.events)) c.step.new.self.output.writer in
           subst Q plan (c.in_ok-step.ensures.written before (subst P (sym plan) (c.loop.invariant.written before first)));
       run = c.step.ensures.run ∙ c.loop.invariant.run;
-      plan = c.step.ensures.plan ∙ plan;
       failures_told = λ befores all. c.step.ensures.failures_told befores (c.loop.invariant.failures_told befores all);
       failures = c.in_ok-step.ensures.failures ∙ c.loop.invariant.failures;
     }
@@ -48,12 +47,12 @@ returns-clause-runs g c =
 
 pub returns-clause-written : goal.returns-clause-written
 returns-clause-written g c =
-    let plan = c.loop.invariant.plan in
+    let plan = ap (λ (r : Run). r.plan) c.loop.invariant.run in
     on_ok_weaker c.flush.result
     (λ appended before first.
     let P : PlanValue → Type 0 = λ p. Sends before (g.W.Sink.contents c.loop.sink) (bytes_of (emitted p c.loop.self.mux.events)) c.loop.self.output.writer in
     let Q : PlanValue → Type 0 = λ p. Sends before (g.W.Sink.contents c.step.new.sink) (bytes_of (emitted p c.step.new.self.mux.events)) c.step.new.self.output.writer in
-    all_sent before (g.W.Sink.contents c.step.new.sink) (g.W.Sink.contents c.flush.new.sink) (bytes_of (emitted c.args.self.now.plan c.step.new.self.mux.events)) c.step.new.self.output.writer
+    all_sent before (g.W.Sink.contents c.step.new.sink) (g.W.Sink.contents c.flush.new.sink) (bytes_of (emitted c.args.self.now.mux.run.plan c.step.new.self.mux.events)) c.step.new.self.output.writer
     (subst Q plan (c.in_ok-step.ensures.written before (subst P (sym plan) (c.loop.invariant.written before first)))) appended)
     c.flush.ensures.ok
 
@@ -65,12 +64,12 @@ returns-clause-halted g c =
 
 pub returns-clause-sent_begun : goal.returns-clause-sent_begun
 returns-clause-sent_begun g c =
-    let plan = c.loop.invariant.plan in
+    let plan = ap (λ (r : Run). r.plan) c.loop.invariant.run in
     on_err_weaker c.flush.result
     (λ part before first.
     let P : PlanValue → Type 0 = λ p. Sends before (g.W.Sink.contents c.loop.sink) (bytes_of (emitted p c.loop.self.mux.events)) c.loop.self.output.writer in
     let Q : PlanValue → Type 0 = λ p. Sends before (g.W.Sink.contents c.step.new.sink) (bytes_of (emitted p c.step.new.self.mux.events)) c.step.new.self.output.writer in
-    part_sent before (g.W.Sink.contents c.step.new.sink) (g.W.Sink.contents c.flush.new.sink) (bytes_of (emitted c.args.self.now.plan c.step.new.self.mux.events)) c.step.new.self.output.writer
+    part_sent before (g.W.Sink.contents c.step.new.sink) (g.W.Sink.contents c.flush.new.sink) (bytes_of (emitted c.args.self.now.mux.run.plan c.step.new.self.mux.events)) c.step.new.self.output.writer
     (subst Q plan (c.in_ok-step.ensures.written before (subst P (sym plan) (c.loop.invariant.written before first)))) part)
     c.flush.ensures.begun
 

@@ -2,11 +2,8 @@ use Rattle.std.proofs.Common.{◌≡◌, ℕ, subst}
 use Rattle.std.specs.Prelude.{IfOk}
 use Rattle.serial.proofs.serial_run.SerialRun.finish.Goals as goal
 
-pub end_run-requires-clause-inputs : goal.end_run-requires-clause-inputs
-end_run-requires-clause-inputs g c = c.requires.inputs
-
-pub end_run-requires-clause-plan : goal.end_run-requires-clause-plan
-end_run-requires-clause-plan g c = c.requires.plan
+pub end_run-requires : goal.end_run-requires
+end_run-requires g c = c.requires
 
 pub returns-clause-inputs : goal.returns-clause-inputs
 returns-clause-inputs g c = c.end_run.ensures.inputs

@@ -1,7 +1,6 @@
 use Rattle.std.proofs.Common.{ℕ, [], ◌<◌, length, ap, ◌∙◌, subst, arith}
-use Rattle.mux.specs.History.{History, opened}
+use Rattle.mux.specs.History.{History}
 use Rattle.request.specs.Request.{RequestValue}
-use Rattle.plan.specs.Build.{PlanValue}
 use Rattle.serial.specs.Sending.{HasAnalysed}
 use Rattle.serial.proofs.OpeningLaws.{runs_opened, told_of_opened}
 use Rattle.serial.proofs.serial_run.SerialRun.open.Goals as goal
@@ -9,12 +8,11 @@ use Rattle.serial.proofs.serial_run.SerialRun.open.Goals as goal
 pub returns-clause-running : goal.returns-clause-running
 returns-clause-running g c =
     let p = c.args.plan in
-    let mux = c.in_ok-mux.ensures ∙ ap (λ (v : PlanValue). opened v c.args.slots) c.in_ok-copy.ensures in
     let piece : 0 < length c.in_ok-vec.field-0.items = omega (arith, c.in_ok-vec.ensures.len, c.in_ok-vec.field-0.ok.0) in
     let P : ℕ → Type 0 = λ n. HasAnalysed c.in_ok-output.output n c.watch.result [] in
     let Q : ℕ → Type 0 = λ n. HasAnalysed c.in_ok-output.output p.request.rate n [] in
     let watch = c.watch.ensures.value ∙ ap (λ (v : RequestValue). v.watch) c.request.ensures.value in
-    runs_opened g.R.Source.remaining g.R.Source.failures c.args.limit p c.args.slots c.args.readers.items _ c.plan.view_is mux c.requires.readers c.in_ok-inputs.ensures piece
+    runs_opened g.R.Source.remaining g.R.Source.failures c.args.limit p c.args.slots c.args.readers.items _ c.in_ok-mux.ensures c.requires.readers c.in_ok-inputs.ensures piece
     (subst Q watch (subst P c.rate.ensures c.in_ok-output.ensures.analysed))
 
 pub returns-clause-new : goal.returns-clause-new

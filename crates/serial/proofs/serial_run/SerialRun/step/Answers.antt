@@ -25,10 +25,8 @@ returns-in_ok-put-in-Sent-clause-fewer g c e = fewer_sent c.args.self.now.mux c.
 
 pub returns-in_ok-put-in-Sent-clause-written : goal.returns-in_ok-put-in-Sent-clause-written
 returns-in_ok-put-in-Sent-clause-written g c before first =
-    let is = c.requires.3 in
-    let plan : c.args.self.now.mux.run.plan ≡ c.args.self.now.plan = ap (λ (r : Run). r.plan) is.run_is ∙ sym is.plan_is in
-    written_sent c.args.self.now.plan c.args.self.now.mux c.send_next.new.self c.unwrap-packet.result.now before (g.W.Sink.contents c.args.sink.now) (g.W.Sink.contents c.put.new.sink)
-    c.args.self.now.output.writer c.put.new.self.writer plan (lent_last c.args.self.now.mux c.send_next.new.self c.last.result c.unwrap-packet.result c.in-Sent.ensures.answer c.unwrap-packet.ensures c.last.ensures) first c.in_ok-put-in-Sent.ensures.written
+    written_sent c.args.self.now.mux.run.plan c.args.self.now.mux c.send_next.new.self c.unwrap-packet.result.now before (g.W.Sink.contents c.args.sink.now) (g.W.Sink.contents c.put.new.sink)
+    c.args.self.now.output.writer c.put.new.self.writer refl (lent_last c.args.self.now.mux c.send_next.new.self c.last.result c.unwrap-packet.result c.in-Sent.ensures.answer c.unwrap-packet.ensures c.last.ensures) first c.in_ok-put-in-Sent.ensures.written
 
 pub returns-in_ok-pull_at-in-NotReady-clause-runs :
     goal.returns-in_ok-pull_at-in-NotReady-clause-runs
@@ -39,7 +37,7 @@ returns-in_ok-pull_at-in-NotReady-clause-runs g c run limit starts is =
     let some = is.piece in
     runs_pulled g.R.Source.remaining run limit starts old
     (record old { mux = c.pull_at.new.mux; inputs = c.pull_at.new.inputs; piece = with_items old.piece c.pull_at.new.piece })
-    c.send_next.new.self c.in-NotReady.input is c.in-NotReady.ensures.answer.0 refl (omega (arith, some, length_is, kept)) refl
+    c.send_next.new.self c.in-NotReady.input is c.in-NotReady.ensures.answer.1.within c.in-NotReady.ensures.answer.2 c.in-NotReady.ensures.answer.0 (omega (arith, some, length_is, kept)) refl
     c.in_ok-pull_at-in-NotReady.ensures.event c.in_ok-pull_at-in-NotReady.ensures.fed c.in_ok-pull_at-in-NotReady.ensures.limited c.in_ok-pull_at-in-NotReady.ensures.going
     c.in_ok-pull_at-in-NotReady.ensures.faithful
 
@@ -64,10 +62,8 @@ pub returns-in_err-put-in-Sent-clause-sent_begun :
     goal.returns-in_err-put-in-Sent-clause-sent_begun
 returns-in_err-put-in-Sent-clause-sent_begun g c =
     let old = c.args.self.now in
-    let is = c.requires.3 in
-    let plan : old.mux.run.plan ≡ old.plan = ap (λ (r : Run). r.plan) is.run_is ∙ sym is.plan_is in
     on_err_always c.from_residual.result
-    (λ before first. sent_begun old.plan old.mux c.send_next.new.self c.unwrap-packet.result.now before (g.W.Sink.contents c.args.sink.now) (g.W.Sink.contents c.put.new.sink) old.output.writer plan
+    (λ before first. sent_begun old.mux.run.plan old.mux c.send_next.new.self c.unwrap-packet.result.now before (g.W.Sink.contents c.args.sink.now) (g.W.Sink.contents c.put.new.sink) old.output.writer refl
     (lent_last c.args.self.now.mux c.send_next.new.self c.last.result c.unwrap-packet.result c.in-Sent.ensures.answer c.unwrap-packet.ensures c.last.ensures) first c.in_err-put-in-Sent.ensures.begun)
 
 pub returns-in_err-pull_at-in-NotReady-clause-halted :
@@ -78,12 +74,12 @@ returns-in_err-pull_at-in-NotReady-clause-halted g c =
     let now = c.pull_at.new in
     on_err_always c.from_residual-in_err-pull_at-in-NotReady.result
     (λ run limit starts is.
-    let plan : old.plan ≡ run.plan = is.plan_is in
     let same : between ≡ old.mux = c.in-NotReady.ensures.answer.0 in
-    let F : History → Type 0 = λ v. AreFed g.R.Source.remaining old.plan v.events starts old.inputs.items in
+    let plan : between.run.plan ≡ run.plan = ap (λ (v : History). v.run.plan) same ∙ ap (λ (r : Run). r.plan) is.run_is in
+    let F : History → Type 0 = λ v. AreFed g.R.Source.remaining between.run.plan v.events starts old.inputs.items in
     let G : PlanValue → Type 0 = λ p. AreFed g.R.Source.remaining p old.mux.events starts old.inputs.items in
     let T : PlanValue → Type 0 = λ p. AreKnown starts → AreUnstopped old.inputs.items → IsFaithful (packet_lists p starts) old.mux.events in
-    let U : History → Type 0 = λ v. AreKnown starts → AreUnstopped old.inputs.items → IsFaithful (packet_lists old.plan starts) v.events in
+    let U : History → Type 0 = λ v. AreKnown starts → AreUnstopped old.inputs.items → IsFaithful (packet_lists between.run.plan starts) v.events in
     let A : PlanValue → Type 0 = λ p. AreHalted limit p between.events starts now.inputs.items in
     let B : History → Type 0 = λ v. AreHalted limit run.plan v.events starts now.inputs.items in
     let halted = c.in_err-pull_at-in-NotReady.ensures.halted limit starts (subst F (sym same) (subst G (sym plan) is.fed)) is.limited (subst U (sym same) (subst T (sym plan) is.faithful)) in

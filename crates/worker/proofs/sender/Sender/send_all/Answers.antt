@@ -1,18 +1,7 @@
-use Rattle.std.proofs.Common.{rules, ◌≡◌, ◌∙◌}
+use Rattle.std.proofs.Common.{◌≡◌, ◌∙◌, rules}
 use Rattle.worker.specs.declared.sender.Sender.{Sender}
-use Rattle.worker.specs.Sending.{SendsOn}
-use Rattle.worker.proofs.SendingLaws.{sends_gate, sends_found, sends_sends}
+use Rattle.worker.proofs.SendingLaws.{sends_gate, sends_found, sends_looked, sends_sends}
 use Rattle.worker.proofs.sender.Sender.send_all.Goals as goal
-
-pub returns-in-Ok-false-clause-sent : goal.returns-in-Ok-false-clause-sent
-returns-in-Ok-false-clause-sent g c =
-    let M = g.R.Source.remaining in
-    let F = g.R.Source.failures in
-    let a = c.args.self.now in
-    let l = c.loop.self in
-    let asked : Sender _ _ = record l { gate = c.pass.new.self } in
-    let found : Sender _ _ = record asked { reader = c.find.new.self } in
-    sends_sends M F a asked found (sends_sends M F a l asked c.loop.invariant.sent (sends_gate M F l c.pass.new.self)) (sends_found M F asked c.find.new.self c.find.ensures.read c.find.ensures.goes)
 
 pub returns-then-not-send_held-clause-sent : goal.returns-then-not-send_held-clause-sent
 returns-then-not-send_held-clause-sent g c =
@@ -20,10 +9,55 @@ returns-then-not-send_held-clause-sent g c =
     let F = g.R.Source.failures in
     let a = c.args.self.now in
     let l = c.loop.self in
-    let asked : Sender _ _ = record l { gate = c.pass.new.self } in
-    let found : Sender _ _ = record asked { reader = c.find.new.self } in
-    let on = sends_sends M F a asked found (sends_sends M F a l asked c.loop.invariant.sent (sends_gate M F l c.pass.new.self)) (sends_found M F asked c.find.new.self c.find.ensures.read c.find.ensures.goes) in
-    sends_sends M F a found c.send_held.new.self on c.send_held.ensures.sent
+    let looked : Sender _ _ = record l { reader = c.look.new.self } in
+    let on = sends_sends M F a l looked c.loop.invariant.sent (sends_looked M F l c.look.new.self c.look.ensures.read c.look.ensures.source c.look.ensures.goes) in
+    sends_sends M F a looked c.send_held.new.self on c.send_held.ensures.sent
+
+pub loop-preserved-else-not-send_held : goal.loop-preserved-else-not-send_held
+loop-preserved-else-not-send_held g c =
+    let M = g.R.Source.remaining in
+    let F = g.R.Source.failures in
+    let a = c.args.self.now in
+    let l = c.loop.self in
+    let looked : Sender _ _ = record l { reader = c.look.new.self } in
+    let on = sends_sends M F a l looked c.loop.invariant.sent (sends_looked M F l c.look.new.self c.look.ensures.read c.look.ensures.source c.look.ensures.goes) in
+    record {
+      sent = sends_sends M F a looked c.send_held.new.self on c.send_held.ensures.sent;
+      stops = search rules;
+    }
+
+pub returns-in-Over-clause-sent : goal.returns-in-Over-clause-sent
+returns-in-Over-clause-sent g c =
+    let M = g.R.Source.remaining in
+    let F = g.R.Source.failures in
+    let a = c.args.self.now in
+    let l = c.loop.self in
+    let looked : Sender _ _ = record l { reader = c.look.new.self } in
+    sends_sends M F a l looked c.loop.invariant.sent (sends_looked M F l c.look.new.self c.look.ensures.read c.look.ensures.source c.look.ensures.goes)
+
+pub returns-then-not-pass-clause-sent : goal.returns-then-not-pass-clause-sent
+returns-then-not-pass-clause-sent g c =
+    let M = g.R.Source.remaining in
+    let F = g.R.Source.failures in
+    let a = c.args.self.now in
+    let l = c.loop.self in
+    let looked : Sender _ _ = record l { reader = c.look.new.self } in
+    let asked : Sender _ _ = record looked { gate = c.pass.new.self } in
+    let on = sends_sends M F a l looked c.loop.invariant.sent (sends_looked M F l c.look.new.self c.look.ensures.read c.look.ensures.source c.look.ensures.goes) in
+    sends_sends M F a looked asked on (sends_gate M F looked c.pass.new.self)
+
+pub returns-then-is_err-clause-sent : goal.returns-then-is_err-clause-sent
+returns-then-is_err-clause-sent g c =
+    let M = g.R.Source.remaining in
+    let F = g.R.Source.failures in
+    let a = c.args.self.now in
+    let l = c.loop.self in
+    let looked : Sender _ _ = record l { reader = c.look.new.self } in
+    let asked : Sender _ _ = record looked { gate = c.pass.new.self } in
+    let found : Sender _ _ = record asked { reader = c.read.new.self } in
+    let on = sends_sends M F a l looked c.loop.invariant.sent (sends_looked M F l c.look.new.self c.look.ensures.read c.look.ensures.source c.look.ensures.goes) in
+    let ask = sends_sends M F a looked asked on (sends_gate M F looked c.pass.new.self) in
+    sends_sends M F a asked found ask (sends_found M F asked c.read.new.self (c.read.ensures.read l.plan) c.read.ensures.goes)
 
 pub loop-preserved : goal.loop-preserved
 loop-preserved g c =
@@ -31,10 +65,12 @@ loop-preserved g c =
     let F = g.R.Source.failures in
     let a = c.args.self.now in
     let l = c.loop.self in
-    let asked : Sender _ _ = record l { gate = c.pass.new.self } in
-    let found : Sender _ _ = record asked { reader = c.find.new.self } in
-    let on = sends_sends M F a asked found (sends_sends M F a l asked c.loop.invariant.sent (sends_gate M F l c.pass.new.self)) (sends_found M F asked c.find.new.self c.find.ensures.read c.find.ensures.goes) in
+    let looked : Sender _ _ = record l { reader = c.look.new.self } in
+    let asked : Sender _ _ = record looked { gate = c.pass.new.self } in
+    let found : Sender _ _ = record asked { reader = c.read.new.self } in
+    let on = sends_sends M F a l looked c.loop.invariant.sent (sends_looked M F l c.look.new.self c.look.ensures.read c.look.ensures.source c.look.ensures.goes) in
+    let ask = sends_sends M F a looked asked on (sends_gate M F looked c.pass.new.self) in
     record {
-      sent = sends_sends M F a found c.send_held.new.self on c.send_held.ensures.sent;
+      sent = sends_sends M F a asked found ask (sends_found M F asked c.read.new.self (c.read.ensures.read l.plan) c.read.ensures.goes);
       stops = search rules;
     }

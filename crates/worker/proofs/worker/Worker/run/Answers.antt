@@ -33,7 +33,7 @@ returns-clause-sent g c input at =
     let same : input_value x ≡ input = same_Some (input_value x) input (sym is_at ∙ at) in
     let unsent : c.args.self.port.sent ≡ [] = empty_of c.args.self.port.sent c.args.self.unsent in
     let a : Sender _ _ = record { plan = p; reader = c.new-reader.result; gate = c.args.self.gate; port = c.args.self.port } in
-    worked g.R.Source.remaining g.R.Source.failures a c.send-stop.new.self p (origin_of i input) c.args.self.source c.finish.result.2 c.send-stop.result c.finish.result.0 c.finish.result.1
+    worked g.R.Source.remaining g.R.Source.failures c.args.self.limit a c.send-stop.new.self p (origin_of i input) c.args.self.source c.finish.result.2 c.send-stop.result c.finish.result.0 c.finish.result.1
     refl (c.new-reader.ensures.origin ∙ ap (origin_of i) same) c.new-reader.ensures.source c.new-reader.ensures.limit (c.new-reader.ensures.read p) unsent
     c.send-stop.ensures.sent c.finish.ensures.source c.send-stop.ensures.over c.send-stop.ensures.causes c.finish.ensures.counts c.finish.ensures.cause c.finish.ensures.port
 

@@ -1,14 +1,15 @@
-use Rattle.std.proofs.Common.{◌≡◌, Some, None}
+use Rattle.std.proofs.Common.{◌≡◌, Some}
+use Rattle.std.specs.Prelude.{IsSome}
 use Rattle.reading.specs.declared.stop.Stop.TheVariants.{Memory}
 use Rattle.reading.specs.Items.{left_to_read}
 use Rattle.reading.specs.PacketReading.{ReadsOn, GoesOn}
-use Rattle.reading.proofs.packet_reader.PacketReader.search.Given as goal
+use Rattle.reading.proofs.packet_reader.PacketReader.find.Given as goal
 
 abbrev pub invariant-loop-self : goal.invariant-loop-self
 invariant-loop-self g l = record {
   read : ReadsOn g.R.Source.remaining l.plan l.fn.self l.self;
-  held : l.self.held ≡ None;
   goes : GoesOn g.R.Source.failures l.fn.self l.self;
+  stays : IsSome l.fn.self.held → l.self ≡ l.fn.self;
   unrefused : l.self.report.stopped ≡ Some Memory → l.fn.self.report.stopped ≡ Some Memory;
 }
 
