@@ -52,6 +52,7 @@ impl PacketWriter {
             (Sends (W.contents sink.old) (W.contents sink.new) (self.old ++ packet.now) self.new) }
         ensures err { OnErr result
             (SendsBeginning (W.contents sink.old) (W.contents sink.new) (self.old ++ packet.now)) }
+        ensures room { length self.old + 188 ≤ 65424 → sink.new ≡ sink.old }
         ensures empty { OnErr result (self.new ≡ []) }
         ensures failures { OnOk result (W.failures sink.new ≡ W.failures sink.old) }
         ensures failed { OnErr result (FailsOnce (W.failures sink.old) (W.failures sink.new)) }

@@ -16,14 +16,13 @@ use plan::Plan;
 use reading::{INPUT_LIMIT, Source};
 use std::alloc::Global;
 
-/// Runs a plan in one thread: reads one reader an input, at most 3,154,116,608 bytes of each, and writes the packet of each slot,
-/// at most so many slots (0 to 2^40). It ends where all inputs have ended and nothing waits, or where it has all its slots.
+/// Runs a plan in one thread: reads one reader an input, which may have at most 3,154,116,608 bytes, and writes the packet of each
+/// slot, at most so many slots (0 to 2^40). It ends where all inputs have ended and nothing waits, or where it has all its slots.
 ///
-/// The memory that it takes grows neither with the slots nor with the inputs. The writer comes back, and without a fault the
-/// readers too, in their order, each read as far as the run read it.
-/// An input is read only where the multiplex waits for it: no packet is taken ahead. `Memory` is answered where memory was
-/// refused before any write failed, and `Write` where the writer failed; what was written is then a beginning of the output.
-/// A reader that fails ends its input, and the run goes on.
+/// A packet is taken only where the multiplex waits for its input. The writer comes back, and without a fault the readers too, in
+/// their order, each read as far as the run read it. `Memory` is answered for want of memory, before any write failed, and
+/// `Write` where a write failed; what was written is then a beginning of the output. A reader that fails ends its input, and the
+/// run goes on.
 pub fn run_serial<R: Source + Drop, W: Sink>(
     alloc: Global,
     plan: Plan,

@@ -3,7 +3,7 @@
 use std::io;
 use std::io::{ErrorKind, Write};
 
-/// A writer as in `std`, which counts its failures. A write that takes no byte, where there is one, is a failure.
+/// A writer as in `std`, which counts its failures. A write that takes no byte is a failure.
 pub trait Sink {
     ghost use Rattle.std.specs.Prelude.{Option, List, ℕ, ◌≡◌, ◌<◌, length, OnOk, OnErr, IfOk};
     ghost use Rattle.std.specs.Io.{WritesAtMost};
@@ -16,16 +16,17 @@ pub trait Sink {
     // How many writes failed, up to the largest number of 64 bits.
     ghost failures: { Self → ℕ };
 
-    /// Writes bytes from the front of `bytes`, and answers how many.
+    /// Writes bytes from the front of `bytes`, of which there are some, and answers how many.
     fn write(&mut self, bytes: &[u8]) -> io::Result<usize>
+        requires { 0 < length bytes.now }
         ensures bound { WritesAtMost result bytes.now }
-        ensures some { IfOk result (λ count. 0 < length bytes.now → 0 < count) }
+        ensures some { IfOk result (λ count. 0 < count) }
         ensures bytes { WriteAppends (contents self.old) (contents self.new) result bytes.now }
         ensures ok { OnOk result (failures self.new ≡ failures self.old) }
         ensures err { OnErr result (FailsOnce (failures self.old) (failures self.new)) };
 }
 
-/// A writer of `std` as a sink. Each error that it answers is a failure.
+/// A writer of `std` as a sink. It counts each error that it answers, and each write that takes no byte.
 #[derive(Drop)]
 pub struct WriteSink<W> {
     writer: W,
@@ -64,7 +65,7 @@ impl<W: Write> Sink for WriteSink<W> {
 
     fn write(&mut self, bytes: &[u8]) -> io::Result<usize> {
         let written = match self.writer.write(bytes) {
-            Ok(0) if !bytes.is_empty() => Err(io::Error::from(ErrorKind::WriteZero)),
+            Ok(0) => Err(io::Error::from(ErrorKind::WriteZero)),
             other => other,
         };
         if written.is_err() {

@@ -3,8 +3,9 @@ use Rattle.std.proofs.Common.{◌≡◌, ℕ, zero, suc, ◌+◌, ◌-◌, ◌*�
 use Rattle.std.proofs.lemmas.List.{get_or_past, drop_all, append_assoc, length-drop, length-append, take-append-le, drop-append-le, drop-drop, get_or-drop, get_or_append_left, append-nil}
 use Rattle.std.proofs.lemmas.Bool.{cases_lt}
 use Rattle.std.proofs.lemmas.Bool.Decides.{nat_tests}
-use Rattle.tspkt.specs.Framed.{framed, framed_from, is_sync, acquires_sync, keeps_sync, lost, packets_of, FramerState, still_to_tell, IsFramedSoFar}
-use Rattle.tspkt.specs.Stepping.{told_of_last, told_at_end, IsWaiting, TellsSame}
+use Rattle.std.specs.Prelude.{Result, Ok, Err, OnErr}
+use Rattle.tspkt.specs.Framed.{framed, framed_from, is_sync, acquires_sync, keeps_sync, lost, packets_of, FramerState, still_to_tell, WantsRoom, IsFramedSoFar}
+use Rattle.tspkt.specs.Stepping.{told_of_last, told_at_end, IsWaiting, TellsSame, FindsNoRoom}
 use Rattle.tspkt.specs.declared.item.Item.{Item}
 use Rattle.tspkt.specs.declared.item.Item.TheVariants.{Packet, Bad, SyncLoss, Lost}
 use Rattle.tspkt.specs.declared.mode.Mode.{Mode}
@@ -232,6 +233,45 @@ module _ (stride base : ℕ) (w : List ℕ) (out told : List Item) (at : ℕ) wh
         ∙ ap (λ (n : ℕ). lost a (base + at) ++ Packet (base + at) (take 188 v) ∷ framed_from stride (Synced (stride - 188)) n (drop 188 v)) (omega arith)
         ∙ sym one);
   }
+
+-- a step that would tell more items than there are places
+pub no_room : (stride base : ℕ) (w : List ℕ) (out told : List Item) (mode after : Mode) (at next places : ℕ) → TellsSame stride base w out mode at told after next → places < length told
+    → FindsNoRoom stride base w out mode at places
+no_room stride base w out told mode after at next places goes full = record {
+  decided = told;
+  come = λ more. (framed_from stride after (base + next) (drop next w ++ more), goes.same more);
+  full = full;
+}
+
+-- the same behind other steps
+pub no_room_behind : (stride base : ℕ) (w : List ℕ) (out told : List Item) (mode after : Mode) (next places more_places : ℕ) → TellsSame stride base w out mode 0 told after next
+    → FindsNoRoom stride base w told after next more_places → places ≤ more_places → FindsNoRoom stride base w out mode 0 places
+no_room_behind stride base w out told mode after next places more_places goes none least = record {
+  decided = none.decided;
+  come = λ more. (let c = none.come more in (c.0, c.1 ∙ goes.same more));
+  full = omega (arith, none.full, least);
+}
+
+-- the same of a framer that takes a piece
+pub wants_room : (f : FramerState) (w piece : List ℕ) (out : List Item) (places : ℕ) → w ≡ f.kept ++ piece → FindsNoRoom f.stride f.position w out f.mode 0 places → WantsRoom f piece out places
+wants_room f w piece out places is none =
+    let same : f.position + 0 ≡ f.position = omega arith in
+    record {
+      decided = none.decided;
+      come = λ more.
+          (let c = none.come more in (
+            c.0,
+            c.1
+                ∙ ap (λ (n : ℕ). out ++ framed_from f.stride f.mode n (w ++ more)) same
+                ∙ ap (λ (l : List ℕ). out ++ framed_from f.stride f.mode f.position (l ++ more)) is
+                ∙ ap (λ (l : List ℕ). out ++ framed_from f.stride f.mode f.position l) (append_assoc f.kept piece more),
+          ));
+      full = none.full;
+    }
+
+pub on_err_always : {T E P : Type 0} (result : Result T E) → P → OnErr result P
+on_err_always (Ok x) h = tt
+on_err_always (Err e) h = h
 
 -- what is held fits four packets
 pub waiting_short : (stride : ℕ) (mode : Mode) (held : List ℕ) → 188 ≤ stride → IsWaiting stride mode held → length held ≤ 4 * stride

@@ -115,6 +115,13 @@ pub record TakesPiece (old : FramerState) (piece : List ℕ) (told : List Item) 
   pub stride_is : new.stride ≡ old.stride
   pub limit_is : new.limit ≡ old.limit
 
+-- There is no room for what is decided: whatever follows the piece, these items come first, those of `out` before all, and
+-- they are more than there are places.
+pub record WantsRoom (f : FramerState) (piece : List ℕ) (out : List Item) (places : ℕ) : Type 0 where
+  pub decided : List Item
+  pub come : (more : List ℕ) → (later : List Item) × (decided ++ later ≡ out ++ still_to_tell f (piece ++ more))
+  pub full : places < length decided
+
 -- Where the stream is five whole packets or more, and less than a packet behind them, its items are those packets,
 -- in order, and the loss of the rest.
 abbrev pub ExactOnPackets : List ℕ → List Item → Type 0

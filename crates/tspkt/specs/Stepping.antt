@@ -19,6 +19,13 @@ pub record TellsSame (stride base : ℕ) (window : List ℕ) (out : List Item) (
   pub within : next ≤ length window
   pub same : (more : List ℕ) → told ++ framed_from stride after (base + next) (drop next window ++ more) ≡ out ++ framed_from stride mode (base + at) (drop at window ++ more)
 
+-- A step from there found no room for an item: whatever comes after the window, these items come, those told before them
+-- among them, and they are more than there are places.
+pub record FindsNoRoom (stride base : ℕ) (window : List ℕ) (out : List Item) (mode : Mode) (at places : ℕ) : Type 0 where
+  pub decided : List Item
+  pub come : (more : List ℕ) → (later : List Item) × (decided ++ later ≡ out ++ framed_from stride mode (base + at) (drop at window ++ more))
+  pub full : places < length decided
+
 -- what is told in sync of the last `count` bytes, from `place` on
 abbrev pub told_of_last : ℕ → ℕ → List Item
 told_of_last place count = if count == 0 then [] else if nat_lt count 188 then Lost count ∷ [] else Bad place ∷ []

@@ -20,10 +20,13 @@ const LIMIT: u64 = 3_154_116_608;
 /// The greatest limit of the bytes of one stream: 2^47.
 pub const MAX_LIMIT: u64 = 140_737_488_355_328;
 
+// The power of two that it is.
+const _: () = prove!(MAX_LIMIT == 8 * 1024 * 1024 * 1024 * 1024 * 16);
+
 /// Finds the packets of a stream that comes in pieces (ISO/IEC 13818-1, 2.4.3.2; ETSI TR 101 290, 5.2.1).
 ///
 /// A packet is told by the feed that brings its last byte or the fifth sync byte, whichever comes later; other items may
-/// come later than the bytes that decide them. Between two pieces at most 752 bytes are kept, in a fixed array.
+/// come later than the bytes that decide them.
 #[derive(Drop)]
 pub struct Framer {
     stride: usize,
@@ -55,7 +58,7 @@ impl Model for Framer {
 impl Framer {
     ghost use Rattle.std.specs.Prelude.{◌≡◌, List, ℕ, [], ◌+◌, ◌<◌, ◌≤◌, ◌↔◌, ◌++◌, length, vec_len, vec_capacity, OnOk, OnErr, IfErr, Err};
     ghost use Rattle.tspkt.specs.Stepping.{IsWaiting};
-    ghost use Rattle.tspkt.specs.Framed.{new_framer, seen, still_to_tell, packets_of, framed, TakesPiece, IsFramedSoFar};
+    ghost use Rattle.tspkt.specs.Framed.{new_framer, seen, still_to_tell, packets_of, framed, TakesPiece, WantsRoom, IsFramedSoFar};
 
     /// A framer that has seen nothing, for a stream of packets of 188 bytes, at most 3,154,116,608 bytes in all.
     pub fn new() -> Framer
@@ -84,12 +87,13 @@ impl Framer {
         }
     }
 
-    /// Takes the next piece of the stream, and tells all items that it decides, behind those of `out`.
+    /// Takes the next piece of the stream, and tells the packets that it decides, and items before and between them, behind
+    /// those of `out`.
     ///
     /// A packet is told by the feed that brings its last byte or the fifth sync byte, whichever comes later.
     /// `TooMuch` comes exactly where the stream would pass its limit, `Memory` where there is no memory for the items: only
-    /// where `out` has less room than there are bytes kept and in the piece, and never at an empty piece.
-    /// Either changes nothing: the framer and `out` are as they were.
+    /// where more of them are decided than `out` has room for, and never at an empty piece.
+    /// Either changes nothing: the framer and what is in `out` are as they were.
     #[tactic(auto, using(crate::proofs::FramingLaws::no_packet_kept))]
     pub fn feed(&mut self, piece: &[u8], out: &mut Vec<Item>) -> Result<(), FeedFault>
         ensures ok { OnOk result (TakesPiece self.old piece.now out.old.items self.new out.new.items) }
@@ -100,6 +104,8 @@ impl Framer {
         ensures too_much { (result ≡ Err FeedFault.TooMuch) ↔ (self.old.limit < seen self.old + length piece.now) }
         ensures room { result ≡ Err FeedFault.Memory
             → vec_capacity out.old < vec_len out.old + length self.old.kept + length piece.now }
+        ensures full { result ≡ Err FeedFault.Memory
+            → WantsRoom self.old piece.now out.old.items (vec_capacity out.old) }
         ensures piece { result ≡ Err FeedFault.Memory → 0 < length piece.now }
         ensures long { result ≡ Err FeedFault.Memory → 188 ≤ length self.old.kept + length piece.now }
         ensures err { OnErr result ((self.new ≡ self.old) × (out.new.items ≡ out.old.items)) }
@@ -115,6 +121,8 @@ impl Framer {
         ensures too_much { (result ≡ Err FeedFault.TooMuch) ↔ (self.old.limit < seen self.old + length piece.now) }
         ensures room { result ≡ Err FeedFault.Memory
             → vec_capacity out.old < vec_len out.old + length self.old.kept + length piece.now }
+        ensures full { result ≡ Err FeedFault.Memory
+            → WantsRoom self.old piece.now out.old.items (vec_capacity out.old) }
         ensures piece { result ≡ Err FeedFault.Memory → 0 < length piece.now }
         ensures long { result ≡ Err FeedFault.Memory → 188 ≤ length self.old.kept + length piece.now }
         ensures err { OnErr result ((self.new ≡ self.old) × (out.new.items ≡ out.old.items)) }

@@ -1,6 +1,6 @@
 //! Packets of an MPEG-2 transport stream (ISO/IEC 13818-1, 2.4.3).
 //!
-//! `Packet` is 188 bytes that meet the standard's layout, with a reader for each field that the multiplex uses.
+//! `Packet` is 188 bytes with a header and an adaptation field as the standard lays them out, with a reader for each field that the multiplex uses.
 //! `rewrite` puts a packet on another PID and later in time, `follows` judges its continuity counter, and `Framer`
 //! finds the packets in a stream of bytes that comes in pieces. `time` gives the time of a byte in a stream of
 //! constant rate, in ticks of 27 MHz, and `PositionClock` that of each packet in turn. Nothing here knows of tables

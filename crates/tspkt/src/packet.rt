@@ -11,8 +11,10 @@ pub const PCR_MODULUS: u64 = 2_576_980_377_600;
 /// The PID of null packets (ISO/IEC 13818-1, 2.4.3.3).
 pub const NULL_PID: u16 = 0x1FFF;
 
-/// A transport stream packet: 188 bytes that meet the layout of ISO/IEC 13818-1, 2.4.3.2 to 2.4.3.5. Packets with the
-/// transport error indicator are packets as others (profile).
+/// A transport stream packet: 188 bytes in which `read` finds no fault. It begins with the sync byte, adaptation_field_control
+/// isn't 0, and the adaptation field has a length that the standard allows and room for the PCR that its flag tells of
+/// (ISO/IEC 13818-1, 2.4.3.2 to 2.4.3.5); what else may stand in that field isn't looked at. Packets with the transport error
+/// indicator are packets as others (profile).
 #[derive(Clone, Copy)]
 pub struct Packet {
     bytes: [u8; 188],
@@ -194,7 +196,8 @@ pub fn rewrite(packet: &Packet, pid: u16, delay: u64) -> Packet
 
 /// The null packet: PID 0x1FFF, counter 0, and a payload of 184 bytes 0xFF.
 pub fn null() -> Packet
-    ensures { result ≡ null_packet }
+    ensures value { result ≡ null_packet }
+    ensures pid { pid_of result ≡ NULL_PID }
 {
     let mut bytes = [0xFF; 188];
     bytes[0] = 0x47;

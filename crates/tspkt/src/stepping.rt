@@ -2,7 +2,7 @@
 
 ghost use Rattle.std.specs.Prelude.{◌≡◌, ◌+◌, ◌-◌, ◌<◌, ◌≤◌, ◌^◌, ◌++◌, length, take, drop, vec_len, vec_capacity, IfOk, OnOk, OnErr, IfSome, Ok, None};
 ghost use Rattle.tspkt.specs.Framed.{lost};
-ghost use Rattle.tspkt.specs.Stepping.{told_of_last, told_at_end, TellsSame, IsWaiting};
+ghost use Rattle.tspkt.specs.Stepping.{told_of_last, told_at_end, TellsSame, FindsNoRoom, IsWaiting};
 
 use crate::item::Item;
 use crate::mode::Mode;
@@ -45,6 +45,7 @@ fn step_hunting(
     ensures few { IfOk result (λ r. IfSome r (λ next. vec_len out.new + at ≤ vec_len out.old + next.0)) }
     ensures capacity { vec_capacity out.old ≤ vec_capacity out.new }
     ensures room { OnErr result (vec_capacity out.old + at < vec_len out.old + length window.now) }
+    ensures full { OnErr result (FindsNoRoom stride base window.now out.old.items (Mode.Hunting from) at (vec_capacity out.old)) }
     ensures whole { OnErr result (at + 188 ≤ length window.now) }
 {
     if window.len() - at <= 4 * stride {
@@ -81,6 +82,7 @@ fn step_synced(
     ensures few { IfOk result (λ r. IfSome r (λ next. vec_len out.new + at ≤ vec_len out.old + next.0)) }
     ensures capacity { vec_capacity out.old ≤ vec_capacity out.new }
     ensures room { OnErr result (vec_capacity out.old + at < vec_len out.old + length window.now) }
+    ensures full { OnErr result (FindsNoRoom stride base window.now out.old.items (Mode.Synced skip) at (vec_capacity out.old)) }
     ensures whole { OnErr result (at + 188 ≤ length window.now) }
 {
     let left = window.len() - at;
@@ -130,6 +132,7 @@ fn step(
     ensures few { IfOk result (λ r. IfSome r (λ next. vec_len out.new + at ≤ vec_len out.old + next.0)) }
     ensures capacity { vec_capacity out.old ≤ vec_capacity out.new }
     ensures room { OnErr result (vec_capacity out.old + at < vec_len out.old + length window.now) }
+    ensures full { OnErr result (FindsNoRoom stride base window.now out.old.items mode at (vec_capacity out.old)) }
     ensures whole { OnErr result (at + 188 ≤ length window.now) }
 {
     match mode {
@@ -154,6 +157,7 @@ pub fn advance(
     ensures waits { IfOk result (λ next. IsWaiting stride next.1 (drop next.0 window.now)) }
     ensures kept { take (length out.old.items) out.new.items ≡ out.old.items }
     ensures room { OnErr result (vec_capacity out.old < vec_len out.old + length window.now) }
+    ensures full { OnErr result (FindsNoRoom stride base window.now out.old.items mode 0 (vec_capacity out.old)) }
     ensures whole { OnErr result (188 ≤ length window.now) }
     ensures capacity { vec_capacity out.old ≤ vec_capacity out.new }
 {

@@ -7,6 +7,6 @@ pub invariant_of-result : goal.invariant_of-result
 unfolding null_packet
 invariant_of-result c = is_packet-null_packet
 
-pub returns : goal.returns
+pub returns-clause-value : goal.returns-clause-value
 unfolding null_packet
-returns c = refl
+returns-clause-value c = refl
