@@ -7,14 +7,14 @@ use Rattle.tspkt.specs.Packet.{pid_of, transport_scrambling_control_of}
 use Rattle.tspkt.specs.Counters.{lawful_of}
 use Rattle.analyse.specs.Slots.{slot_at, is_good, is_packet, packets_of_pid, ends_five_good, has_no_two_bad, is_sync_lost_at, is_sync_byte_bad_at}
 use Rattle.analyse.specs.Gaps.{is_gap_at}
-use Rattle.analyse.specs.Faults.{is_scrambled_at, other_count, is_pat_mark, is_pat_bad_at, last_is_lawful, is_counter_bad_at, is_pmt_watched, is_pmt_mark, is_pmt_bad_at, is_pid_watched, is_pid_mark, is_pid_missing_at, told_if, told_of_pids, table_limit, faults_at, faults}
+use Rattle.analyse.specs.Faults.{is_scrambled_at, others_of, is_pat_mark, is_pat_bad_at, last_is_lawful, is_counter_bad_at, is_pmt_watched, is_pmt_mark, is_pmt_bad_at, is_pid_watched, is_pid_mark, is_pid_missing_at, told_if, told_of_pids, table_limit, faults_at, faults}
 use Rattle.analyse.specs.declared.fault_kind.FaultKind.{FaultKind}
 use Rattle.analyse.specs.declared.fault_kind.FaultKind.TheVariants.{TsSyncLoss, SyncByteError, PatError2, ContinuityCountError, PmtError2, PidError}
 use Rattle.analyse.specs.declared.fault.Fault.{Fault}
 use Rattle.analyse.proofs.RangeLaws.{each_same, some_same, flat_more}
 use Rattle.analyse.proofs.GapLaws.{gap_agree}
 use Rattle.analyse.proofs.GapsLaws.{told_same}
-use Rattle.analyse.proofs.PatWatchLaws.{grew_before, mark_before}
+use Rattle.analyse.proofs.PatWatchLaws.{completes_before, mark_before}
 use Rattle.analyse.proofs.TablesLaws.{pmt_watched_before, pmt_mark_before, pid_watched_before, pid_mark_before}
 
 module _ (slots : List (List ℕ)) (x : List ℕ) where
@@ -52,7 +52,7 @@ module _ (slots : List (List ℕ)) (x : List ℕ) where
   unfolding is_pat_bad_at
   pat_before limit m h =
       let a = gap_agree limit (λ k. true) (λ k. true) (is_pat_mark (slots ++ x ∷ [])) (is_pat_mark slots) m (λ k p. refl) (λ k p. mark_before slots x k (omega arith)) in
-      let b = grew_before other_count slots x (m + 1) (omega arith) in
+      let b = completes_before others_of slots x (m + 1) (omega arith) in
       let c = scrambled_before 0x0000 m h in
       rw (a, b, c) refl
 

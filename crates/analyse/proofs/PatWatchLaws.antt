@@ -1,19 +1,19 @@
 -- PAT_error_2 at the next slot, from what is known of the slots so far.
-use Rattle.std.proofs.Common.{◌≡◌, ℕ, suc, ◌+◌, ◌-◌, ◌≤◌, List, [], ◌∷◌, ◌++◌, length, take, refl, sym, ◌∙◌, ap, subst, arith, length-append, Option, Some, None, Bool, true, false, ◌&&◌, ◌||◌}
+use Rattle.std.proofs.Common.{◌≡◌, ℕ, suc, ◌+◌, ◌-◌, ◌≤◌, List, [], ◌∷◌, ◌++◌, length, take, drop, refl, sym, ◌∙◌, ap, subst, arith, length-append, Option, Some, None, Bool, true, false, ◌&&◌, ◌||◌}
 use Rattle.std.specs.Prelude.{not, ◌==◌, filter, filter_map, cond, is_some, option_and_then}
 use Rattle.std.specs.List.{list_any, cons_option}
 use Rattle.std.proofs.lemmas.Bool.{and_left}
 use Rattle.std.proofs.lemmas.Bool.Decides.{nat_tests}
 use Rattle.std.proofs.lemmas.List.{take-append-le}
 use Rattle.std.proofs.lemmas.List.Elements.{filter-append, filter_map-append}
-use Rattle.std.proofs.Math.Seq.{take-append_seam}
+use Rattle.std.proofs.Math.Seq.{take-append_seam, drop-append_seam}
 use Rattle.tspkt.specs.Packet.{pid_of, transport_scrambling_control_of}
 use Rattle.tspkt.specs.Bits.{field}
 use Rattle.section.specs.declared.told.Told.{Told}
 use Rattle.tables.specs.OnPid.{section_in, sections_on, pat_section_of, pat_sections}
 use Rattle.analyse.specs.Slots.{packets_in, is_packet}
 use Rattle.analyse.specs.Gaps.{is_gap_at}
-use Rattle.analyse.specs.Faults.{grew_at, pat_count, other_count, is_pat_mark, is_scrambled_at, is_pat_bad_at}
+use Rattle.analyse.specs.Faults.{completed_by, completes, pats_of, others_of, is_pat_mark, is_scrambled_at, is_pat_bad_at}
 use Rattle.analyse.specs.SlotReading.{IsReadAs}
 use Rattle.analyse.specs.PatWatching.{is_other, is_other_in, is_scrambled, HasSeenPat}
 use Rattle.tables.specs.InForce.{SectionValue}
@@ -24,32 +24,27 @@ use Rattle.analyse.specs.GapWatching.{GapState, HasSeenNumbers, IsSince}
 use Rattle.analyse.proofs.GapLaws.{since_same}
 use Rattle.analyse.proofs.SlotLaws.{all_slots, new_slot}
 
--- ---- growth
+-- ---- what a slot completes
 
-pub grew_last : (count : List (List ℕ) → ℕ) (slots : List (List ℕ)) (x : List ℕ) → grew_at count (slots ++ x ∷ []) (length slots + 1) ≡ not (count (slots ++ x ∷ []) == count slots)
-grew_last count slots x =
+pub completes_last : {X : Type 0} (sections_of : List (List ℕ) → List X) (slots : List (List ℕ)) (x : List ℕ) (new : List X) → sections_of (slots ++ x ∷ []) ≡ sections_of slots ++ new → completes sections_of (slots ++ x ∷ []) (length slots + 1) ≡ not (length new == 0)
+completes_last {X = X} sections_of slots x new e =
     let n = length slots in
     let back : n + 1 - 1 ≡ n = omega arith in
-    let some : (n + 1 == 0) ≡ false = grind (arith, nat_tests) in
-    let all = all_slots slots x in
-    let front : take n (slots ++ x ∷ []) ≡ slots = take-append_seam slots (x ∷ []) in
-    rw back (rw (some, all, front) refl)
+    let front : take (n + 1 - 1) (slots ++ x ∷ []) ≡ slots = ap (λ (k : ℕ). take k (slots ++ x ∷ [])) back ∙ take-append_seam slots (x ∷ []) in
+    let behind : completed_by sections_of (slots ++ x ∷ []) (n + 1) ≡ new =
+    ap (λ (l : List (List ℕ)). drop (length (sections_of l)) (sections_of (take (n + 1) (slots ++ x ∷ [])))) front
+    ∙ ap (λ (l : List (List ℕ)). drop (length (sections_of slots)) (sections_of l)) (all_slots slots x)
+    ∙ ap (drop (length (sections_of slots))) e ∙ drop-append_seam (sections_of slots) new in
+    ap (λ (l : List X). not (length l == 0)) behind
 
-pub grew_before : (count : List (List ℕ) → ℕ) (slots : List (List ℕ)) (x : List ℕ) (k : ℕ) → k ≤ length slots → grew_at count (slots ++ x ∷ []) k ≡ grew_at count slots k
-grew_before count slots x k h =
+pub completes_before : {X : Type 0} (sections_of : List (List ℕ) → List X) (slots : List (List ℕ)) (x : List ℕ) (k : ℕ) → k ≤ length slots → completes sections_of (slots ++ x ∷ []) k ≡ completes sections_of slots k
+completes_before sections_of slots x k h =
     let a = take-append-le k slots (x ∷ []) h in
     let b = take-append-le (k - 1) slots (x ∷ []) (omega arith) in
     rw (a, b) refl
 
 pub mark_before : (slots : List (List ℕ)) (x : List ℕ) (k : ℕ) → k ≤ length slots → is_pat_mark (slots ++ x ∷ []) k ≡ is_pat_mark slots k
-mark_before slots x k h = ap (λ (b : Bool). k == 0 || b) (grew_before pat_count slots x k h)
-
--- a list that got longer got more than nothing
-pub longer : {X : Type 0} (xs ys zs : List X) → ys ≡ xs ++ zs → not (length ys == length xs) ≡ not (length zs == 0)
-longer xs ys zs e =
-    let n = ap length e ∙ length-append xs zs in
-    let same : (length xs + length zs == length xs) ≡ (length zs == 0) = grind (arith, nat_tests) in
-    ap (λ (k : ℕ). not (k == length xs)) n ∙ ap not same
+mark_before slots x k h = ap (λ (b : Bool). k == 0 || b) (completes_before pats_of slots x k h)
 
 -- ---- what was told
 
@@ -90,18 +85,16 @@ pub marked_last : (slots : List (List ℕ)) (x : List ℕ) (told : List Told) �
 marked_last slots x told e =
     let some : (length slots + 1 == 0) ≡ false = grind (arith, nat_tests) in
     any_read pat_section_of told
-    ∙ sym (longer (pat_sections (packets_in slots)) (pat_sections (packets_in (slots ++ x ∷ []))) (pats_in told) (pats_last slots x told e))
-    ∙ sym (grew_last pat_count slots x)
-    ∙ sym (ap (λ (b : Bool). b || grew_at pat_count (slots ++ x ∷ []) (length slots + 1)) some)
+    ∙ sym (completes_last pats_of slots x (pats_in told) (pats_last slots x told e))
+    ∙ sym (ap (λ (b : Bool). b || completes pats_of (slots ++ x ∷ []) (length slots + 1)) some)
 
-other_last : (slots : List (List ℕ)) (x : List ℕ) (told : List Told) → sections_on 0x0000 (packets_in (slots ++ x ∷ [])) ≡ sections_on 0x0000 (packets_in slots) ++ filter_map section_in told → list_any is_other_in told ≡ grew_at other_count (slots ++ x ∷ []) (length slots + 1)
+other_last : (slots : List (List ℕ)) (x : List ℕ) (told : List Told) → sections_on 0x0000 (packets_in (slots ++ x ∷ [])) ≡ sections_on 0x0000 (packets_in slots) ++ filter_map section_in told → list_any is_other_in told ≡ completes others_of (slots ++ x ∷ []) (length slots + 1)
 other_last slots x told e =
     let test = λ (b : List ℕ). not (field b 0 8 == 0) in
     let more : filter test (sections_on 0x0000 (packets_in (slots ++ x ∷ []))) ≡ filter test (sections_on 0x0000 (packets_in slots)) ++ filter test (filter_map section_in told) =
     ap (filter test) e ∙ filter-append test (sections_on 0x0000 (packets_in slots)) (filter_map section_in told) in
     any_other told
-    ∙ sym (longer (filter test (sections_on 0x0000 (packets_in slots))) (filter test (sections_on 0x0000 (packets_in (slots ++ x ∷ [])))) (filter test (filter_map section_in told)) more)
-    ∙ sym (grew_last other_count slots x)
+    ∙ sym (completes_last others_of slots x (filter test (filter_map section_in told)) more)
 
 at_new : (slots : List (List ℕ)) (x : List ℕ) → is_scrambled_at (slots ++ x ∷ []) 0x0000 (length slots) ≡ (is_packet x && (pid_of x == 0x0000 && not (transport_scrambling_control_of x == 0)))
 at_new slots x = ap (λ (s : List ℕ). is_packet s && (pid_of s == 0x0000 && not (transport_scrambling_control_of s == 0))) (new_slot slots x)

@@ -8,12 +8,12 @@ use Rattle.section.specs.declared.told.Told.{Told}
 use Rattle.tables.specs.Pmt.{PmtValue, pmt_of}
 use Rattle.tables.specs.OnPid.{section_in, value_of, packets_on, pmts_on}
 use Rattle.analyse.specs.Slots.{is_packet, packets_in}
-use Rattle.analyse.specs.Faults.{grew_at, pmt_count}
+use Rattle.analyse.specs.Faults.{completes, pmts_of}
 use Rattle.analyse.specs.SectionWatching.{SectionState, is_on, told_by, HasSeenOnPid}
 use Rattle.analyse.specs.ToldPmts.{is_pmt_in, pmts_in}
 use Rattle.analyse.specs.PmtWatching.{assembler_behind}
 use Rattle.analyse.proofs.SectionLaws.{see_packet, seen_on, sections_seen}
-use Rattle.analyse.proofs.PatWatchLaws.{any_read, longer, grew_last}
+use Rattle.analyse.proofs.PatWatchLaws.{any_read, completes_last}
 
 -- a packet of the PID that isn't scrambled
 module _ (pid : ℕ) (slots : List (List ℕ)) (x : List ℕ) (h : is_packet x ≡ true) (on : is_on pid x ≡ true) where
@@ -43,8 +43,7 @@ module _ (pid : ℕ) (slots : List (List ℕ)) (x : List ℕ) (h : is_packet x �
       ∙ filter_map-append (λ b. value_of (pmt_of b)) (filter_map section_in (assembled (packets_on pid (packets_in slots)))) (filter_map section_in all)
       ∙ ap (λ (l : List PmtValue). pmts_on pid (packets_in slots) ++ l) (sym e)
 
-pub came_last : (pid : ℕ) (slots : List (List ℕ)) (x : List ℕ) (told : List Told) → pmts_on pid (packets_in (slots ++ x ∷ [])) ≡ pmts_on pid (packets_in slots) ++ pmts_in told → list_any is_pmt_in told ≡ grew_at (pmt_count pid) (slots ++ x ∷ []) (length slots + 1)
+pub came_last : (pid : ℕ) (slots : List (List ℕ)) (x : List ℕ) (told : List Told) → pmts_on pid (packets_in (slots ++ x ∷ [])) ≡ pmts_on pid (packets_in slots) ++ pmts_in told → list_any is_pmt_in told ≡ completes (pmts_of pid) (slots ++ x ∷ []) (length slots + 1)
 came_last pid slots x told e =
     any_read (λ b. value_of (pmt_of b)) told
-    ∙ sym (longer (pmts_on pid (packets_in slots)) (pmts_on pid (packets_in (slots ++ x ∷ []))) (pmts_in told) e)
-    ∙ sym (grew_last (pmt_count pid) slots x)
+    ∙ sym (completes_last (pmts_of pid) slots x (pmts_in told) e)

@@ -1,6 +1,6 @@
 -- The PMT watches of all PIDs, behind one more slot.
 use Rattle.std.proofs.Common.{◌≡◌, ◌≢◌, ℕ, zero, suc, ◌+◌, ◌<◌, List, [], ◌∷◌, ◌++◌, length, get_or, refl, sym, ◌∙◌, ap, subst, arith, Option, None, Bool, true, false, ◌&&◌, ⊎_elim}
-use Rattle.std.specs.Prelude.{◌==◌, not, set, cond, map, replicate}
+use Rattle.std.specs.Prelude.{◌==◌, set, cond, map, replicate}
 use Rattle.std.proofs.lemmas.Bool.{cases_eq, false_from_ne_true}
 use Rattle.std.proofs.lemmas.Bool.Decides.{Decides-eqb, nat_tests}
 use Rattle.std.proofs.lemmas.List.{append-nil, get_or-set_same, get_or-set_other}
@@ -8,14 +8,14 @@ use Rattle.std.proofs.lemmas.List.Elements.{filter-append}
 use Rattle.tspkt.specs.Packet.{pid_of, transport_scrambling_control_of}
 use Rattle.tables.specs.OnPid.{packets_on}
 use Rattle.analyse.specs.Slots.{packets_in, is_packet}
-use Rattle.analyse.specs.Faults.{grew_at, pmt_count}
+use Rattle.analyse.specs.Faults.{completes, pmts_of}
 use Rattle.section.specs.Assembled.{fresh}
 use Rattle.analyse.specs.SectionWatching.{is_on, state_behind}
 use Rattle.analyse.specs.PmtAssembling.{StandsFor}
 use Rattle.analyse.specs.PmtWatching.{PmtState, PmtPids, boxed_state, state_of, pids_kept, pids_of_program, HasSeenPmts, HaveSeenPmts}
 use Rattle.analyse.proofs.SlotLaws.{packets_more, packets_same}
 use Rattle.analyse.proofs.PmtLaws.{no_newest}
-use Rattle.analyse.proofs.PatWatchLaws.{grew_last}
+use Rattle.analyse.proofs.PatWatchLaws.{completes_last}
 
 -- a slot that is no packet of the PID that isn't scrambled
 unread : (pid : ℕ) (slots : List (List ℕ)) (x : List ℕ) → is_packet x ≡ true → is_on pid x ≡ false → packets_on pid (packets_in (slots ++ x ∷ [])) ≡ packets_on pid (packets_in slots)
@@ -33,17 +33,15 @@ module _ (pid : ℕ) (slots : List (List ℕ)) (x : List ℕ) (same : packets_on
     newest = rw same s.newest;
   }
 
-  no_growth : grew_at (pmt_count pid) (slots ++ x ∷ []) (length slots + 1) ≡ false
+  no_growth : completes (pmts_of pid) (slots ++ x ∷ []) (length slots + 1) ≡ false
   no_growth =
-      let n = pmt_count pid slots in
-      let e : pmt_count pid (slots ++ x ∷ []) ≡ n = rw same refl in
-      let t : (n == n) ≡ true = (Decides-eqb n n).1 refl in
-      grew_last (pmt_count pid) slots x ∙ ap (λ (k : ℕ). not (k == n)) e ∙ ap not t
+      let e : pmts_of pid (slots ++ x ∷ []) ≡ pmts_of pid slots = rw same refl in
+      completes_last (pmts_of pid) slots x [] (e ∙ sym (append-nil (pmts_of pid slots)))
 
 pub none_stays : (ws : List (Option PmtState)) (slots : List (List ℕ)) (x : List ℕ) → is_packet x ≡ false → HaveSeenPmts ws slots → HaveSeenPmts ws (slots ++ x ∷ [])
 none_stays ws slots x h s = record { pids = λ pid. stays pid slots x (none_read pid slots x h) (state_of (get_or ws pid None)) (s.pids pid) }
 
-pub none_grows : (slots : List (List ℕ)) (x : List ℕ) (pid : ℕ) → is_packet x ≡ false → grew_at (pmt_count pid) (slots ++ x ∷ []) (length slots + 1) ≡ false
+pub none_grows : (slots : List (List ℕ)) (x : List ℕ) (pid : ℕ) → is_packet x ≡ false → completes (pmts_of pid) (slots ++ x ∷ []) (length slots + 1) ≡ false
 none_grows slots x pid h = no_growth pid slots x (none_read pid slots x h)
 
 scrambled_off : (pid : ℕ) (x : List ℕ) → transport_scrambling_control_of x ≢ 0 → is_on pid x ≡ false
@@ -55,7 +53,7 @@ other_off pid x e = grind (arith, nat_tests)
 pub scrambled_stays : (ws : List (Option PmtState)) (slots : List (List ℕ)) (x : List ℕ) → is_packet x ≡ true → transport_scrambling_control_of x ≢ 0 → HaveSeenPmts ws slots → HaveSeenPmts ws (slots ++ x ∷ [])
 scrambled_stays ws slots x h e s = record { pids = λ pid. stays pid slots x (unread pid slots x h (scrambled_off pid x e)) (state_of (get_or ws pid None)) (s.pids pid) }
 
-pub scrambled_grows : (slots : List (List ℕ)) (x : List ℕ) (pid : ℕ) → is_packet x ≡ true → transport_scrambling_control_of x ≢ 0 → grew_at (pmt_count pid) (slots ++ x ∷ []) (length slots + 1) ≡ false
+pub scrambled_grows : (slots : List (List ℕ)) (x : List ℕ) (pid : ℕ) → is_packet x ≡ true → transport_scrambling_control_of x ≢ 0 → completes (pmts_of pid) (slots ++ x ∷ []) (length slots + 1) ≡ false
 scrambled_grows slots x pid h e = no_growth pid slots x (unread pid slots x h (scrambled_off pid x e))
 
 -- ---- the packet of a PID
@@ -76,12 +74,12 @@ watch_seen ws place new slots x small h e one s = record {
       (cases_eq pid place);
 }
 
-pub watch_came : (place pid : ℕ) (slots : List (List ℕ)) (x : List ℕ) (came : Bool) → is_packet x ≡ true → pid_of x ≡ place → came ≡ grew_at (pmt_count place) (slots ++ x ∷ []) (length slots + 1) → grew_at (pmt_count pid) (slots ++ x ∷ []) (length slots + 1) ≡ (came && pid_of x == pid)
+pub watch_came : (place pid : ℕ) (slots : List (List ℕ)) (x : List ℕ) (came : Bool) → is_packet x ≡ true → pid_of x ≡ place → came ≡ completes (pmts_of place) (slots ++ x ∷ []) (length slots + 1) → completes (pmts_of pid) (slots ++ x ∷ []) (length slots + 1) ≡ (came && pid_of x == pid)
 watch_came place pid slots x came h e c =
     ⊎_elim
     (λ (same : pid_of x ≡ pid).
     let t : (pid_of x == pid) ≡ true = (Decides-eqb (pid_of x) pid).1 same in
-    ap (λ (k : ℕ). grew_at (pmt_count k) (slots ++ x ∷ []) (length slots + 1)) (sym same ∙ e) ∙ sym c ∙ and_is came (pid_of x == pid) t)
+    ap (λ (k : ℕ). completes (pmts_of k) (slots ++ x ∷ []) (length slots + 1)) (sym same ∙ e) ∙ sym c ∙ and_is came (pid_of x == pid) t)
     (λ (differ : pid_of x ≢ pid).
     let t : (pid_of x == pid) ≡ false = false_from_ne_true (pid_of x == pid) (λ t. differ ((Decides-eqb (pid_of x) pid).0 t)) in
     no_growth pid slots x (unread pid slots x h (other_off pid x differ)) ∙ and_not came (pid_of x == pid) t)

@@ -13,7 +13,7 @@ use Rattle.tables.specs.declared.pmt_row.PmtRow.{PmtRow}
 use Rattle.analyse.specs.Slots.{slot_at, is_packet}
 use Rattle.analyse.specs.Gaps.{is_gap_at}
 use Rattle.analyse.specs.InForce.{program_rows_behind, is_pmt_pid_behind, newest_pmt_on, pmt_behind, has_elementary_pid, is_referred_behind}
-use Rattle.analyse.specs.Faults.{grew_at, pmt_count, is_scrambled_at, is_of_pid_at, began_at, is_pmt_watched, is_pmt_mark, is_pid_watched, is_pid_mark, is_pmt_bad_at, is_pid_missing_at, told_if, told_of_pids}
+use Rattle.analyse.specs.Faults.{completes, pmts_of, is_scrambled_at, is_of_pid_at, began_at, is_pmt_watched, is_pmt_mark, is_pid_watched, is_pid_mark, is_pmt_bad_at, is_pid_missing_at, told_if, told_of_pids}
 use Rattle.analyse.specs.SlotReading.{IsReadAs}
 use Rattle.analyse.specs.GapsWatching.{GapsState, is_watched, is_of_packet, is_also, OnlyMarked, ChangesTo, HaveSeenNumbers, gaps_at}
 use Rattle.analyse.specs.PmtWatching.{PmtState, elementary_pids, pids_of_program, HaveSeenPmts}
@@ -23,7 +23,7 @@ use Rattle.analyse.specs.declared.fault_kind.FaultKind.{FaultKind}
 use Rattle.analyse.specs.declared.fault_kind.FaultKind.TheVariants.{PmtError2, PidError}
 use Rattle.analyse.specs.declared.fault.Fault.{Fault}
 use Rattle.analyse.proofs.SlotLaws.{all_slots, new_slot}
-use Rattle.analyse.proofs.PatWatchLaws.{grew_before}
+use Rattle.analyse.proofs.PatWatchLaws.{completes_before}
 use Rattle.analyse.proofs.RangeLaws.{and_true}
 use Rattle.analyse.proofs.GapsLaws.{told_same, numbers_agree, pass_none}
 use Rattle.analyse.proofs.ProgramsLaws.{no_rows, rows_behind}
@@ -95,7 +95,7 @@ module _ (slots : List (List ℕ)) (x : List ℕ) where
 
   pub pmt_mark_before : (pid k : ℕ) → k < length slots + 1 → is_pmt_mark slots pid k ≡ is_pmt_mark (slots ++ x ∷ []) pid k
   pmt_mark_before pid k h =
-      let a = grew_before (pmt_count pid) slots x k (omega arith) in
+      let a = completes_before (pmts_of pid) slots x k (omega arith) in
       let b = began_before (is_pmt_watched slots pid) (is_pmt_watched (slots ++ x ∷ []) pid) k h (pmt_watched_before pid) in
       rw (a, b) refl
 
@@ -132,9 +132,9 @@ module _ (slots : List (List ℕ)) (x : List ℕ) where
       let some : (length slots + 1 == 0) ≡ false = grind (arith, nat_tests) in
       rw back (rw some refl)
 
-  pub pmt_mark_last : (pid : ℕ) → is_pmt_mark (slots ++ x ∷ []) pid (length slots + 1) ≡ (grew_at (pmt_count pid) (slots ++ x ∷ []) (length slots + 1) || (is_pmt_pid_behind (slots ++ x ∷ []) pid && not (is_pmt_pid_behind slots pid)))
+  pub pmt_mark_last : (pid : ℕ) → is_pmt_mark (slots ++ x ∷ []) pid (length slots + 1) ≡ (completes (pmts_of pid) (slots ++ x ∷ []) (length slots + 1) || (is_pmt_pid_behind (slots ++ x ∷ []) pid && not (is_pmt_pid_behind slots pid)))
   pmt_mark_last pid =
-      ap (λ (b : Bool). grew_at (pmt_count pid) (slots ++ x ∷ []) (length slots + 1) || b)
+      ap (λ (b : Bool). completes (pmts_of pid) (slots ++ x ∷ []) (length slots + 1) || b)
       (began_last (is_pmt_watched (slots ++ x ∷ []) pid)
       ∙ ap (λ (b : Bool). b && not (is_pmt_watched (slots ++ x ∷ []) pid (length slots))) (pmt_watched_last pid)
       ∙ ap (λ (b : Bool). is_pmt_pid_behind (slots ++ x ∷ []) pid && not b) (pmt_watched_now pid))
@@ -227,7 +227,7 @@ module _ (w : TablesState) (slots : List (List ℕ)) (x : List ℕ) (s : HaveSee
   pub pid_numbers : HaveSeenNumbers w.pid_gaps (is_pid_watched (slots ++ x ∷ [])) (is_pid_mark (slots ++ x ∷ [])) (length slots + 1)
   pid_numbers = numbers_agree w.pid_gaps (is_pid_watched slots) (is_pid_watched (slots ++ x ∷ [])) (is_pid_mark slots) (is_pid_mark (slots ++ x ∷ [])) (length slots + 1) (pid_watched_before slots x) (pid_mark_before slots x) s.pid_gaps
 
-  module _ (packet marked : Option (List ℕ)) (came : Bool) (grew : (pid : ℕ) → grew_at (pmt_count pid) (slots ++ x ∷ []) (length slots + 1) ≡ (came && is_of_packet packet pid)) (mark_is : (pid : ℕ) → is_of_packet marked pid ≡ (came && is_of_packet packet pid)) (r : IsReadAs x packet) where
+  module _ (packet marked : Option (List ℕ)) (came : Bool) (completed : (pid : ℕ) → completes (pmts_of pid) (slots ++ x ∷ []) (length slots + 1) ≡ (came && is_of_packet packet pid)) (mark_is : (pid : ℕ) → is_of_packet marked pid ≡ (came && is_of_packet packet pid)) (r : IsReadAs x packet) where
     not_begun : (now before : Bool) → now ≡ before → (now && not before) ≡ false
     not_begun true before e = ap not (sym e)
     not_begun false before e = refl
@@ -237,8 +237,8 @@ module _ (w : TablesState) (slots : List (List ℕ)) (x : List ℕ) (s : HaveSee
       same = λ pid h. pmt_watched_last slots x pid ∙ same pid ∙ sym (s.pmt_pids pid h);
       only = λ pid h.
           pmt_mark_last slots x pid
-          ∙ ap (λ (b : Bool). grew_at (pmt_count pid) (slots ++ x ∷ []) (length slots + 1) || b) (not_begun (is_pmt_pid_behind (slots ++ x ∷ []) pid) (is_pmt_pid_behind slots pid) (same pid))
-          ∙ or_no (grew_at (pmt_count pid) (slots ++ x ∷ []) (length slots + 1)) ∙ grew pid ∙ sym (mark_is pid);
+          ∙ ap (λ (b : Bool). completes (pmts_of pid) (slots ++ x ∷ []) (length slots + 1) || b) (not_begun (is_pmt_pid_behind (slots ++ x ∷ []) pid) (is_pmt_pid_behind slots pid) (same pid))
+          ∙ or_no (completes (pmts_of pid) (slots ++ x ∷ []) (length slots + 1)) ∙ completed pid ∙ sym (mark_is pid);
     }
 
     pub pid_only : ((pid : ℕ) → is_referred_behind (slots ++ x ∷ []) pid ≡ is_referred_behind slots pid) → OnlyMarked w.pid_gaps (is_pid_watched (slots ++ x ∷ [])) (is_pid_mark (slots ++ x ∷ [])) (length slots + 1) packet
@@ -255,7 +255,7 @@ module _ (w : TablesState) (slots : List (List ℕ)) (x : List ℕ) (s : HaveSee
       now = λ pid h. pmt_watched_last slots x pid ∙ sym (now pid h);
       marks = λ pid h.
           pmt_mark_last slots x pid
-          ∙ ap (λ (b : Bool). b || (is_pmt_pid_behind (slots ++ x ∷ []) pid && not (is_pmt_pid_behind slots pid))) (grew pid ∙ sym (mark_is pid))
+          ∙ ap (λ (b : Bool). b || (is_pmt_pid_behind (slots ++ x ∷ []) pid && not (is_pmt_pid_behind slots pid))) (completed pid ∙ sym (mark_is pid))
           ∙ ap (λ (b : Bool). is_of_packet marked pid || (b && not (is_pmt_pid_behind slots pid))) (sym (now pid h))
           ∙ ap (λ (b : Bool). is_of_packet marked pid || (get_or set pid false && not b)) (sym (s.pmt_pids pid h));
     }

@@ -1,10 +1,13 @@
 -- The first-priority faults of ETSI TR 101 290, 5.2.1, by their numbers and names there. When each is told, the limits in
 -- slots and the order are profile.
-use Rattle.std.specs.Prelude.{ℕ, ◌+◌, ◌-◌, ◌/◌, ◌==◌, Bool, true, ◌&&◌, ◌||◌, not, if◌then◌else◌, List, [], ◌∷◌, ◌++◌, length, take, Option, Some, None, filter}
+use Rattle.std.specs.Prelude.{ℕ, ◌+◌, ◌-◌, ◌/◌, ◌==◌, Bool, true, ◌&&◌, ◌||◌, not, if◌then◌else◌, List, [], ◌∷◌, ◌++◌, length, take, drop, Option, Some, None, filter}
 use Rattle.std.specs.List.{flat_map, range_with_len}
 use Rattle.tspkt.specs.Bits.{field}
 use Rattle.tspkt.specs.Packet.{pid_of, transport_scrambling_control_of}
 use Rattle.tspkt.specs.Counters.{lawful_of}
+use Rattle.tables.specs.InForce.{SectionValue}
+use Rattle.tables.specs.Pat.{PatValue}
+use Rattle.tables.specs.Pmt.{PmtValue}
 use Rattle.tables.specs.OnPid.{sections_on, pat_sections, pmts_on}
 use Rattle.analyse.specs.Slots.{slot_at, is_packet, packets_in, packets_of_pid, is_sync_lost_at, is_sync_byte_bad_at}
 use Rattle.analyse.specs.Gaps.{is_gap_at}
@@ -22,25 +25,29 @@ is_scrambled_at slots pid m =
 abbrev pub is_of_pid_at : List (List ℕ) → ℕ → ℕ → Bool
 is_of_pid_at slots pid m = is_packet (slot_at slots m) && pid_of (slot_at slots m) == pid
 
--- how many of something the first m slots told, and whether the last of them told one
-abbrev pub grew_at : (List (List ℕ) → ℕ) → List (List ℕ) → ℕ → Bool
-grew_at count slots k = not (k == 0) && not (count (take k slots) == count (take (k - 1) slots))
+-- the sections that the last of the first k slots completed, of those that slots complete together
+abbrev pub completed_by : {X : Type 0} → (List (List ℕ) → List X) → List (List ℕ) → ℕ → List X
+completed_by sections_of slots k = drop (length (sections_of (take (k - 1) slots))) (sections_of (take k slots))
+
+-- a section was completed by it
+abbrev pub completes : {X : Type 0} → (List (List ℕ) → List X) → List (List ℕ) → ℕ → Bool
+completes sections_of slots k = not (length (completed_by sections_of slots k) == 0)
 
 -- ---- PAT_error_2 (1.3.a)
 
-abbrev pub pat_count : List (List ℕ) → ℕ
-pat_count slots = length (pat_sections (packets_in slots))
+abbrev pub pats_of : List (List ℕ) → List (SectionValue PatValue)
+pats_of slots = pat_sections (packets_in slots)
 
 abbrev pub is_pat_mark : List (List ℕ) → ℕ → Bool
-is_pat_mark slots k = k == 0 || grew_at pat_count slots k
+is_pat_mark slots k = k == 0 || completes pats_of slots k
 
--- how many sections with another table_id stood on the PAT's PID
-abbrev pub other_count : List (List ℕ) → ℕ
-other_count slots = length (filter (λ b. not (field b 0 8 == 0)) (sections_on 0x0000 (packets_in slots)))
+-- the sections with another table_id on the PAT's PID
+abbrev pub others_of : List (List ℕ) → List (List ℕ)
+others_of slots = filter (λ b. not (field b 0 8 == 0)) (sections_on 0x0000 (packets_in slots))
 
 unfoldable pub is_pat_bad_at : ℕ → List (List ℕ) → ℕ → Bool
 is_pat_bad_at limit slots m =
-    (is_gap_at limit (λ k. true) (is_pat_mark slots) m || grew_at other_count slots (m + 1)) || is_scrambled_at slots 0x0000 m
+    (is_gap_at limit (λ k. true) (is_pat_mark slots) m || completes others_of slots (m + 1)) || is_scrambled_at slots 0x0000 m
 
 -- ---- Continuity_count_error (1.4)
 
@@ -57,8 +64,8 @@ is_counter_bad_at slots m =
 
 -- ---- PMT_error_2 (1.5.a)
 
-abbrev pub pmt_count : ℕ → List (List ℕ) → ℕ
-pmt_count pid slots = length (pmts_on pid (packets_in slots))
+abbrev pub pmts_of : ℕ → List (List ℕ) → List PmtValue
+pmts_of pid slots = pmts_on pid (packets_in slots)
 
 abbrev pub is_pmt_watched : List (List ℕ) → ℕ → ℕ → Bool
 is_pmt_watched slots pid k = is_pmt_pid_behind (take k slots) pid
@@ -67,7 +74,7 @@ abbrev pub began_at : (ℕ → Bool) → ℕ → Bool
 began_at watched k = not (k == 0) && (watched k && not (watched (k - 1)))
 
 abbrev pub is_pmt_mark : List (List ℕ) → ℕ → ℕ → Bool
-is_pmt_mark slots pid k = grew_at (pmt_count pid) slots k || began_at (is_pmt_watched slots pid) k
+is_pmt_mark slots pid k = completes (pmts_of pid) slots k || began_at (is_pmt_watched slots pid) k
 
 unfoldable pub is_pmt_bad_at : ℕ → List (List ℕ) → ℕ → ℕ → Bool
 is_pmt_bad_at limit slots m pid =

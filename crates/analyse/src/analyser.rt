@@ -1,9 +1,9 @@
 //! The analyser of a stream.
 
-ghost use Rattle.std.specs.Prelude.{◌≡◌, ◌∷◌, ◌++◌, [], ℕ, List, length, option_map, OnOk};
+ghost use Rattle.std.specs.Prelude.{◌≡◌, ◌∷◌, ◌++◌, [], option_map, OnOk};
 ghost use Rattle.analyse.specs.Faults.{faults_at};
 ghost use Rattle.analyse.specs.SlotReading.{IsReadAs};
-ghost use Rattle.analyse.specs.Analysed.{IsWatching};
+ghost use Rattle.analyse.specs.Analysed.{IsWatching, WatchesSlot, WatchesTell};
 
 use crate::fault::Fault;
 use crate::stream_watch::StreamWatch;
@@ -43,10 +43,8 @@ fn see_slot(
     out: &mut Vec<Fault>,
 ) -> Result<(), AllocError>
     requires { IsReadAs slot.now (option_map (λ p. p.now) packet) }
-    ensures seen { OnOk result ((slots : List (List ℕ)) → IsWatching rate period watch.old slots
-        → IsWatching rate period watch.new (slots ++ slot.now ∷ [])) }
-    ensures told { OnOk result ((slots : List (List ℕ)) → IsWatching rate period watch.old slots
-        → out.new.items ≡ out.old.items ++ faults_at rate period (slots ++ slot.now ∷ []) (length slots)) }
+    ensures seen { OnOk result (WatchesSlot rate period watch.old slot.now watch.new) }
+    ensures told { OnOk result (WatchesTell rate period watch.old slot.now out.old.items out.new.items) }
 {
     match watch {
         Some(watch) => watch.see(slot, packet, out),
@@ -84,18 +82,16 @@ impl Model for Analyser {
 }
 
 impl Analyser {
-    ghost use Rattle.std.specs.Prelude.{◌≡◌, ◌∷◌, ◌++◌, [], ℕ, List, length, true, option_map, IsErr, OnOk, OnErr};
+    ghost use Rattle.std.specs.Prelude.{◌≡◌, [], true, option_map, IsErr, OnOk, OnErr};
     ghost use Rattle.analyse.specs.SlotReading.{IsReadAs};
-    ghost use Rattle.analyse.specs.Faults.{faults, faults_at};
-    ghost use Rattle.analyse.specs.Analysed.{HasSeen};
-    ghost use Rattle.analyse.specs.declared.fault.Fault.{Fault};
+    ghost use Rattle.analyse.specs.Analysed.{HasAccepted, AcceptsSlot, TellsSlot, TellsAll};
 
     /// An analyser of a stream of `rate` bits a second. The PIDs to which a PMT refers have to come within `period` slots
     /// each. It takes no memory before the first slot.
     pub fn new(alloc: Global, rate: u64, period: u64) -> Analyser
         ensures rate { result.rate ≡ rate }
         ensures period { result.period ≡ period }
-        ensures seen { HasSeen result [] }
+        ensures seen { HasAccepted result [] }
     {
         Analyser {
             alloc,
@@ -114,13 +110,9 @@ impl Analyser {
     pub fn push(&mut self, slot: &[u8; 188], out: &mut Vec<Fault>) -> Result<(), AllocError>
         ensures rate { self.new.rate ≡ self.old.rate }
         ensures period { self.new.period ≡ self.old.period }
-        ensures seen { OnOk result ((slots : List (List ℕ)) → HasSeen self.old slots
-            → HasSeen self.new (slots ++ slot.now ∷ [])) }
-        ensures told { OnOk result ((slots : List (List ℕ)) → HasSeen self.old slots → out.new.items
-            ≡ out.old.items ++ faults_at self.old.rate self.old.period (slots ++ slot.now ∷ []) (length slots)) }
-        ensures whole { OnOk result ((slots : List (List ℕ)) (before : List Fault) → HasSeen self.old slots
-            → out.old.items ≡ before ++ faults self.old.rate self.old.period slots
-            → out.new.items ≡ before ++ faults self.old.rate self.old.period (slots ++ slot.now ∷ [])) }
+        ensures seen { OnOk result (AcceptsSlot self.old slot.now self.new) }
+        ensures told { OnOk result (TellsSlot self.old slot.now out.old.items out.new.items) }
+        ensures whole { OnOk result (TellsAll self.old slot.now out.old.items out.new.items) }
         ensures err { OnErr result (out.new.items ≡ out.old.items) }
         ensures refused { OnErr result (self.new.is_refused ≡ true) }
         ensures stays { self.old.is_refused ≡ true → IsErr result }
@@ -135,13 +127,9 @@ impl Analyser {
     pub fn push_packet(&mut self, packet: &Packet, out: &mut Vec<Fault>) -> Result<(), AllocError>
         ensures rate { self.new.rate ≡ self.old.rate }
         ensures period { self.new.period ≡ self.old.period }
-        ensures seen { OnOk result ((slots : List (List ℕ)) → HasSeen self.old slots
-            → HasSeen self.new (slots ++ packet.now ∷ [])) }
-        ensures told { OnOk result ((slots : List (List ℕ)) → HasSeen self.old slots → out.new.items
-            ≡ out.old.items ++ faults_at self.old.rate self.old.period (slots ++ packet.now ∷ []) (length slots)) }
-        ensures whole { OnOk result ((slots : List (List ℕ)) (before : List Fault) → HasSeen self.old slots
-            → out.old.items ≡ before ++ faults self.old.rate self.old.period slots
-            → out.new.items ≡ before ++ faults self.old.rate self.old.period (slots ++ packet.now ∷ [])) }
+        ensures seen { OnOk result (AcceptsSlot self.old packet.now self.new) }
+        ensures told { OnOk result (TellsSlot self.old packet.now out.old.items out.new.items) }
+        ensures whole { OnOk result (TellsAll self.old packet.now out.old.items out.new.items) }
         ensures err { OnErr result (out.new.items ≡ out.old.items) }
         ensures refused { OnErr result (self.new.is_refused ≡ true) }
         ensures stays { self.old.is_refused ≡ true → IsErr result }
@@ -159,13 +147,9 @@ impl Analyser {
         requires { IsReadAs slot.now (option_map (λ p. p.now) packet) }
         ensures rate { self.new.rate ≡ self.old.rate }
         ensures period { self.new.period ≡ self.old.period }
-        ensures seen { OnOk result ((slots : List (List ℕ)) → HasSeen self.old slots
-            → HasSeen self.new (slots ++ slot.now ∷ [])) }
-        ensures told { OnOk result ((slots : List (List ℕ)) → HasSeen self.old slots → out.new.items
-            ≡ out.old.items ++ faults_at self.old.rate self.old.period (slots ++ slot.now ∷ []) (length slots)) }
-        ensures whole { OnOk result ((slots : List (List ℕ)) (before : List Fault) → HasSeen self.old slots
-            → out.old.items ≡ before ++ faults self.old.rate self.old.period slots
-            → out.new.items ≡ before ++ faults self.old.rate self.old.period (slots ++ slot.now ∷ [])) }
+        ensures seen { OnOk result (AcceptsSlot self.old slot.now self.new) }
+        ensures told { OnOk result (TellsSlot self.old slot.now out.old.items out.new.items) }
+        ensures whole { OnOk result (TellsAll self.old slot.now out.old.items out.new.items) }
         ensures err { OnErr result (out.new.items ≡ out.old.items) }
         ensures refused { OnErr result (self.new.is_refused ≡ true) }
         ensures stays { self.old.is_refused ≡ true → IsErr result }
@@ -188,10 +172,8 @@ impl Analyser {
         requires { IsReadAs slot.now (option_map (λ p. p.now) packet) }
         ensures rate { self.new.rate ≡ self.old.rate }
         ensures period { self.new.period ≡ self.old.period }
-        ensures seen { OnOk result ((slots : List (List ℕ)) → HasSeen self.old slots
-            → HasSeen self.new (slots ++ slot.now ∷ [])) }
-        ensures told { OnOk result ((slots : List (List ℕ)) → HasSeen self.old slots → out.new.items
-            ≡ out.old.items ++ faults_at self.old.rate self.old.period (slots ++ slot.now ∷ []) (length slots)) }
+        ensures seen { OnOk result (AcceptsSlot self.old slot.now self.new) }
+        ensures told { OnOk result (TellsSlot self.old slot.now out.old.items out.new.items) }
         ensures err { OnErr result (out.new.items ≡ out.old.items) }
     {
         self.found.clear();
@@ -204,6 +186,9 @@ impl Analyser {
             packet,
             &mut self.found,
         )?;
+        if self.found.is_empty() {
+            return Ok(());
+        }
         out.extend_from_slice(&self.found)
     }
 }

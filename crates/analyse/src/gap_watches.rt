@@ -207,12 +207,38 @@ impl GapWatches {
         ensures told { OnOk result ((watched mark : ℕ → ℕ → Bool) → HaveSeenNumbers self.old watched mark (count + 1)
             → out.new.items ≡ out.old.items ++ gaps_at self.old.limit watched mark also kind count) }
     {
+        self.renew_due(count);
+        self.tell_due(count, also, kind, out)
+    }
+
+    /// Finds anew the slot at which a gap can fall due, where it has come.
+    fn renew_due(&mut self, count: u64)
+        ensures limit { self.new.limit ≡ self.old.limit }
+        ensures watched { self.new.watched ≡ self.old.watched }
+        ensures seen { (watched mark : ℕ → ℕ → Bool) → HaveSeenNumbers self.old watched mark (count + 1)
+            → HaveSeenNumbers self.new watched mark (count + 1) }
+    {
+        if self.due <= count {
+            self.due = self.next_due(count);
+        }
+    }
+
+    /// Tells the gaps of the slot behind `count` slots, and `also`; all PIDs are gone through only where one can fall due.
+    fn tell_due(
+        &self,
+        count: u64,
+        also: Option<u16>,
+        kind: FaultKind,
+        out: &mut Vec<Fault>,
+    ) -> Result<(), AllocError>
+        requires { ForSome also (λ pid. pid < 8192) }
+        ensures { OnOk result ((watched mark : ℕ → ℕ → Bool) → HaveSeenNumbers self.now watched mark (count + 1)
+            → out.new.items ≡ out.old.items ++ gaps_at self.now.limit watched mark also kind count) }
+    {
         if count < self.due {
             return tell_also(count, also, kind, out);
         }
-        self.tell_long(count, also, kind, out)?;
-        self.due = self.next_due(count);
-        Ok(())
+        self.tell_long(count, also, kind, out)
     }
 
     /// The least slot, from this one on, at which an open gap falls due.

@@ -47,7 +47,7 @@ impl PmtWatch {
     ghost use Rattle.std.specs.List.{list_any};
     ghost use Rattle.tables.specs.Pmt.{PmtValue};
     ghost use Rattle.analyse.specs.SlotReading.{IsReadAs};
-    ghost use Rattle.analyse.specs.Faults.{grew_at, pmt_count};
+    ghost use Rattle.analyse.specs.Faults.{completes, pmts_of};
     ghost use Rattle.analyse.specs.SectionWatching.{is_on};
     ghost use Rattle.analyse.specs.ToldPmts.{pmt_in, pmts_in, is_pmt_in};
     ghost use Rattle.analyse.specs.PmtWatching.{new_pmt_watch, pids_kept, KeepsNewest, HasSeenPmts};
@@ -79,7 +79,7 @@ impl PmtWatch {
             → HasSeenPmts pid self.new (slots ++ slot ∷ [])) }
         ensures came { IfOk result (λ seen. (slots : List (List ℕ)) (slot : List ℕ) (pid : ℕ)
             → HasSeenPmts pid self.old slots → IsReadAs slot (Some packet.now) → is_on pid packet.now ≡ true
-            → seen.came ≡ grew_at (pmt_count pid) (slots ++ slot ∷ []) (length slots + 1)) }
+            → seen.came ≡ completes (pmts_of pid) (slots ++ slot ∷ []) (length slots + 1)) }
     {
         self.assembly.push(self.alloc, packet, told)?;
         let seen = self.push_all(told)?;

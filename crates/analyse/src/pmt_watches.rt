@@ -2,7 +2,7 @@
 
 ghost use Rattle.std.specs.Prelude.{◌≡◌, ◌∷◌, ◌++◌, [], ◌+◌, ℕ, List, length, Some, true, false, IfOk, OnOk};
 ghost use Rattle.analyse.specs.SlotReading.{IsReadAs};
-ghost use Rattle.analyse.specs.Faults.{grew_at, pmt_count};
+ghost use Rattle.analyse.specs.Faults.{completes, pmts_of};
 ghost use Rattle.analyse.specs.SectionWatching.{is_on};
 ghost use Rattle.analyse.specs.PmtWatching.{HasSeenPmts, new_pmt_watch, state_of, boxed_state};
 
@@ -39,7 +39,7 @@ fn see_packet(
     ensures came { IfOk result (λ seen. (slots : List (List ℕ)) (slot : List ℕ) (pid : ℕ)
         → HasSeenPmts pid (state_of (boxed_state watch.old)) slots
         → IsReadAs slot (Some packet.now) → is_on pid packet.now ≡ true
-        → seen.came ≡ grew_at (pmt_count pid) (slots ++ slot ∷ []) (length slots + 1)) }
+        → seen.came ≡ completes (pmts_of pid) (slots ++ slot ∷ []) (length slots + 1)) }
 {
     match watch {
         Some(watch) => watch.push(packet, told),
@@ -75,7 +75,7 @@ impl Model for PmtWatches {
 impl PmtWatches {
     ghost use Rattle.std.specs.Prelude.{◌≡◌, ◌∷◌, ◌++◌, [], ◌+◌, ◌<◌, ◌&&◌, ℕ, List, length, Some, false, IfOk, OnOk, option_map};
     ghost use Rattle.analyse.specs.SlotReading.{IsReadAs};
-    ghost use Rattle.analyse.specs.Faults.{grew_at, pmt_count};
+    ghost use Rattle.analyse.specs.Faults.{completes, pmts_of};
     ghost use Rattle.analyse.specs.GapsWatching.{is_of_packet};
     ghost use Rattle.analyse.specs.PmtWatching.{HaveSeenPmts, pids_of_program};
 
@@ -113,7 +113,7 @@ impl PmtWatches {
             → IsReadAs slot (option_map (λ p. p.now) packet.entry) → HaveSeenPmts self.new (slots ++ slot ∷ [])) }
         ensures came { IfOk result (λ seen. (slots : List (List ℕ)) (slot : List ℕ) → HaveSeenPmts self.old slots
             → IsReadAs slot (option_map (λ p. p.now) packet.entry) → (pid : ℕ)
-            → grew_at (pmt_count pid) (slots ++ slot ∷ []) (length slots + 1)
+            → completes (pmts_of pid) (slots ++ slot ∷ []) (length slots + 1)
             ≡ (seen.came && is_of_packet (option_map (λ p. p.now) packet.entry) pid)) }
     {
         let nothing = TableSeen {

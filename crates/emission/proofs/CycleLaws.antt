@@ -14,14 +14,14 @@ filter_next p xs i x e =
     let is : get_or xs i x ≡ x = get_or_from_slice_get xs i x x e in
     ap (λ n. filter p (take n xs)) (sym (add-one i)) ∙ filter_more p xs i x l ∙ ap (λ y. filter p (take i xs) ++ cond (p y) (y ∷ []) []) is
 
-filter_yes : {X : Type 0} (p : X → Bool) (xs : List X) (i : ℕ) (x : X) → slice_get xs i ≡ Some x → p x ≡ true → filter p (take (suc i) xs) ≡ filter p (take i xs) ++ x ∷ []
+pub filter_yes : {X : Type 0} (p : X → Bool) (xs : List X) (i : ℕ) (x : X) → slice_get xs i ≡ Some x → p x ≡ true → filter p (take (suc i) xs) ≡ filter p (take i xs) ++ x ∷ []
 filter_yes p xs i x e t = filter_next p xs i x e ∙ ap (λ b. filter p (take i xs) ++ cond b (x ∷ []) []) t
 
-filter_no : {X : Type 0} (p : X → Bool) (xs : List X) (i : ℕ) (x : X) → slice_get xs i ≡ Some x → p x ≡ false → filter p (take (suc i) xs) ≡ filter p (take i xs)
+pub filter_no : {X : Type 0} (p : X → Bool) (xs : List X) (i : ℕ) (x : X) → slice_get xs i ≡ Some x → p x ≡ false → filter p (take (suc i) xs) ≡ filter p (take i xs)
 filter_no p xs i x e t = filter_next p xs i x e ∙ ap (λ b. filter p (take i xs) ++ cond b (x ∷ []) []) t ∙ append-nil (filter p (take i xs))
 
 -- where an element that passes stands among those that do
-filter_place : {X : Type 0} (p : X → Bool) (xs : List X) (i : ℕ) (x : X) → slice_get xs i ≡ Some x → p x ≡ true → slice_get (filter p xs) (length (filter p (take i xs))) ≡ Some x
+pub filter_place : {X : Type 0} (p : X → Bool) (xs : List X) (i : ℕ) (x : X) → slice_get xs i ≡ Some x → p x ≡ true → slice_get (filter p xs) (length (filter p (take i xs))) ≡ Some x
 filter_place p [] i x e t = cc
 filter_place p (y ∷ ys) zero x e t =
     let same : y ≡ x = cc in
@@ -34,7 +34,7 @@ filter_place p (y ∷ ys) (suc i) x e t = behind (p y) (filter_place p ys i x e 
     behind false h = h
 
 -- how many of the first t elements of the endless repetition pass
-pub kept : {X : Type 0} → (X → Bool) → List X → ℕ → ℕ
+unfoldable pub kept : {X : Type 0} → (X → Bool) → List X → ℕ → ℕ
 kept p xs t = t / length xs * length (filter p xs) + length (filter p (take (t % length xs) xs))
 
 kept_step : {X : Type 0} (p : X → Bool) (xs : List X) (t : ℕ) → 0 < length xs → kept p xs (suc t) ≡ t / length xs * length (filter p xs) + length (filter p (take (suc (t % length xs)) xs))
@@ -61,14 +61,14 @@ kept_step p xs t l =
           ap (λ k. k * b + length (filter p (take (suc t % n) xs))) q ∙ ap (λ k. (t / n + 1) * b + length (filter p (take k xs))) r ∙ omega arith
     ]
 
-kept_yes : {X : Type 0} (p : X → Bool) (xs : List X) (t : ℕ) (x : X) → slice_get xs (t % length xs) ≡ Some x → p x ≡ true → kept p xs (suc t) ≡ suc (kept p xs t)
+pub kept_yes : {X : Type 0} (p : X → Bool) (xs : List X) (t : ℕ) (x : X) → slice_get xs (t % length xs) ≡ Some x → p x ≡ true → kept p xs (suc t) ≡ suc (kept p xs t)
 unfolding kept
 kept_yes p xs t x e y =
     let within = slice_get_within xs (t % length xs) x e in
     let parts = ap length (filter_yes p xs (t % length xs) x e y) ∙ length-append (filter p (take (t % length xs) xs)) (x ∷ []) in
     kept_step p xs t (omega arith) ∙ omega arith
 
-kept_no : {X : Type 0} (p : X → Bool) (xs : List X) (t : ℕ) (x : X) → slice_get xs (t % length xs) ≡ Some x → p x ≡ false → kept p xs (suc t) ≡ kept p xs t
+pub kept_no : {X : Type 0} (p : X → Bool) (xs : List X) (t : ℕ) (x : X) → slice_get xs (t % length xs) ≡ Some x → p x ≡ false → kept p xs (suc t) ≡ kept p xs t
 unfolding kept
 kept_no p xs t x e y =
     let within = slice_get_within xs (t % length xs) x e in
@@ -84,7 +84,7 @@ kept_at p xs t x e y =
     let l = slice_get_within (filter p xs) place x is in
     ap (slice_get (filter p xs)) (mod-mul-add (t / length xs) (length (filter p xs)) place l) ∙ is
 
-kept_none : {X : Type 0} (p : X → Bool) (xs : List X) → 0 < length xs → kept p xs 0 ≡ 0
+pub kept_none : {X : Type 0} (p : X → Bool) (xs : List X) → 0 < length xs → kept p xs 0 ≡ 0
 unfolding kept
 kept_none p xs l =
     let e : 0 * length xs + 0 ≡ 0 = omega arith in

@@ -77,11 +77,11 @@ read_length table_id single b h e =
     let same = eqb-true (section_length_of b + 3) (length b) (not-false (section_length_of b + 3 == length b) first.0) in
     omega arith
 
-pat_header : (r : Result Header TableFault) (body : List ℕ) (v : PatValue) → pat_behind_header r body ≡ Ok v → (h : Header) × (r ≡ Ok h)
+pub pat_header : (r : Result Header TableFault) (body : List ℕ) (v : PatValue) → pat_behind_header r body ≡ Ok v → (h : Header) × (r ≡ Ok h)
 pat_header (Err e) body v h = cc
 pat_header (Ok x) body v h = (x, refl)
 
-pmt_header : (r : Result Header TableFault) (body : List ℕ) (v : PmtValue) → pmt_behind_header r body ≡ Ok v → (h : Header) × (r ≡ Ok h)
+pub pmt_header : (r : Result Header TableFault) (body : List ℕ) (v : PmtValue) → pmt_behind_header r body ≡ Ok v → (h : Header) × (r ≡ Ok h)
 pmt_header (Err e) body v h = cc
 pmt_header (Ok x) body v h = (x, refl)
 

@@ -21,7 +21,7 @@ use Rattle.emission.proofs.SlotLaws.{carried}
 
 -- ---- where a section's first packet stands
 
-get_behind : {X : Type 0} (xs ys : List X) (k : ℕ) → slice_get (xs ++ ys) (length xs + k) ≡ slice_get ys k
+pub get_behind : {X : Type 0} (xs ys : List X) (k : ℕ) → slice_get (xs ++ ys) (length xs + k) ≡ slice_get ys k
 get_behind [] ys k = ap (slice_get ys) (let e : 0 + k ≡ k = omega arith in e)
 get_behind (x ∷ xs) ys k = ap (slice_get (x ∷ (xs ++ ys))) (let e : suc (length xs) + k ≡ suc (length xs + k) = omega arith in e) ∙ get_behind xs ys k
 
@@ -78,12 +78,12 @@ slow_begins p out i s f ok h e =
     )
 
 -- one of some that others stand behind, and the last one
-get_before : {X : Type 0} (xs ys : List X) (i : ℕ) (x : X) → slice_get xs i ≡ Some x → slice_get (xs ++ ys) i ≡ Some x
+pub get_before : {X : Type 0} (xs ys : List X) (i : ℕ) (x : X) → slice_get xs i ≡ Some x → slice_get (xs ++ ys) i ≡ Some x
 get_before [] ys i x e = cc
 get_before (y ∷ xs) ys zero x e = e
 get_before (y ∷ xs) ys (suc i) x e = get_before xs ys i x e
 
-last_behind : {X : Type 0} (xs : List X) (y : X) → slice_get (xs ++ y ∷ []) (length xs) ≡ Some y
+pub last_behind : {X : Type 0} (xs : List X) (y : X) → slice_get (xs ++ y ∷ []) (length xs) ≡ Some y
 last_behind [] y = refl
 last_behind (x ∷ xs) y = last_behind xs y
 

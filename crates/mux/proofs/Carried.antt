@@ -21,7 +21,8 @@ use Rattle.mux.specs.History.{is_mapped_to, taken_for, sent, queue, slot_time, e
 use Rattle.mux.specs.Lawful.{IsLawful, IsContent}
 use Rattle.mux.specs.Headline.{PcrsAreLater, EmittedThenQueued}
 use Rattle.mux.proofs.Contents.{stream_choice}
-use Rattle.mux.proofs.Emitted.{length-emitted, before_end, at_end}
+use Rattle.emission.proofs.RecurrenceLaws.{last_behind}
+use Rattle.mux.proofs.Emitted.{length-emitted, before_end}
 use Rattle.mux.proofs.Plans.{IsAt, Has, has_of, same_stream, all_at}
 use Rattle.mux.proofs.Queues.{sent_within}
 use Rattle.mux.proofs.Outputs.{sent_moved, packets_of}
@@ -127,7 +128,7 @@ carries p (Slot c ∷ h) k st plan law at m q here e =
           (let within = slice_get_within (out ++ new ∷ []) m q here in
           let last : m ≡ length out = omega (arith, l, within, length-append out (new ∷ [])) in
           let before : take m (out ++ new ∷ []) ≡ out = take_at out (new ∷ []) m (sym last) in
-          let same : new ≡ q = same_Some new q (sym (at_end out new) ∙ ap (slice_get (out ++ new ∷ [])) (sym last) ∙ here) in
+          let same : new ≡ q = same_Some new q (sym (last_behind out new) ∙ ap (slice_get (out ++ new ∷ [])) (sym last) ∙ here) in
           let P : List (List ℕ) → Type 0 = λ xs. Carries p (Slot c ∷ h) st xs m q in
           let Q : ℕ → Type 0 = λ n. Carries p (Slot c ∷ h) st out n q in
           let R : List ℕ → Type 0 = Carries p (Slot c ∷ h) st out (length out) in

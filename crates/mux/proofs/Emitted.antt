@@ -1,6 +1,7 @@
 -- The packets that went out, by number.
 use Rattle.std.proofs.Common.{ℕ, zero, suc, ◌+◌, ◌-◌, ◌<◌, ◌≡◌, List, [], ◌∷◌, ◌++◌, length, Some, refl, ap, sym, ◌∙◌, arith, subst, length-append}
 use Rattle.std.specs.List.{slice_get}
+use Rattle.emission.proofs.RecurrenceLaws.{last_behind}
 use Rattle.mux.specs.declared.event.Event.{Event}
 use Rattle.mux.specs.declared.event.Event.TheVariants.{Took, Full, Close, Slot}
 use Rattle.plan.specs.Build.{PlanValue}
@@ -22,10 +23,6 @@ before_end [] y m l = absurd (omega arith)
 before_end (x ∷ xs) y zero l = refl
 before_end (x ∷ xs) y (suc m) l = before_end xs y m (omega arith)
 
-pub at_end : {X : Type 0} (xs : List X) (y : X) → slice_get (xs ++ y ∷ []) (length xs) ≡ Some y
-at_end [] y = refl
-at_end (x ∷ xs) y = at_end xs y
-
 -- the last of the packets that went out is that of the slot that was sent
 pub last_sent : (old new : History) (answer : SendAnswers old sending.Sent new)
     → slice_get (emitted new.run.plan new.events) (slots new.events - 1) ≡ Some (packet_behind old.run.plan old.events (emitted old.run.plan old.events) answer.1.0)
@@ -35,4 +32,4 @@ last_sent old new answer =
     let q = packet_behind p h (emitted p h) answer.1.0 in
     let P : History → Type 0 = λ x. slice_get (emitted x.run.plan x.events) (slots x.events - 1) ≡ Some q in
     let at : slots h + 1 - 1 ≡ length (emitted p h) = omega (arith, length-emitted p h) in
-    subst P (sym answer.1.2) (ap (slice_get (emitted p h ++ q ∷ [])) at ∙ at_end (emitted p h) q)
+    subst P (sym answer.1.2) (ap (slice_get (emitted p h ++ q ∷ [])) at ∙ last_behind (emitted p h) q)

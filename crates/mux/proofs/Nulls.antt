@@ -26,7 +26,8 @@ use Rattle.mux.specs.History.{slots, emitted, packet_behind}
 use Rattle.mux.specs.Lawful.{IsLawful, IsContent, IsEligible}
 use Rattle.mux.specs.Headline.{NullsAreNeeded}
 use Rattle.mux.proofs.Contents.{stream_choice, null_choice, table_due}
-use Rattle.mux.proofs.Emitted.{length-emitted, before_end, at_end}
+use Rattle.emission.proofs.RecurrenceLaws.{last_behind}
+use Rattle.mux.proofs.Emitted.{length-emitted, before_end}
 use Rattle.mux.proofs.Plans.{has_of}
 use Rattle.mux.proofs.StreamPackets.{moved_to, out_below}
 
@@ -40,7 +41,7 @@ packet_at : (p : PlanValue) (after before : List Event) (c : Content) → slice_
 packet_at p [] before c =
     let out = emitted p before in
     let q = packet_behind p before out c in
-    ap (slice_get (out ++ q ∷ [])) (sym (length-emitted p before)) ∙ at_end out q
+    ap (slice_get (out ++ q ∷ [])) (sym (length-emitted p before)) ∙ last_behind out q
 packet_at p (Took i item ∷ after) before c = packet_at p after before c
 packet_at p (Full i st ∷ after) before c = packet_at p after before c
 packet_at p (Close i ∷ after) before c = packet_at p after before c

@@ -19,7 +19,8 @@ use Rattle.plan.specs.Build.{PlanValue}
 use Rattle.mux.specs.Plans.{IsMultiplexPlan}
 use Rattle.mux.specs.History.{is_mapped_to, taken_for, sent, queue, slot_time, emitted, packet_behind}
 use Rattle.mux.specs.Lawful.{IsLawful, IsContent}
-use Rattle.mux.proofs.Emitted.{length-emitted, before_end, at_end}
+use Rattle.emission.proofs.RecurrenceLaws.{last_behind}
+use Rattle.mux.proofs.Emitted.{length-emitted, before_end}
 use Rattle.emission.specs.Emission.{of_pid, IsEmission, MayGoOut, IsPacketOf}
 use Rattle.rounds.specs.Rounds.{table_at}
 use Rattle.rounds.specs.declared.table_place.TablePlace.{TablePlace}
@@ -60,7 +61,7 @@ emission-push p out q all one m x at =
           let before : take m (out ++ q ∷ []) ≡ out = take_at out (q ∷ []) m (sym last) in
           let P : List (List ℕ) → Type 0 = λ xs. MayGoOut p xs x in
           let Q : List ℕ → Type 0 = MayGoOut p out in
-          let same : q ≡ x = same_Some q x (sym (at_end out q) ∙ ap (slice_get (out ++ q ∷ [])) (sym last) ∙ at) in
+          let same : q ≡ x = same_Some q x (sym (last_behind out q) ∙ ap (slice_get (out ++ q ∷ [])) (sym last) ∙ at) in
           subst P (sym before) (subst Q same one))
     ]
 

@@ -65,8 +65,8 @@ SendAnswers h sending.Sent new =
     IsRunning h × ((c : Content) × MaySend h.run.plan h.events c × (new ≡ with_event h (events.Slot c)))
 
 -- the packet of a slot with this content is sent
-abbrev pub Sends : History → Content → History → List ℕ → Type 0
-Sends h c new packet =
+abbrev pub SendsContent : History → Content → History → List ℕ → Type 0
+SendsContent h c new packet =
     (new ≡ with_event h (events.Slot c)) × (packet ≡ packet_behind h.run.plan h.events (emitted h.run.plan h.events) c)
 
 -- what `slot` answers and leaves: as `send_next`, and the packet that is sent
@@ -76,4 +76,4 @@ SlotAnswers h slot.RunFull new = SendAnswers h sending.RunFull new
 SlotAnswers h (slot.NotReady i) new = SendAnswers h (sending.NotReady i) new
 SlotAnswers h slot.Memory new = SendAnswers h sending.Memory new
 SlotAnswers h (slot.Sent packet) new =
-    IsRunning h × ((c : Content) × MaySend h.run.plan h.events c × Sends h c new packet)
+    IsRunning h × ((c : Content) × MaySend h.run.plan h.events c × SendsContent h c new packet)

@@ -2,10 +2,11 @@
 use Rattle.std.proofs.Common.{◌≡◌, ℕ, zero, suc, ◌+◌, ◌-◌, ◌%◌, ◌<◌, ◌≤◌, ◌==◌, List, [], ◌∷◌, ◌++◌, length, take, drop, refl, sym, ◌∙◌, ap, subst, arith, Option, Some, Ok, Bool, true, false, ◌&&◌, ◌||◌, cond, inl, inr}
 use Rattle.std.specs.Prelude.{not, nat_le, reverse}
 use Rattle.std.specs.List.{All, slice_get, filter, filter_map, find, flat_map, range_with_len}
-use Rattle.std.proofs.lemmas.Bool.{cases_Bool, and_parts, or_left, or_right, eq-eqb, eqb-true, ne_eqb, false_from_ne_true}
+use Rattle.std.proofs.lemmas.Bool.{cases_Bool, and_parts, or_left, or_right, eq-eqb, eqb-true, false_from_ne_true}
 use Rattle.std.proofs.lemmas.Bool.Decides.{nat_tests}
 use Rattle.std.proofs.lemmas.List.Folds.{Any-from_list_any}
-use Rattle.std.proofs.lemmas.List.{length-append, take-append-drop, reverse-append}
+use Rattle.std.proofs.lemmas.List.{take-append-drop, reverse-append}
+use Rattle.std.proofs.Math.Seq.{drop-append_seam}
 use Rattle.std.proofs.lemmas.List.Elements.{All-nil, All-cons, All-head, All-tail, All-append, All-take, All-filter, filter-append, filter_map-append, filter_passes}
 use Rattle.tspkt.specs.Bits.{field}
 use Rattle.tspkt.specs.Packet.{pid_of, transport_scrambling_control_of}
@@ -23,21 +24,17 @@ use Rattle.emission.specs.Emission.{of_pid}
 use Rattle.analyse.specs.Slots.{slot_at, is_packet, packets_in, each_from}
 use Rattle.analyse.specs.Gaps.{is_gap_at}
 use Rattle.analyse.specs.InForce.{rows_of_section, pat_rows_behind, program_rows_behind, is_pmt_pid_behind}
-use Rattle.analyse.specs.Faults.{is_scrambled_at, grew_at, pat_count, is_pat_mark, other_count, is_pat_bad_at, pmt_count, is_pmt_watched, is_pmt_mark, began_at, is_pmt_bad_at}
+use Rattle.analyse.specs.Faults.{is_scrambled_at, completed_by, completes, pats_of, is_pat_mark, others_of, is_pat_bad_at, pmts_of, is_pmt_watched, is_pmt_mark, began_at, is_pmt_bad_at}
 use Rattle.analyse.proofs.RangeLaws.{each_at}
 use Rattle.output_faults.proofs.ReadingLaws.{IsPiece, told_of, AreRepeated, starts, all_told, told_again}
-use Rattle.output_faults.proofs.CountLaws.{filter_yes, filter_place}
+use Rattle.emission.proofs.CycleLaws.{filter_yes, filter_place}
+use Rattle.emission.proofs.RecurrenceLaws.{get_before}
 
 -- all slots are packets; those on the PID aren't scrambled, and repeat the section
 pub record Carries (section : List ℕ) (pid : ℕ) (slots : List (List ℕ)) : Type 0 where
   pub whole : All (λ q. is_packet q ≡ true) slots
   pub clear : All (λ q. pid_of q ≡ pid → transport_scrambling_control_of q ≡ 0) slots
   pub repeats : AreRepeated section 0 (of_pid pid slots)
-
-get_before : {X : Type 0} (xs ys : List X) (i : ℕ) (x : X) → slice_get xs i ≡ Some x → slice_get (xs ++ ys) i ≡ Some x
-get_before [] ys i x e = cc
-get_before (y ∷ xs) ys zero x e = e
-get_before (y ∷ xs) ys (suc i) x e = get_before xs ys i x e
 
 pub carries_take : (section : List ℕ) (pid : ℕ) (slots : List (List ℕ)) (k : ℕ) → Carries section pid slots → Carries section pid (take k slots)
 carries_take section pid slots k h =
@@ -141,13 +138,13 @@ abbrev pub EndsWithin : ℕ → List ℕ → ℕ → List (List ℕ) → Type 0
 EndsWithin limit section pid slots =
     (first : ℕ) → first + limit ≤ length slots → (m : ℕ) × (first ≤ m) × (m < first + limit) × ((q : List ℕ) × EndsAt section pid slots m q)
 
-grew : (count : List (List ℕ) → ℕ) (slots : List (List ℕ)) (m : ℕ) → count (take (suc m) slots) ≡ count (take m slots) + 1 → grew_at count slots (suc m) ≡ true
-grew count slots m e =
+completed : {X : Type 0} (sections_of : List (List ℕ) → List X) (slots : List (List ℕ)) (m : ℕ) (new : X) → sections_of (take (suc m) slots) ≡ sections_of (take m slots) ++ new ∷ [] → completes sections_of slots (suc m) ≡ true
+completed {X = X} sections_of slots m new e =
     let back : suc m - 1 ≡ m = omega arith in
-    let z : (suc m == 0) ≡ false = grind (arith, nat_tests) in
-    let n : (count (take (suc m) slots) == count (take (suc m - 1) slots)) ≡ false = ne_eqb _ _ (λ same.
-    let s : count (take (suc m) slots) ≡ count (take m slots) = same ∙ ap (λ (i : ℕ). count (take i slots)) back in omega (arith, s, e)) in
-    rw (z, n) refl
+    let one : completed_by sections_of slots (suc m) ≡ new ∷ [] =
+    ap (λ (i : ℕ). drop (length (sections_of (take i slots))) (sections_of (take (suc m) slots))) back
+    ∙ ap (drop (length (sections_of (take m slots)))) e ∙ drop-append_seam (sections_of (take m slots)) (new ∷ []) in
+    ap (λ (l : List X). not (length l == 0)) one
 
 -- a mark within the limit
 no_gap_by : (limit : ℕ) (section : List ℕ) (pid : ℕ) (slots : List (List ℕ)) (watched mark : ℕ → Bool) (m : ℕ) → m < length slots → EndsWithin limit section pid slots
@@ -162,14 +159,12 @@ no_gap_by limit section pid slots watched mark m l within marks = elim (cases_Bo
   | inr n ↦ early limit watched mark m (grind (arith, nat_tests, n))
 ]
 
--- ---- counts of what is read
+-- ---- what is read
 
-counted_more : {V : Type 0} (read : List ℕ → Option V) (section : List ℕ) (v : V) (bs cs : List (List ℕ)) → read section ≡ Some v → cs ≡ bs ++ section ∷ [] → length (filter_map read cs) ≡ length (filter_map read bs) + 1
-counted_more read section v bs cs r e =
+read_more : {V : Type 0} (read : List ℕ → Option V) (section : List ℕ) (v : V) (bs cs : List (List ℕ)) → read section ≡ Some v → cs ≡ bs ++ section ∷ [] → filter_map read cs ≡ filter_map read bs ++ v ∷ []
+read_more read section v bs cs r e =
     let one : filter_map read (section ∷ []) ≡ v ∷ [] = rw r refl in
-    ap (λ (l : List (List ℕ)). length (filter_map read l)) e
-    ∙ ap length (filter_map-append read bs (section ∷ []) ∙ ap (λ l. filter_map read bs ++ l) one)
-    ∙ length-append (filter_map read bs) (v ∷ [])
+    ap (filter_map read) e ∙ filter_map-append read bs (section ∷ []) ∙ ap (λ l. filter_map read bs ++ l) one
 
 none_other : (test : List ℕ → Bool) (section : List ℕ) (bs : List (List ℕ)) → test section ≡ false → All (λ b. b ≡ section) bs → filter test bs ≡ []
 none_other test section [] t h = refl
@@ -197,21 +192,17 @@ pub no_pat_fault : (limit : ℕ) (section : List ℕ) (v : SectionValue PatValue
 unfolding is_pat_bad_at
 no_pat_fault limit section v slots m g small h within id says l =
     let marks : (k : ℕ) (q : List ℕ) → EndsAt section 0x0000 slots k q → is_pat_mark slots (suc k) ≡ true = λ k q e.
-    or_right (suc k == 0) (grew_at pat_count slots (suc k))
-    (grew pat_count slots k
-    (counted_more pat_section_of section v (sections_on 0x0000 (packets_in (take k slots))) (sections_on 0x0000 (packets_in (take (suc k) slots))) says (one_more section 0x0000 slots k q g small h e))) in
+    or_right (suc k == 0) (completes pats_of slots (suc k))
+    (completed pats_of slots k v
+    (read_more pat_section_of section v (sections_on 0x0000 (packets_in (take k slots))) (sections_on 0x0000 (packets_in (take (suc k) slots))) says (one_more section 0x0000 slots k q g small h e))) in
     let same : (field section 0 8 == 0) ≡ true = eq-eqb _ _ id in
-    let other : (k : ℕ) → other_count (take k slots) ≡ 0 = λ k.
-    ap length (none_other (λ b. not (field b 0 8 == 0)) section (sections_on 0x0000 (packets_in (take k slots))) (ap not same) (only_it section 0x0000 (take k slots) g small (carries_take section 0x0000 slots k h))) in
+    let other : (k : ℕ) → others_of (take k slots) ≡ [] = λ k.
+    none_other (λ b. not (field b 0 8 == 0)) section (sections_on 0x0000 (packets_in (take k slots))) (ap not same) (only_it section 0x0000 (take k slots) g small (carries_take section 0x0000 slots k h)) in
     let a = no_gap_by limit section 0x0000 slots (λ k. true) (is_pat_mark slots) m l within marks in
-    let equal : (other_count (take (m + 1) slots) == other_count (take (m + 1 - 1) slots)) ≡ true = eq-eqb _ _ (other (m + 1) ∙ sym (other (m + 1 - 1))) in
-    let b : grew_at other_count slots (m + 1) ≡ false = and_none (not (m + 1 == 0)) (other_count (take (m + 1) slots) == other_count (take (m + 1 - 1) slots)) equal in
+    let none : completed_by others_of slots (m + 1) ≡ [] = ap (λ (l : List (List ℕ)). drop (length l) (others_of (take (m + 1) slots))) (other (m + 1 - 1)) ∙ other (m + 1) in
+    let b : completes others_of slots (m + 1) ≡ false = ap (λ (l : List (List ℕ)). not (length l == 0)) none in
     let c = not_scrambled section 0x0000 slots m h l in
     rw (a, b, c) refl
-  where
-    and_none : (x y : Bool) → y ≡ true → (x && not y) ≡ false
-    and_none true y e = ap not e
-    and_none false y e = refl
 
 -- ---- a PMT
 
@@ -223,9 +214,9 @@ pub no_pmt_fault : (limit : ℕ) (section : List ℕ) (pid : ℕ) (v : PmtValue)
 unfolding is_pmt_bad_at
 no_pmt_fault limit section pid v slots m g small h within says l =
     let marks : (k : ℕ) (q : List ℕ) → EndsAt section pid slots k q → is_pmt_mark slots pid (suc k) ≡ true = λ k q e.
-    or_left (grew_at (pmt_count pid) slots (suc k)) (began_at (is_pmt_watched slots pid) (suc k))
-    (grew (pmt_count pid) slots k
-    (counted_more (λ b. value_of (pmt_of b)) section v (sections_on pid (packets_in (take k slots))) (sections_on pid (packets_in (take (suc k) slots))) (value_is section v says) (one_more section pid slots k q g small h e))) in
+    or_left (completes (pmts_of pid) slots (suc k)) (began_at (is_pmt_watched slots pid) (suc k))
+    (completed (pmts_of pid) slots k v
+    (read_more (λ b. value_of (pmt_of b)) section v (sections_on pid (packets_in (take k slots))) (sections_on pid (packets_in (take (suc k) slots))) (value_is section v says) (one_more section pid slots k q g small h e))) in
     let a = no_gap_by limit section pid slots (is_pmt_watched slots pid) (is_pmt_mark slots pid) m l within marks in
     let c = not_scrambled section pid slots m h l in
     rw (a, c) refl

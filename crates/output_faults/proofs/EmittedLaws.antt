@@ -29,10 +29,12 @@ use Rattle.emission.proofs.SectionPacketLaws.{HasPid, all_made, all_flat, all_on
 use Rattle.emission.proofs.PlanFacts.{PlanFacts, fast_sections, slow_sections}
 use Rattle.emission.proofs.WalkLaws.{turns, fast_one, fast_in_turn}
 use Rattle.emission.proofs.RepeatLaws.{numbered}
+use Rattle.emission.proofs.CycleLaws.{filter_place}
+use Rattle.emission.proofs.RecurrenceLaws.{get_behind}
 use Rattle.emission.proofs.SlotLaws.{IsNoOther, carried, fast_steps}
 use Rattle.analyse.specs.Slots.{is_packet, is_good}
 use Rattle.output_faults.proofs.ReadingLaws.{IsPiece, AreRepeated}
-use Rattle.output_faults.proofs.CountLaws.{filter_place, place_counted}
+use Rattle.output_faults.proofs.CountLaws.{place_counted}
 use Rattle.output_faults.proofs.CarriedLaws.{Carries, EndsWithin}
 
 -- ---- each packet
@@ -171,10 +173,6 @@ made_at : {X : Type 0} (f : ℕ → X) (a n k : ℕ) (rest : List X) → k < n �
 made_at f a zero k rest l = absurd (omega arith)
 made_at f a (suc n) zero rest l = ap (λ j. Some (f j)) (let e : a ≡ a + 0 = omega arith in e)
 made_at f a (suc n) (suc k) rest l = made_at f (a + 1) n k rest (omega arith) ∙ ap (λ j. Some (f j)) (let e : a + 1 + k ≡ a + suc k = omega arith in e)
-
-get_behind : {X : Type 0} (xs ys : List X) (k : ℕ) → slice_get (xs ++ ys) (length xs + k) ≡ slice_get ys k
-get_behind [] ys k = ap (slice_get ys) (let e : 0 + k ≡ k = omega arith in e)
-get_behind (x ∷ xs) ys k = ap (slice_get (x ∷ (xs ++ ys))) (let e : suc (length xs) + k ≡ suc (length xs + k) = omega arith in e) ∙ get_behind xs ys k
 
 here_last : (s : SectionOnPid) (ss : List SectionOnPid) → HasPid s → LastPlace (s ∷ ss) s
 here_last s ss fits =

@@ -18,8 +18,8 @@ use Rattle.tables.specs.declared.table_fault.TableFault.{TableFault}
 use Rattle.tables.specs.declared.table_fault.TableFault.TheVariants.{Short, WrongId, BadLength}
 use Rattle.tables.specs.Header.{header_of, body_of, has_bad_length}
 use Rattle.tables.specs.OnPid.{pat_section_of}
-use Rattle.tables.specs.Pat.{PatValue, pat_of, pat_behind_header}
-use Rattle.tables.specs.Pmt.{PmtValue, pmt_of, pmt_behind_header}
+use Rattle.tables.specs.Pat.{PatValue, pat_of}
+use Rattle.tables.specs.Pmt.{PmtValue, pmt_of}
 use Rattle.rounds.specs.Rounds.{IsRounds, fast_limit_of}
 use Rattle.request.specs.Request.{IsRequest}
 use Rattle.selection.specs.Chosen.{ChosenValue}
@@ -29,6 +29,7 @@ use Rattle.output_tables.specs.TableSet.{IsPmtFor, slow_packets}
 use Rattle.plan.specs.Build.{PlanValue, IsPlanOf, IsPlan}
 use Rattle.emission.specs.Emission.{IsEmission}
 use Rattle.emission.proofs.SectionPacketLaws.{of_pid_one}
+use Rattle.emission.proofs.PlanBasics.{pat_header, pmt_header}
 use Rattle.emission.proofs.PlanFacts.{PlanFacts, plan_facts, fast_sections}
 use Rattle.emission.proofs.SlotLaws.{IsNoOther}
 use Rattle.emission.proofs.AgreementLaws.{agree}
@@ -59,14 +60,6 @@ taken table_id single b h e =
     let most = ltb-false 1021 (section_length_of b) both.1 in
     let same = eqb-true (section_length_of b + 3) (length b) (not-false (section_length_of b + 3 == length b) first.0) in
     record { id = eqb-true (field b 0 8) table_id (not-false (field b 0 8 == table_id) tests.0); whole = sym same; small = omega arith }
-
-pat_header : (r : Result Header TableFault) (body : List ℕ) (v : PatValue) → pat_behind_header r body ≡ Ok v → (h : Header) × (r ≡ Ok h)
-pat_header (Err e) body v h = cc
-pat_header (Ok x) body v h = (x, refl)
-
-pmt_header : (r : Result Header TableFault) (body : List ℕ) (v : PmtValue) → pmt_behind_header r body ≡ Ok v → (h : Header) × (r ≡ Ok h)
-pmt_header (Err e) body v h = cc
-pmt_header (Ok x) body v h = (x, refl)
 
 pat_taken : (b : List ℕ) (v : PatValue) → pat_of b ≡ Ok v → IsTaken 0x00 b
 pat_taken b v e = let h = pat_header (header_of 0x00 false b) (body_of b) v e in taken 0x00 false b h.0 h.1

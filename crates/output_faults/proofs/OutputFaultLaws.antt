@@ -30,7 +30,7 @@ use Rattle.analyse.specs.declared.fault_kind.FaultKind.TheVariants.{TsSyncLoss, 
 use Rattle.analyse.specs.declared.fault.Fault.{Fault}
 use Rattle.output_faults.specs.ToldFaults.{TellsNo, TellsNoSyncFault, TellsNoTableFault, IsOfStream, IsUnlawful, UnlawfulWentOut, counter_fault, CounterFaultsAreOfStreams, AreLawfulAsTaken, UnlawfulWasTaken, CounterFaultsAreAsTaken}
 use Rattle.output_faults.proofs.ToldLaws.{PassesKind, Passes, all_pass, counter_told, lawful_there}
-use Rattle.output_faults.proofs.CountLaws.{filter_yes}
+use Rattle.emission.proofs.CycleLaws.{filter_yes}
 use Rattle.output_faults.proofs.CarriedLaws.{all_kept}
 use Rattle.output_faults.proofs.EmittedLaws.{IsSound, all_sound}
 use Rattle.output_faults.proofs.FaultFreeLaws.{no_pat_error, no_pmt_error}

@@ -11,7 +11,7 @@ use Rattle.tspkt.specs.Packet.{has_payload_of, payload_unit_start_indicator_of, 
 use Rattle.tspkt.specs.Counters.{is_copy}
 use Rattle.section.specs.Crc.{crc_of}
 use Rattle.section.specs.Section.{section_length_of, is_too_long, is_whole, first_section, IsGoodSection}
-use Rattle.section.specs.Assembled.{Reading, nothing, collected, told_of_whole, sections_from, ending, has_pointer, payload_told, AssemblerState, Step, packet_told, read_with, reading_of, is_repeat, is_discontinuous, assembled_from, assembled, fresh}
+use Rattle.section.specs.Assembled.{Reading, nothing, collected, told_of_whole, sections_from, has_pointer, payload_told, AssemblerState, Step, packet_told, read_with, reading_of, is_repeat, is_discontinuous, assembled_from, assembled, fresh}
 use Rattle.section.specs.Packetized.{packet_count_of, stuffed}
 use Rattle.section.specs.declared.told.Told.{Told}
 use Rattle.section.specs.declared.told.Told.TheVariants.{Section}
@@ -20,6 +20,7 @@ use Rattle.section.proofs.SectionLaws.{section_length_of-append}
 use Rattle.section.proofs.CollectLaws.{is_too_long-fits, is_whole-true, is_whole-partial, collected_whole, collected_begun}
 use Rattle.section.proofs.SectionsLaws.{sections_nil, sections_stuffing, sections_begun, sections_whole, behind}
 use Rattle.section.proofs.FoundLaws.{packet_read, counter_copy}
+use Rattle.section.proofs.FoundAgainLaws.{payload_ending}
 
 -- packet k of a section, as an assembler reads it
 pub record IsPiece (section : List ℕ) (k number : ℕ) (q : List ℕ) : Type 0 where
@@ -62,10 +63,6 @@ stuffing_none : (n m : ℕ) → sections_from 0 (take n (replicate m 255)) ≡ n
 stuffing_none zero m = sections_nil
 stuffing_none (suc n) zero = sections_nil
 stuffing_none (suc n) (suc m) = sections_stuffing 255 (take n (replicate m 255)) refl
-
-payload_ending : (begun payload : List ℕ) → payload_told begun false payload ≡ ending begun payload
-unfolding payload_told
-payload_ending begun payload = refl
 
 -- a payload with pointer_field 0, where nothing is begun
 pointed : (bytes : List ℕ) → payload_told [] true (0 ∷ bytes) ≡ sections_from 0 bytes

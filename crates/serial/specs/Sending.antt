@@ -2,7 +2,7 @@
 use Rattle.std.specs.Prelude.{◌≡◌, ℕ, min, List, length}
 use Rattle.std.specs.List.{flat_map}
 use Rattle.analyse.specs.Faults.{faults}
-use Rattle.analyse.specs.Analysed.{HasSeen}
+use Rattle.analyse.specs.Analysed.{HasAccepted}
 use Rattle.serial.specs.declared.slot_writer.SlotWriter.{SlotWriter}
 
 -- packets as bytes, one behind the other
@@ -15,7 +15,7 @@ fault_count rate period slots = min (length (faults rate period slots)) 18446744
 
 -- these packets were analysed, and their faults are counted
 pub record HasAnalysed (s : SlotWriter) (rate period : ℕ) (slots : List (List ℕ)) : Type 0 where
-  pub seen : HasSeen s.analyser slots
+  pub seen : HasAccepted s.analyser slots
   pub rate_is : s.analyser.rate ≡ rate
   pub period_is : s.analyser.period ≡ period
   pub faults_are : s.faults ≡ fault_count rate period slots

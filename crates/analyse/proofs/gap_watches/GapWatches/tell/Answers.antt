@@ -1,19 +1,12 @@
-use Rattle.std.proofs.Common.{◌≡◌, List, ◌++◌, refl, ap, sym, ◌∙◌}
+use Rattle.std.proofs.Common.{◌≡◌, ℕ, ◌+◌, Bool, ◌++◌, ap, ◌∙◌}
 use Rattle.std.proofs.lemmas.Result.{on_ok_weaker}
-use Rattle.analyse.specs.GapsWatching.{GapsState, told_also}
-use Rattle.analyse.specs.declared.fault.Fault.{Fault}
-use Rattle.analyse.proofs.GapsLaws.{gaps_told, none_due}
+use Rattle.analyse.specs.GapsWatching.{HaveSeenNumbers, gaps_at}
 use Rattle.analyse.proofs.gap_watches.GapWatches.tell.Goals as goal
 
-pub returns-then-count-self-clause-told : goal.returns-then-count-self-clause-told
-returns-then-count-self-clause-told c =
-    let due = ap (λ (w : GapsState). w.due) c.self.view_is in
-    on_ok_weaker c.tell_also.result
-    (λ (told : c.tell_also.new.out.items ≡ c.args.out.now.items ++ told_also c.args.also c.args.kind c.args.count) watched mark s.
-    told ∙ ap (λ (l : List Fault). c.args.out.now.items ++ l)
-    (sym (none_due c.args.self.now watched mark c.args.also c.args.kind c.args.count 8192 refl c.requires (rw (← due) c.if-count-self.true) s)))
-    c.tell_also.ensures
-
 pub returns-clause-told : goal.returns-clause-told
-returns-clause-told c watched mark s =
-    c.in_ok-tell_long.ensures ∙ ap (λ (l : List Fault). c.args.out.now.items ++ l) (gaps_told c.args.self.now watched mark c.args.also c.args.kind c.args.count 8192 refl s)
+returns-clause-told c =
+    on_ok_weaker c.tell_due.result
+    (λ (told : (watched mark : ℕ → ℕ → Bool) → HaveSeenNumbers c.renew_due.new.self watched mark (c.args.count + 1) → c.tell_due.new.out.items ≡ c.args.out.now.items ++ gaps_at c.renew_due.new.self.limit watched mark c.args.also c.args.kind c.args.count) watched mark s.
+    told watched mark (c.renew_due.ensures.seen watched mark s)
+    ∙ ap (λ (n : ℕ). c.args.out.now.items ++ gaps_at n watched mark c.args.also c.args.kind c.args.count) c.renew_due.ensures.limit)
+    c.tell_due.ensures

@@ -2,7 +2,6 @@ use Rattle.std.proofs.Common.{◌≡◌, ℕ, [], ◌∷◌, ◌++◌, ◌+◌, 
 use Rattle.std.specs.Prelude.{option_map}
 use Rattle.analyse.specs.Slots.{is_sync_lost_at, is_sync_byte_bad_at}
 use Rattle.analyse.specs.Faults.{is_pat_bad_at, is_counter_bad_at, told_if, table_limit, faults_at}
-use Rattle.analyse.specs.SlotReading.{IsReadAs}
 use Rattle.analyse.specs.StreamWatching.{StreamState, HaveSeenStream}
 use Rattle.analyse.specs.TablesWatching.{table_faults_at}
 use Rattle.analyse.specs.declared.fault_kind.FaultKind.TheVariants.{ContinuityCountError}

@@ -1,4 +1,4 @@
-use Rattle.std.proofs.Common.{◌-◌, length, sym, ◌∙◌, ap, arith}
+use Rattle.std.proofs.Common.{length, sym, ◌∙◌, ap, arith}
 use Rattle.analyse.specs.UnreadSections.{UnreadState}
 use Rattle.analyse.proofs.UnreadLaws.{copied, grown, not_next, ended}
 use Rattle.analyse.proofs.unread_section.UnreadSection.push.Goals as goal

@@ -6,7 +6,7 @@ use Rattle.tspkt.specs.Packet.{IsPacket, pid_of}
 use Rattle.mux.specs.PidCounters.{counted}
 use Rattle.mux.specs.Output.{IsOutput}
 use Rattle.mux.proofs.CounterLaws.{counted_more}
-use Rattle.mux.proofs.Emitted.{at_end}
+use Rattle.emission.proofs.RecurrenceLaws.{last_behind}
 use Rattle.mux.proofs.output.Output.push.Goals as goal
 
 -- with one more packet
@@ -16,7 +16,7 @@ grown {packets} kept q now whole fits count =
     let last : length (packets ++ q ∷ []) - 1 ≡ length packets = omega (arith, length-append packets (q ∷ [])) in
     record {
       whole = All-push IsPacket packets q kept.whole whole;
-      last_is = sym (ap (slice_get (packets ++ q ∷ [])) last ∙ at_end packets q);
+      last_is = sym (ap (slice_get (packets ++ q ∷ [])) last ∙ last_behind packets q);
       counters_are = count ∙ ap (λ xs. counted xs (pid_of q)) kept.counters_are ∙ counted_more packets q fits;
     }
 
