@@ -2,7 +2,8 @@
 
 use super::device::TestWriter;
 use super::packet;
-use crate::{PacketWriter, WriteSink};
+use crate::WriteSink;
+use crate::packet_writer::PacketWriter;
 use std::alloc::Global;
 use std::test::Fail;
 
