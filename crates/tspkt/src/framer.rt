@@ -15,7 +15,7 @@ const STRIDE: usize = 188;
 const KEPT: usize = 752;
 
 /// The most bytes of one stream where no other limit is given: 16,777,216 packets.
-const LIMIT: u64 = 3_154_116_608;
+pub(crate) const LIMIT: u64 = 3_154_116_608;
 
 /// The greatest limit of the bytes of one stream: 2^47.
 pub const MAX_LIMIT: u64 = 140_737_488_355_328;

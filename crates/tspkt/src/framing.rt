@@ -1,11 +1,11 @@
 //! Framing a whole stream.
 
-ghost use Rattle.std.specs.Prelude.{◌≡◌, ◌<◌, ◌≤◌, [], length, All, sum_by, Err, IfOk, OnOk};
+ghost use Rattle.std.specs.Prelude.{◌≡◌, ◌<◌, ◌≤◌, ◌↔◌, IsTrue, [], length, All, sum_by, Err, IfOk, OnOk};
 ghost use Rattle.std.specs.List.{flat_map};
 ghost use Rattle.tspkt.specs.Framed.{framed, packets_of, still_to_tell, IsFramedSoFar, covered, IsAtItsPlace, ExactOnPackets};
 
 use crate::feed_fault::FeedFault;
-use crate::framer::Framer;
+use crate::framer::{Framer, LIMIT};
 use crate::item::Item;
 use std::alloc::Global;
 
@@ -28,9 +28,24 @@ fn fed(alloc: Global, pieces: &[Vec<u8>]) -> Result<(Framer, Vec<Item>), FeedFau
     Ok((framer, items))
 }
 
+/// Whether these pieces have more than 3,154,116,608 bytes in all.
+fn is_too_long(pieces: &[Vec<u8>]) -> bool
+    ensures { IsTrue result ↔ (3154116608 < length (flat_map (λ piece. piece.items) pieces.now)) }
+{
+    let mut left = LIMIT;
+    for piece in pieces {
+        let length = piece.len() as u64;
+        if left < length {
+            return true;
+        }
+        left -= length;
+    }
+    false
+}
+
 /// The items of a whole stream that comes in these pieces: packets of 188 bytes, at most 3,154,116,608 bytes in all.
-/// `TooMuch` comes only where the stream passes that, `Ok` only where it doesn't, and `Memory`, that there is no memory for
-/// the items, never of a stream without bytes.
+/// `TooMuch` comes exactly where the stream passes that, and `Memory`, that there is no memory for the items, never of a
+/// stream without bytes.
 pub fn frame(alloc: Global, pieces: &[Vec<u8>]) -> Result<Vec<Item>, FeedFault>
     ensures items { IfOk result (λ items. items.items ≡ framed 188 (flat_map (λ piece. piece.items) pieces.now)) }
 
@@ -42,11 +57,13 @@ pub fn frame(alloc: Global, pieces: &[Vec<u8>]) -> Result<Vec<Item>, FeedFault>
     ensures found { IfOk result (λ items.
         ExactOnPackets (flat_map (λ piece. piece.items) pieces.now) items.items) }
 
-    ensures within { OnOk result (length (flat_map (λ piece. piece.items) pieces.now) ≤ 3154116608) }
-    ensures too_much { result ≡ Err FeedFault.TooMuch
-        → 3154116608 < length (flat_map (λ piece. piece.items) pieces.now) }
+    ensures too_much { (result ≡ Err FeedFault.TooMuch)
+        ↔ (3154116608 < length (flat_map (λ piece. piece.items) pieces.now)) }
     ensures memory { result ≡ Err FeedFault.Memory → 0 < length (flat_map (λ piece. piece.items) pieces.now) }
 {
+    if is_too_long(pieces) {
+        return Err(FeedFault::TooMuch);
+    }
     let (framer, mut items) = fed(alloc, pieces)?;
     match framer.finish(&mut items) {
         Ok(()) => Ok(items),
