@@ -4,7 +4,6 @@ use Rattle.std.proofs.Common.{ℕ, ◌<◌, ◌≤◌, ◌≡◌, Bool, true, fa
 use Rattle.std.specs.Option.{option_to_list}
 use Rattle.std.specs.Prelude.{IsSome, Result, Ok, Err, OnOk}
 use Rattle.std.proofs.lemmas.Bool.{cases_Bool, ne_eqb, false≢true}
-use Rattle.std.specs.Io.KnownBytes.{Consumes, IsAtEnd}
 use Rattle.tspkt.specs.Packet.{pid_of}
 use Rattle.tspkt.specs.Framed.{framed}
 use Rattle.tspkt.specs.declared.framer.TheConstants.{MAX_LIMIT}

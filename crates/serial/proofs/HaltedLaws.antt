@@ -1,5 +1,5 @@
 -- The inputs of a run that fails.
-use Rattle.std.proofs.Common.{ℕ, ◌<◌, ◌≡◌, false, List, length, set, get_or, Option, None, Some, ap, ◌∙◌, sym, subst, arith, inl, inr}
+use Rattle.std.proofs.Common.{ℕ, ◌<◌, ◌≡◌, false, List, length, set, get_or, Option, Some, ap, ◌∙◌, sym, subst, arith, inl, inr}
 use Rattle.std.specs.List.{slice_get}
 use Rattle.std.proofs.lemmas.Bool.{cases_eq}
 use Rattle.std.proofs.lemmas.List.{length-set}
@@ -8,16 +8,15 @@ use Rattle.plan.specs.Build.{PlanValue}
 use Rattle.mux.specs.declared.event.Event.{Event}
 use Rattle.mux.specs.History.{taken}
 use Rattle.mux.specs.Lawful.{is_ready}
-use Rattle.mux.specs.Faithful.{IsFaithful}
-use Rattle.reading.specs.declared.stop.Stop.{Stop}
 use Rattle.reading.specs.declared.stop.Stop.TheVariants.{Memory}
 use Rattle.reading.proofs.PacketLaws.{too_much}
 use Rattle.serial.specs.declared.serial_input.SerialInput.{SerialInput}
 use Rattle.serial.specs.declared.serial_run.SerialRun.{SerialRun}
 use Rattle.mux.specs.History.{Run}
-use Rattle.serial.specs.Feeding.{IsOwnStop, Feeds, AreKnown, AreUnstopped, AreLimited, packet_lists}
-use Rattle.serial.specs.Running.{AreFed, IsRunning, IsHalted, IsUnhalted, AreHalted}
-use Rattle.serial.proofs.RunningLaws.{begun, set_here, set_there}
+use Rattle.serial.specs.Feeding.{Feeds, HasFed, AreUnrefused, AreLimited}
+use Rattle.serial.specs.Giving.{TakesInOrder, KeepOrder}
+use Rattle.serial.specs.Running.{AreFed, IsRunning, IsHalted, AreHalted}
+use Rattle.serial.proofs.RunningLaws.{set_here, set_there}
 use Rattle.serial.proofs.OutcomeLaws.{some_read}
 
 halted_one : {R : Type 0} (remaining : R → Option (List ℕ)) (limit : ℕ) (p : PlanValue) (h : List Event) (i : ℕ) (start : Option (List ℕ)) (x : SerialInput R)
@@ -32,29 +31,30 @@ halted_one remaining limit p h i start x f size = record {
       omega (arith, much, some, size);
 }
 
-unhalted : (stopped : Option Stop) → IsOwnStop stopped → IsUnhalted stopped → stopped ≡ None
-unhalted stopped own (inl e) = e
-unhalted stopped own (inr e) = absurd (own.unrefused e)
+has_fed : {R : Type 0} (remaining : R → Option (List ℕ)) (p : PlanValue) (h : List Event) (i : ℕ) (start : Option (List ℕ)) (x : SerialInput R) → Feeds remaining p h i start x → HasFed remaining p h i start x
+has_fed remaining p h i start x f = record { given = f.given; closed = f.closed; over = f.over }
 
 -- inputs that go on
 pub halted_fed : {R : Type 0} (remaining : R → Option (List ℕ)) (limit : ℕ) (p : PlanValue) (h : List Event) (starts : List (Option (List ℕ))) (inputs : List (SerialInput R))
-    → AreFed remaining p h starts inputs → AreLimited limit inputs → (AreKnown starts → AreUnstopped inputs → IsFaithful (packet_lists p starts) h) → AreHalted limit p h starts inputs
-halted_fed remaining limit p h starts inputs fed limited faithful = record {
+    → AreFed remaining p h starts inputs → AreLimited limit inputs → TakesInOrder h inputs → AreHalted remaining limit p h starts inputs
+halted_fed remaining limit p h starts inputs fed limited order = record {
   count = fed.count;
   each = λ i start x from at.
       let f = fed.each i x at in
       let P : Option (List ℕ) → Type 0 = λ v. IsHalted limit p h i v x.reader.report.stopped in
       subst P (same_Some f.0 start (sym f.1 ∙ from)) (halted_one remaining limit p h i f.0 x f.2 (limited i x at));
-  begun = begun remaining p h starts inputs fed;
-  faithful = λ known free. faithful known (λ i x at. unhalted x.reader.report.stopped (fed.each i x at).2.own (free i x at));
+  fed = λ i x at. (let f = fed.each i x at in (f.0, f.1, has_fed remaining p h i f.0 x f.2));
+  in_order = order;
 }
 
 -- memory was refused for an input that was still read
 pub halted_refused : {R : Type 0} (remaining : R → Option (List ℕ)) (limit : ℕ) (p : PlanValue) (h : List Event) (i : ℕ) (starts : List (Option (List ℕ))) (inputs : List (SerialInput R)) (x y : SerialInput R)
-    → x ≡ get_or inputs i x → i < length inputs → is_ready p i h ≡ false → x.reader.report.stopped ≡ None → y.reader.report.stopped ≡ Some Memory → AreFed remaining p h starts inputs → AreLimited limit inputs
-    → (AreKnown starts → AreUnstopped inputs → IsFaithful (packet_lists p starts) h) → AreHalted limit p h starts (set inputs i y)
-halted_refused remaining limit p h i starts inputs x y at within waits unstopped memory fed limited faithful =
-    let before = halted_fed remaining limit p h starts inputs fed limited faithful in
+    → x ≡ get_or inputs i x → i < length inputs → is_ready p i h ≡ false → y.reader.report.stopped ≡ Some Memory → AreFed remaining p h starts inputs → AreLimited limit inputs
+    → ((start : Option (List ℕ)) → Feeds remaining p h i start x → HasFed remaining p h i start y) → KeepOrder h h inputs (set inputs i y) → TakesInOrder h inputs
+    → AreHalted remaining limit p h starts (set inputs i y)
+halted_refused {R} remaining limit p h i starts inputs x y at within waits memory fed limited given keeps order =
+    let before = halted_fed remaining limit p h starts inputs fed limited order in
+    let here : slice_get inputs i ≡ Some x = slice_get-get_or inputs i x within ∙ ap Some (sym at) in
     record {
       count = length-set inputs i y ∙ fed.count;
       each = λ j start z from there.
@@ -70,23 +70,28 @@ halted_refused remaining limit p h i starts inputs x y at within waits unstopped
                 })
             | inr ne ↦ before.each j start z from (sym (set_there inputs i j y ne) ∙ there)
           ];
-      begun = before.begun;
-      faithful = λ known free.
-          faithful known
-          (λ j z there.
+      fed = λ j z there.
           elim (cases_eq i j) [
             | inl same ↦
-                (let here : slice_get inputs i ≡ Some x = slice_get-get_or inputs i x within ∙ ap Some (sym at) in
-                let old : x ≡ z = same_Some x z (sym here ∙ ap (slice_get inputs) same ∙ there) in
-                ap (λ (v : SerialInput _). v.reader.report.stopped) (sym old) ∙ unstopped)
-            | inr ne ↦ unhalted z.reader.report.stopped (fed.each j z there).2.own (free j z (set_there inputs i j y ne ∙ there))
-          ]);
+                (let new : y ≡ z = same_Some y z (sym (set_here inputs i y within) ∙ ap (slice_get (set inputs i y)) same ∙ there) in
+                let f = fed.each i x here in
+                let P : SerialInput R → Type 0 = λ v. HasFed remaining p h i f.0 v in
+                let Q : ℕ → Type 0 = λ k. (start : Option (List ℕ)) × (slice_get starts k ≡ Some start) × HasFed remaining p h k start z in
+                subst Q same (f.0, f.1, subst P new (given f.0 f.2)))
+            | inr ne ↦ before.fed j z (sym (set_there inputs i j y ne) ∙ there)
+          ];
+      in_order = λ lists may. (let k = keeps lists may in k.1 (order lists k.0));
     }
 
 -- a run that goes on
 pub halted_running : {R : Type 0} (remaining : R → Option (List ℕ)) (run : Run) (limit : ℕ) (starts : List (Option (List ℕ))) (r : SerialRun R)
-    → IsRunning remaining run limit starts r → AreHalted limit run.plan r.mux.events starts r.inputs.items
-halted_running remaining run limit starts r is = halted_fed remaining limit run.plan r.mux.events starts r.inputs.items is.fed is.limited is.faithful
+    → IsRunning remaining run limit starts r → AreHalted remaining limit run.plan r.mux.events starts r.inputs.items
+halted_running remaining run limit starts r is = halted_fed remaining limit run.plan r.mux.events starts r.inputs.items is.fed is.limited is.in_order
+
+-- for no input of it memory was refused
+pub unrefused_running : {R : Type 0} (remaining : R → Option (List ℕ)) (run : Run) (limit : ℕ) (starts : List (Option (List ℕ))) (r : SerialRun R)
+    → IsRunning remaining run limit starts r → AreUnrefused r.inputs.items
+unrefused_running remaining run limit starts r is i x at = (is.fed.each i x at).2.own.unrefused
 
 -- input i goes on with its limit
 pub all_limited : {R : Type 0} (limit : ℕ) (inputs : List (SerialInput R)) (i : ℕ) (x y : SerialInput R) → x ≡ get_or inputs i x → i < length inputs

@@ -2,7 +2,7 @@ pub mod KnownLaws
 pub mod FailureLaws
 pub mod OrderLaws
 pub mod FeedingLaws
-pub mod FaithfulLaws
+pub mod GivingLaws
 pub mod SendingLaws
 pub mod RunningLaws
 pub mod OpeningLaws

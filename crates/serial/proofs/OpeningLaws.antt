@@ -19,8 +19,8 @@ use Rattle.tspkt.specs.Framed.{framed, framed_from}
 use Rattle.tspkt.specs.declared.framer.TheConstants.{MAX_LIMIT}
 use Rattle.mux.specs.declared.event.Event.{Event}
 use Rattle.mux.specs.History.{History, opened, emitted}
-use Rattle.mux.specs.Faithful.{IsFaithful}
-use Rattle.serial.specs.Feeding.{packet_lists, AreLimited, AllTellFailures}
+use Rattle.serial.specs.Feeding.{AreLimited, AllTellFailures}
+use Rattle.serial.specs.Giving.{TakesInOrder}
 use Rattle.serial.specs.Sending.{HasAnalysed}
 use Rattle.serial.specs.Opening.{IsOpened, AreOpened}
 use Rattle.serial.specs.Running.{AreFed, IsRunning, TakesAsNeeded}
@@ -137,14 +137,14 @@ pub runs_opened : {R : Type 0} (remaining : R → Option (List ℕ)) (failures :
 runs_opened remaining failures limit p slots readers r mux count are piece analysed =
     let none : [] ≡ r.mux.events = sym (ap (λ (v : History). v.events) mux) in
     let F : List Event → Type 0 = λ h. AreFed remaining p h (map remaining readers) r.inputs.items in
-    let G : List Event → Type 0 = IsFaithful (packet_lists p (map remaining readers)) in
+    let G : List Event → Type 0 = λ h. TakesInOrder h r.inputs.items in
     let H : List Event → Type 0 = λ h. HasAnalysed r.output p.request.rate p.request.watch (emitted p h) in
     record {
       run_is = ap (λ (v : History). v.run) mux;
       fed = subst F none (fed_of_opened remaining failures limit p readers r.inputs.items count are);
       limited = limited_of_opened remaining failures limit p readers r.inputs.items are;
       piece = piece;
-      faithful = λ known unstopped. subst G none tt;
+      in_order = subst G none (λ lists may. tt);
       needed = subst (TakesAsNeeded (record { plan = p; limit = slots })) none tt;
       analysed = subst H none analysed;
     }

@@ -1,5 +1,5 @@
 -- What comes of a run.
-use Rattle.std.proofs.Common.{ℕ, ◌+◌, ◌≤◌, ◌≡◌, ◌⊎◌, List, [], ◌∷◌, ◌++◌, length, map, Option, None, Some, true, false, refl, ap, ◌∙◌, sym, subst, arith, inl, inr}
+use Rattle.std.proofs.Common.{ℕ, ◌+◌, ◌≤◌, ◌≡◌, List, [], ◌∷◌, ◌++◌, length, map, Option, None, Some, true, false, refl, ap, ◌∙◌, sym, subst, arith, inl, inr}
 use Rattle.std.specs.Prelude.{IsSome}
 use Rattle.std.specs.List.{slice_get}
 use Rattle.std.specs.Io.KnownBytes.{Consumes, IsAtEnd, Appends}
@@ -7,16 +7,16 @@ use Rattle.std.proofs.lemmas.Bool.{cases_eq, cases_Bool}
 use Rattle.std.proofs.Math.Nat.{min-eq_left}
 use Rattle.std.proofs.lemmas.List.{length-append, length-map, append-nil, map-append}
 use Rattle.std.proofs.lemmas.Option.{none-some, same_Some, slice_get_within, slice_get_cases, slice_get-map}
-use Rattle.std.specs.Option.{option_map, option_to_list}
-use Rattle.tspkt.specs.Framed.{FramerState, framed}
+use Rattle.std.specs.Option.{option_map}
+use Rattle.tspkt.specs.Framed.{framed}
 use Rattle.tspkt.specs.declared.item.Item.{Item}
-use Rattle.tspkt.specs.declared.stamped.Stamped.{Stamped}
 use Rattle.request.specs.declared.stream.Stream.{Stream}
 use Rattle.request.specs.Request.{InputValue}
 use Rattle.plan.specs.Build.{PlanValue}
 use Rattle.mux.specs.declared.event.Event.{Event}
-use Rattle.mux.specs.History.{Run, taken, slots, emitted}
-use Rattle.std.proofs.KnownBytes.{Appends-nil}
+use Rattle.mux.specs.History.{Run, taken, is_closed, slots, emitted}
+use Rattle.mux.specs.Lawful.{is_ready}
+use Rattle.std.proofs.KnownBytes.{Appends-nil, Consumes-nil}
 use Rattle.mux.specs.Plans.{IsMultiplexPlan}
 use Rattle.mux.specs.Faithful.{IsFinished}
 use Rattle.mux.specs.Totals.{IsTotals, IsCounts}
@@ -29,12 +29,15 @@ use Rattle.reading.specs.Failures.{FailsOnce}
 use Rattle.reading.specs.Takeable.{OriginValue, takeable, origin_of, CountsItems, EndsAtTaken}
 use Rattle.reading.specs.PacketReading.{BeginsTakeable, CountsTold}
 use Rattle.reading.specs.StreamReading.{BeginsFramed}
-use Rattle.serial.specs.Feeding.{Feeds, AreUnstopped, AreLimited, AllTellFailures}
+use Rattle.serial.specs.Feeding.{Feeds, AreUnrefused, AreLimited, AllTellFailures, packet_lists}
+use Rattle.serial.specs.Giving.{TakesWhatIsGiven}
 use Rattle.serial.specs.Written.{Sends, SendsBeginning}
 use Rattle.serial.specs.Sending.{bytes_of, fault_count}
-use Rattle.serial.specs.Running.{AreFed, IsRunning, IsOver, IsHalted, AreHalted}
+use Rattle.serial.specs.Running.{AreFed, AreBegun, IsRunning, IsOver, IsHalted, AreHalted}
 use Rattle.serial.specs.Ending.{IsLast, AreReported, ArePeaks}
-use Rattle.serial.specs.Outcome.{HasEnded, IsCounted, IsInputSummary, IsReadOn, AreReadOn, AreUnfailed, IsFailureTold, FailuresAreTold, HasRun, HasBegun}
+use Rattle.serial.specs.Outcome.{HasEnded, IsCounted, IsInputSummary, IsReadOn, AreReadOn, stops_of, IsFailureTold, FailuresAreTold, HasRun, HasBegun}
+use Rattle.serial.specs.declared.run_fault.RunFault.{RunFault}
+use Rattle.serial.specs.declared.run_fault.RunFault.TheVariants as run_faults
 use Rattle.reading.specs.declared.report.Report.{Report}
 use Rattle.reading.specs.declared.stop.Stop.{Stop}
 use Rattle.reading.specs.declared.stop.Stop.TheVariants.{Gate, Memory, ReadFailed, TooMuch}
@@ -44,7 +47,9 @@ use Rattle.serial.specs.declared.summary.Summary.{Summary}
 use Rattle.serial.specs.declared.serial_run.SerialRun.{SerialRun}
 use Rattle.reading.proofs.PacketLaws.{too_much, within_read, counts_told, looked_framed, given_begins, whole_read, failed_read}
 use Rattle.serial.proofs.SoundLaws.{sound_nothing}
-use Rattle.serial.proofs.RunningLaws.{begun}
+use Rattle.serial.proofs.FeedingLaws.{waited_for}
+use Rattle.serial.proofs.RunningLaws.{begun, begun_one}
+use Rattle.serial.proofs.GivingLaws.{IsToldStop, HasEndedHere, takes_what_is_given}
 use Rattle.serial.proofs.FaultBounds.{few_faults}
 use Rattle.serial.proofs.OpeningLaws.{push_cases, from_map}
 
@@ -303,27 +308,42 @@ all_read_on {R} remaining limit p h starts inputs summaries sources fed limited 
     subst Q (ap remaining m.2 ∙ l.2)
     (read_on remaining limit p h i input start x s at (subst P (same_Some f.0 start (sym f.1 ∙ from)) f.2) (limited i x m.1) (are.reports i x s m.1 told))
 
-unstopped_one : {R : Type 0} (x : SerialInput R) (report : Report) (stopped : Option Stop) → x.reader.report.stopped ≡ stopped → IsLast x report → (x.reader.report.stopped ≡ Some Gate → ⊥)
-    → (report.stopped ≡ None) ⊎ (report.stopped ≡ Some Gate) → x.reader.report.stopped ≡ None
-unstopped_one x report None is last unleft cause = is
-unstopped_one x report (Some s) is last unleft cause =
-    let P : Option Stop → Type 0 = IsSome in
-    let same = last.stopped (subst P (sym is) refl) in
-    elim cause [
-      | inl e ↦ (let bad = sym e ∙ ap (λ v. v.stopped) same ∙ is in cc)
-      | inr e ↦ absurd (unleft (ap (λ v. v.stopped) (sym same) ∙ e))
-    ]
+-- ---- what each input gave
 
--- nothing stopped an input of a run whose end is its only cause
-pub unstopped_all : {R : Type 0} (remaining : R → Option (List ℕ)) (p : PlanValue) (h : List Event) (starts : List (Option (List ℕ))) (inputs : List (SerialInput R)) (summaries : List InputSummary) (sources : List R)
-    → AreFed remaining p h starts inputs → AreReported p h inputs summaries sources → AreUnfailed summaries → AreUnstopped inputs
-unstopped_all remaining p h starts inputs summaries sources fed are unfailed i x at =
-    elim (slice_get_cases summaries i).1 [
-      | inl found ↦
-          (let last = are.reports i x found.0 at found.2 in
-          unstopped_one x found.0.report x.reader.report.stopped refl last (fed.each i x at).2.own.unleft (unfailed i found.0 found.2))
-      | inr past ↦ absurd (omega (arith, slice_get_within inputs i x at, past.0, are.length_is))
-    ]
+-- what is told of its stop
+told_stop : {R : Type 0} (x : SerialInput R) (s : InputSummary) → IsLast x s.report → IsToldStop (Some s.report.stopped) x.reader.report.stopped
+told_stop x s last = record {
+  failed = λ e. ap Some (stopped_still x s.report ReadFailed last e);
+  too_much = λ e. ap Some (stopped_still x s.report TooMuch last e);
+  was_failed = λ e.
+      let told = same_Some s.report.stopped (Some ReadFailed) e in
+      ap (λ v. v.stopped) (sym (stopped_before x s.report ReadFailed last told (λ bad. cc))) ∙ told;
+}
+
+pub ended_here : {R : Type 0} (remaining : R → Option (List ℕ)) (p : PlanValue) (h : List Event) (starts : List (Option (List ℕ))) (inputs : List (SerialInput R)) (summaries : List InputSummary) (sources : List R)
+    → AreFed remaining p h starts inputs → AreReported p h inputs summaries sources
+    → (i : ℕ) (x : SerialInput R) → slice_get inputs i ≡ Some x → HasEndedHere remaining p h starts (map remaining sources) (stops_of summaries) i x
+ended_here {R} remaining p h starts inputs summaries sources fed are i x at =
+    let f = fed.each i x at in
+    let source : SerialInput R → R = λ y. y.reader.stream.source in
+    let stop : InputSummary → Option Stop = λ v. v.report.stopped in
+    let T : Option (Option Stop) → Type 0 = λ v. IsToldStop v x.reader.report.stopped in
+    record {
+      start = f.0;
+      from = f.1;
+      fed = record { given = f.2.given; closed = f.2.closed; over = f.2.over };
+      left = slice_get-map remaining sources i ∙ ap (λ v. option_map remaining (slice_get v i)) are.sources_are ∙ ap (option_map remaining) (slice_get-map source inputs i ∙ ap (option_map source) at);
+      told = elim (slice_get_cases summaries i).1 [
+        | inl found ↦ subst T (sym (slice_get-map stop summaries i ∙ ap (option_map stop) found.2)) (told_stop x found.0 (are.reports i x found.0 at found.2))
+        | inr past ↦ absurd (omega (arith, slice_get_within inputs i x at, past.0, are.length_is))
+      ];
+      unleft = f.2.own.unleft;
+      refused = λ e. absurd (f.2.own.unrefused e);
+    }
+
+-- an input for which the multiplex waits is open
+open_unready : (p : PlanValue) (i : ℕ) (h : List Event) → is_ready p i h ≡ false → is_closed i h ≡ false
+open_unready p i h e = (waited_for p i h e).open_
 
 -- ---- failures of sources
 
@@ -392,7 +412,9 @@ has_run remaining run limit starts r before after s sources few is over sound wr
       finished = finished run h sound_run.run.within over;
       written = written;
       begun = begun remaining run.plan h starts r.inputs.items is.fed;
-      faithful = λ known unfailed. is.faithful known (unstopped_all remaining run.plan h starts r.inputs.items s.inputs.items sources is.fed are unfailed);
+      faithful = λ known.
+          takes_what_is_given remaining run.plan h starts (map remaining sources) (stops_of s.inputs.items) r.inputs.items is.fed.count
+          (ended_here remaining run.plan h starts r.inputs.items s.inputs.items sources is.fed are) known is.in_order;
       summary = record {
         length_is = are.length_is ∙ is.fed.count;
         inputs = summary_input remaining limit run.plan h starts r.inputs.items s.inputs.items sources is.fed is.limited are;
@@ -411,18 +433,33 @@ nothing_sent p h before waiting none empty =
     subst P (sym none) ([], Appends-nil before, sym empty)
 
 -- a run that could not be opened
-pub has_begun_nothing : {R : Type 0} (failures : R → ℕ) (run : Run) (limit : ℕ) (starts : List (Option (List ℕ))) (readers : List R) (before : Option (List ℕ))
-    → IsMultiplexPlan run.plan → run.limit ≤ 1099511627776 → HasBegun failures (record { run = run; events = [] }) limit starts readers before before
-has_begun_nothing {R} failures run limit starts readers before plan few =
+
+-- inputs that nothing stopped, and of which nothing was taken
+unread_takes : (p : PlanValue) (starts lefts : List (Option (List ℕ))) (stops : List (Option Stop)) → ((i : ℕ) (stopped : Option Stop) → slice_get stops i ≡ Some stopped → stopped ≡ None) → TakesWhatIsGiven p starts lefts stops []
+unread_takes p starts lefts stops none = (
+  packet_lists p starts,
+  λ i. record {
+    whole = λ unfailed fits. refl;
+    failed = λ told input start left bytes named from to used. absurd (none-some ReadFailed (sym (none i (Some ReadFailed) told)));
+    begins = ([], sym (append-nil (packet_lists p starts i)));
+  },
+  tt,
+)
+
+pub has_begun_nothing : {R : Type 0} (remaining : R → Option (List ℕ)) (failures : R → ℕ) (run : Run) (limit : ℕ) (readers : List R) (before : Option (List ℕ)) (fault : RunFault)
+    → IsMultiplexPlan run.plan → run.limit ≤ 1099511627776 → HasBegun remaining failures (record { run = run; events = [] }) limit readers before before fault
+has_begun_nothing {R} remaining failures run limit readers before fault plan few =
     let unread : R → R × Option Stop = λ r. (r, None) in
-    let none : (i : ℕ) (left : R × Option Stop) → slice_get (map unread readers) i ≡ Some left → left.1 ≡ None = λ i left at. (let l = from_map unread readers i left at in ap (λ (v : R × Option Stop). v.1) (sym l.2)) in
+    let stop : R × Option Stop → Option Stop = λ left. left.1 in
+    let none : (i : ℕ) (left : R × Option Stop) → slice_get (map unread readers) i ≡ Some left → left.1 ≡ None = λ i left at. (let l = from_map unread readers i left at in ap stop (sym l.2)) in
+    let same : (i : ℕ) (old : R) (left : R × Option Stop) → slice_get readers i ≡ Some old → slice_get (map unread readers) i ≡ Some left → left.0 ≡ old = λ i old left from at. (let l = from_map unread readers i left at in ap (λ (v : R × Option Stop). v.0) (sym l.2) ∙ same_Some l.0 old (sym l.1 ∙ from)) in
     record {
       sound = sound_nothing run.plan run.limit plan few;
       begun = λ i input all at start. (takeable run.plan (origin_of i input) (framed 188 all), refl);
       written = ([], nothing_sent run.plan [] before [] refl refl);
       lefts = map unread readers;
       count = length-map readers unread;
-      halted = λ i start left from at.
+      halted = λ i old left from at.
           let free = none i left at in
           record {
             unleft = λ e. none-some Gate (sym free ∙ e);
@@ -430,41 +467,96 @@ has_begun_nothing {R} failures run limit starts readers before plan few =
             too_much = λ e all known. absurd (none-some TooMuch (sym free ∙ e));
           };
       told = λ i old left from at.
-          let l = from_map unread readers i left at in
           let free = none i left at in
-          let same : left.0 ≡ old = ap (λ (v : R × Option Stop). v.0) (sym l.2) ∙ same_Some l.0 old (sym l.1 ∙ from) in
-          (λ e. absurd (none-some ReadFailed (sym free ∙ e)), λ other. ap failures same);
-      faithful = λ known free. tt;
+          (λ e. absurd (none-some ReadFailed (sym free ∙ e)), λ other. ap failures (same i old left from at));
+      read = λ i old left from at.
+          let C : R → Type 0 = λ v. Consumes (remaining old) (remaining v) [] in
+          ([], subst C (sym (same i old left from at)) (Consumes-nil (remaining old)));
+      faithful = λ known.
+          unread_takes run.plan (map remaining readers) (map (λ left. remaining left.0) (map unread readers)) (map stop (map unread readers))
+          (λ i stopped at. (let l = from_map stop (map unread readers) i stopped at in sym l.2 ∙ none i l.0 l.1));
+      refused = λ i left at e. absurd (none-some Memory (sym (none i left at) ∙ e));
     }
 
 -- a run that was opened, and failed
-pub has_begun : {R : Type 0} (failures : R → ℕ) (run : Run) (limit : ℕ) (starts : List (Option (List ℕ))) (readers : List R) (r : SerialRun R) (before after : Option (List ℕ))
-    → length readers ≡ length run.plan.request.inputs → r.mux.run ≡ run → IsSound r.mux → AreHalted limit run.plan r.mux.events starts r.inputs.items
+
+of_memory : (fault : RunFault) → (fault ≡ run_faults.Write → ⊥) → fault ≡ run_faults.Memory
+of_memory run_faults.Write other = absurd (other refl)
+of_memory run_faults.Memory other = refl
+
+-- what is left of a failed run's input
+abbrev left_of : {R : Type 0} → SerialInput R → R × Option Stop
+left_of x = (x.reader.stream.source, x.reader.report.stopped)
+
+halted_here : {R : Type 0} (remaining : R → Option (List ℕ)) (limit : ℕ) (p : PlanValue) (h : List Event) (starts : List (Option (List ℕ))) (inputs : List (SerialInput R)) → AreHalted remaining limit p h starts inputs
+    → (i : ℕ) (x : SerialInput R) → slice_get inputs i ≡ Some x
+    → HasEndedHere remaining p h starts (map (λ left. remaining left.0) (map left_of inputs)) (map (λ left. left.1) (map left_of inputs)) i x
+halted_here {R} remaining limit p h starts inputs are i x at =
+    let f = are.fed i x at in
+    let here : slice_get (map left_of inputs) i ≡ Some (left_of x) = slice_get-map left_of inputs i ∙ ap (option_map left_of) at in
+    let bytes : R × Option Stop → Option (List ℕ) = λ left. remaining left.0 in
+    let stop : R × Option Stop → Option Stop = λ left. left.1 in
+    let halted = are.each i f.0 x f.1 at in
+    let T : Option (Option Stop) → Type 0 = λ v. IsToldStop v x.reader.report.stopped in
+    record {
+      start = f.0;
+      from = f.1;
+      fed = f.2;
+      left = slice_get-map bytes (map left_of inputs) i ∙ ap (option_map bytes) here;
+      told = subst T (sym (slice_get-map stop (map left_of inputs) i ∙ ap (option_map stop) here))
+          (record { failed = λ e. ap Some e; too_much = λ e. ap Some e; was_failed = λ e. same_Some x.reader.report.stopped (Some ReadFailed) e });
+      unleft = halted.unleft;
+      refused = λ e. open_unready p i h (halted.refused e);
+    }
+
+-- what was taken of each input begins what can be taken of it
+halted_begun : {R : Type 0} (remaining : R → Option (List ℕ)) (limit : ℕ) (p : PlanValue) (h : List Event) (starts : List (Option (List ℕ))) (inputs : List (SerialInput R)) → AreHalted remaining limit p h starts inputs → AreBegun p h starts
+halted_begun remaining limit p h starts inputs are i input all at from =
+    elim (slice_get_cases inputs i).1 [
+      | inl found ↦
+          (let f = are.fed i found.0 found.2 in
+          begun_one remaining p h i input f.0 all found.0 at (same_Some f.0 (Some all) (sym f.1 ∙ from)) f.2.given)
+      | inr past ↦ absurd (omega (arith, slice_get_within p.request.inputs i input at, past.0, are.count))
+    ]
+
+pub has_begun : {R : Type 0} (remaining : R → Option (List ℕ)) (failures : R → ℕ) (run : Run) (limit : ℕ) (readers : List R) (r : SerialRun R) (before after : Option (List ℕ)) (fault : RunFault)
+    → length readers ≡ length run.plan.request.inputs → r.mux.run ≡ run → IsSound r.mux → AreHalted remaining limit run.plan r.mux.events (map remaining readers) r.inputs.items
     → AllTellFailures failures (map failures readers) r.inputs.items → SendsBeginning before after (bytes_of (emitted run.plan r.mux.events))
-    → HasBegun failures (record { run = run; events = r.mux.events }) limit starts readers before after
-has_begun {R} failures run limit starts readers r before after size same sound are tell written =
+    → (fault ≡ run_faults.Write → AreUnrefused r.inputs.items)
+    → HasBegun remaining failures (record { run = run; events = r.mux.events }) limit readers before after fault
+has_begun {R} remaining failures run limit readers r before after fault size same sound are tell written unrefused =
     let h = r.mux.events in
-    let left_of : SerialInput R → R × Option Stop = λ x. (x.reader.stream.source, x.reader.report.stopped) in
     let inputs = r.inputs.items in
+    let starts = map remaining readers in
     let S : Run → Type 0 = λ v. IsSound (record { run = v; events = h }) in
+    let start_at : (i : ℕ) (old : R) → slice_get readers i ≡ Some old → slice_get starts i ≡ Some (remaining old) = λ i old from. slice_get-map remaining readers i ∙ ap (option_map remaining) from in
     record {
       sound = subst S same sound;
-      begun = are.begun;
+      begun = halted_begun remaining limit run.plan h starts inputs are;
       written = written;
       lefts = map left_of inputs;
       count = length-map inputs left_of ∙ are.count ∙ sym size;
-      halted = λ i start left from at.
+      halted = λ i old left from at.
           let l = from_map left_of inputs i left at in
-          let P : R × Option Stop → Type 0 = λ v. IsHalted limit run.plan h i start v.1 in
-          subst P l.2 (are.each i start l.0 from l.1);
+          let P : R × Option Stop → Type 0 = λ v. IsHalted limit run.plan h i (remaining old) v.1 in
+          subst P l.2 (are.each i (remaining old) l.0 (start_at i old from) l.1);
       told = λ i old left from at.
           let l = from_map left_of inputs i left at in
           let told = tell i l.0 (failures old) l.1 (slice_get-map failures readers i ∙ ap (option_map failures) from) in
           let P : R × Option Stop → Type 0 = λ v. IsFailureTold failures old v.0 v.1 in
           subst P l.2 (told.told, told.untold);
-      faithful = λ known free.
-          are.faithful known
-          (λ i x at. free i (left_of x) (slice_get-map left_of inputs i ∙ ap (option_map left_of) at));
+      read = λ i old left from at.
+          let l = from_map left_of inputs i left at in
+          let f = are.fed i l.0 l.1 in
+          let P : R × Option Stop → Type 0 = λ v. (bytes : List ℕ) × Consumes (remaining old) (remaining v.0) bytes in
+          let Q : Option (List ℕ) → Type 0 = λ v. (bytes : List ℕ) × Consumes v (remaining l.0.reader.stream.source) bytes in
+          subst P l.2 (subst Q (same_Some f.0 (remaining old) (sym f.1 ∙ start_at i old from)) (f.2.given.read.0, f.2.given.read.1));
+      faithful = λ known.
+          takes_what_is_given remaining run.plan h starts (map (λ left. remaining left.0) (map left_of inputs)) (map (λ left. left.1) (map left_of inputs)) inputs are.count
+          (halted_here remaining limit run.plan h starts inputs are) known are.in_order;
+      refused = λ i left at e.
+          let l = from_map left_of inputs i left at in
+          of_memory fault (λ write. unrefused write i l.0 l.1 (ap (λ (v : R × Option Stop). v.1) l.2 ∙ e));
     }
 
 -- all that was to be written is a beginning of it

@@ -1,7 +1,9 @@
 -- What the analyser tells of what a run sends, and that equal inputs give equal bytes.
-use Rattle.std.proofs.Common.{◌≡◌, ◌⊎◌, ℕ, ◌<◌, ◌≤◌, List, [], ◌++◌, length, Option, refl, ap, ◌∙◌, sym, subst, arith, inl, inr, append_assoc, length-append}
+use Rattle.std.proofs.Common.{◌≡◌, ℕ, ◌≤◌, List, [], ◌++◌, length, Option, Some, refl, ap, ◌∙◌, sym, subst, arith, inl, inr, append_assoc, length-append}
 use Rattle.std.proofs.lemmas.Bool.{cases_eq}
 use Rattle.std.proofs.lemmas.List.{append-nil}
+use Rattle.std.proofs.lemmas.Option.{none-some, same_Some}
+use Rattle.std.specs.List.{slice_get}
 use Rattle.std.proofs.lemmas.Grind.{flat_map-append}
 use Rattle.std.specs.Io.KnownBytes.{Appends}
 use Rattle.mux.specs.declared.event.Event.{Event}
@@ -11,7 +13,13 @@ use Rattle.mux.proofs.Same.{outputs_agree}
 use Rattle.mux.proofs.Emitted.{length-emitted}
 use Rattle.mux.proofs.Ends.{output_is_unique}
 use Rattle.output_faults.proofs.OutputFaultLaws.{no_sync_fault, no_table_fault, counter_faults_taken}
+use Rattle.reading.specs.declared.stop.Stop.{Stop}
+use Rattle.reading.specs.declared.stop.Stop.TheVariants.{Gate, ReadFailed, TooMuch}
+use Rattle.serial.specs.declared.summary.InputSummary.{InputSummary}
 use Rattle.serial.specs.declared.summary.Summary.{Summary}
+use Rattle.serial.specs.Outcome.{AreUnfailed, stops_of}
+use Rattle.serial.proofs.OpeningLaws.{from_map}
+use Rattle.serial.proofs.GivingLaws.{faithful_same}
 use Rattle.serial.specs.Feeding.{packet_lists}
 use Rattle.serial.specs.Sending.{bytes_of}
 use Rattle.serial.specs.OutputFaults.{AnalyserTellsOnlyWhatWasTaken, packets_taken_for}
@@ -30,9 +38,26 @@ only_what_was_taken h period sound =
           (λ st listed. (sent st h.events, sound.counters st listed));
     }
 
+-- nothing is told of an input's stop but the end of the run
+untold : (inputs : List InputSummary) (cause : Stop) → (cause ≡ Gate → ⊥) → AreUnfailed inputs → (i : ℕ) → slice_get (stops_of inputs) i ≡ Some (Some cause) → ⊥
+untold inputs cause other unfailed i at =
+    let stop : InputSummary → Option Stop = λ s. s.report.stopped in
+    let l = from_map stop inputs i (Some cause) at in
+    elim (unfailed i l.0 l.1) [
+      | inl e ↦ none-some cause (sym e ∙ l.2)
+      | inr e ↦ other (same_Some cause Gate (sym l.2 ∙ e))
+    ]
+
 -- it is lawful, and takes the inputs' packets in their order
 run_of : (h : History) (starts : List (Option (List ℕ))) (before after : Option (List ℕ)) (s : Summary) → HasRunUnfailed h starts before after s → IsRunOf h.run.plan (packet_lists h.run.plan starts) h.events
-run_of h starts before after s r = record { lawful = r.runs.sound.run.lawful; faithful = r.runs.faithful r.known r.unfailed }
+run_of h starts before after s r =
+    let takes = r.runs.faithful r.known in
+    let inputs = s.inputs.items in
+    record {
+      lawful = r.runs.sound.run.lawful;
+      faithful = faithful_same takes.0 (packet_lists h.run.plan starts)
+          (λ i. (takes.1 i).whole (untold inputs ReadFailed (λ bad. cc) r.unfailed i) (untold inputs TooMuch (λ bad. cc) r.unfailed i)) h.events takes.2;
+    }
 
 same_packets : (h : History) (starts : List (Option (List ℕ))) (before after : Option (List ℕ)) (s : Summary) (other : List Event) → HasRunUnfailed h starts before after s
     → IsRunOf h.run.plan (packet_lists h.run.plan starts) other → IsFinished h.run.plan h.run.limit other

@@ -1,24 +1,24 @@
 -- A run, step by step.
-use Rattle.std.proofs.Common.{ℕ, zero, suc, ◌+◌, ◌-◌, ◌*◌, ◌<◌, ◌≤◌, ◌≡◌, if◌then◌else◌, ◌||◌, List, [], ◌∷◌, ◌++◌, length, set, get_or, Option, Bor, None, Some, refl, ap, ◌∙◌, sym, subst, arith, inl, inr, append_assoc}
+use Rattle.std.proofs.Common.{ℕ, zero, suc, ◌+◌, ◌-◌, ◌*◌, ◌<◌, ◌≤◌, ◌≡◌, if◌then◌else◌, ◌||◌, List, [], ◌∷◌, ◌++◌, length, set, get_or, Option, None, Some, refl, ap, ◌∙◌, sym, subst, arith, inl, inr, append_assoc}
 use Rattle.std.specs.List.{slice_get, range_with_len, sum_by}
-use Rattle.std.specs.Io.KnownBytes.{Consumes, IsAtEnd, Appends}
+use Rattle.std.specs.Io.KnownBytes.{Consumes, Appends}
 use Rattle.std.proofs.lemmas.Bool.{cases_eq, cases_Bool, ne_eqb}
 use Rattle.std.proofs.lemmas.List.{length-set, append-nil}
 use Rattle.std.proofs.lemmas.Grind.{flat_map-append}
 use Rattle.std.proofs.Math.Nat.{suc-mul}
 use Rattle.std.proofs.lemmas.Option.{same_Some, slice_get-get_or, slice_get_within, slice_get_cases}
 use Rattle.std.proofs.lemmas.List.Sums.{sum_by-cons}
+use Rattle.request.specs.Request.{InputValue}
 use Rattle.plan.specs.Build.{PlanValue}
 use Rattle.mux.specs.declared.event.Event.{Event}
 use Rattle.mux.specs.declared.event.Event.TheVariants.{Took, Full, Close, Slot}
 use Rattle.mux.specs.declared.content.Content.{Content}
 use Rattle.mux.specs.History.{Run, History, with_event, slots, emitted, packet_behind, taken, is_closed, full_noted}
 use Rattle.mux.specs.declared.slot.Slot.TheVariants.{Sent}
-use Rattle.mux.specs.declared.sending.Sending.TheVariants as sending
-use Rattle.mux.specs.Answers.{SendAnswers, SlotAnswers, IsLeastUnready}
-use Rattle.mux.specs.Faithful.{IsFaithful}
+use Rattle.mux.specs.Answers.{SlotAnswers, IsLeastUnready}
 use Rattle.tspkt.specs.declared.stamped.Stamped.{Stamped}
-use Rattle.serial.specs.Feeding.{HasGiven, Feeds, AreKnown, AreUnstopped, AreLimited, packet_lists, IsOfInput, turns_left}
+use Rattle.serial.specs.Feeding.{HasGiven, Feeds, AreLimited, IsOfInput, turns_left}
+use Rattle.serial.specs.Giving.{TakesInOrder, KeepOrder}
 use Rattle.serial.specs.Running.{AreFed, AreBegun, IsRunning, WaitsFor, IsNeeded, TakesAsNeeded, steps_left}
 use Rattle.serial.specs.Sending.{bytes_of, HasAnalysed}
 use Rattle.serial.specs.Written.{Sends, SendsBeginning}
@@ -206,13 +206,13 @@ runs_sent remaining run limit starts old mux output packet is answer same analys
     let sent = is_sent p old.mux mux packet (ap (λ (v : Run). v.plan) is.run_is) answer in
     let F : List Event → Type 0 = λ h. AreFed remaining p h starts old.inputs.items in
     let A : List (List ℕ) → Type 0 = HasAnalysed output p.request.rate p.request.watch in
-    let T : List Event → Type 0 = IsFaithful (packet_lists p starts) in
+    let T : List Event → Type 0 = λ h. TakesInOrder h old.inputs.items in
     record {
       run_is = same ∙ is.run_is;
       fed = subst F (sym sent.events) (fed_slot remaining p old.mux.events sent.content starts old.inputs.items is.fed);
       limited = is.limited;
       piece = is.piece;
-      faithful = λ known going. subst T (sym sent.events) (is.faithful known going);
+      in_order = subst T (sym sent.events) is.in_order;
       needed = subst (TakesAsNeeded run) (sym sent.events) (tt, is.needed);
       analysed = subst A (sym sent.out) (analysed p.request.rate p.request.watch (emitted p old.mux.events) is.analysed);
     }
@@ -257,11 +257,9 @@ pub runs_pulled : {R : Type 0} (remaining : R → Option (List ℕ)) (run : Run)
     → ((e : Event) × (new.mux ≡ with_event between e) × IsOfInput i e)
     → ((s : List (Option (List ℕ))) → AreFed remaining between.run.plan between.events s old.inputs.items → AreFed remaining between.run.plan new.mux.events s new.inputs.items)
     → ((most : ℕ) → AreLimited most old.inputs.items → AreLimited most new.inputs.items)
-    → (AreUnstopped new.inputs.items → AreUnstopped old.inputs.items)
-    → ((s : List (Option (List ℕ))) → AreFed remaining between.run.plan between.events s old.inputs.items → AreKnown s → AreUnstopped new.inputs.items
-    → IsFaithful (packet_lists between.run.plan s) between.events → IsFaithful (packet_lists between.run.plan s) new.mux.events)
+    → KeepOrder between.events new.mux.events old.inputs.items new.inputs.items
     → IsRunning remaining run limit starts new
-runs_pulled remaining run limit starts old new between i is more unready same piece output event fed limited going faithful =
+runs_pulled remaining run limit starts old new between i is more unready same piece output event fed limited order =
     let p = run.plan in
     let e = event.0 in
     let plan : between.run.plan ≡ p = ap (λ (v : History). v.run.plan) same ∙ ap (λ (r : Run). r.plan) is.run_is in
@@ -272,9 +270,7 @@ runs_pulled remaining run limit starts old new between i is more unready same pi
     let N : PlanValue → Type 0 = λ q. AreFed remaining q new.mux.events starts new.inputs.items in
     let before : AreFed remaining between.run.plan between.events starts old.inputs.items =
     subst B (sym (ap (λ (v : History). v.events) same)) (subst Q (sym plan) is.fed) in
-    let T : PlanValue → Type 0 = λ q. IsFaithful (packet_lists q starts) old.mux.events in
-    let U : PlanValue → Type 0 = λ q. IsFaithful (packet_lists q starts) new.mux.events in
-    let V : List Event → Type 0 = IsFaithful (packet_lists between.run.plan starts) in
+    let K : History → Type 0 = λ v. KeepOrder v.events new.mux.events old.inputs.items new.inputs.items in
     let A : List (List ℕ) → Type 0 = HasAnalysed old.output p.request.rate p.request.watch in
     let O : SlotWriter → Type 0 = λ w. HasAnalysed w p.request.rate p.request.watch (emitted p new.mux.events) in
     record {
@@ -282,10 +278,7 @@ runs_pulled remaining run limit starts old new between i is more unready same pi
       fed = subst N plan (fed starts before);
       limited = limited limit is.limited;
       piece = piece;
-      faithful = λ known goes.
-          subst U plan
-          (faithful starts before known goes
-          (subst V (sym (ap (λ (v : History). v.events) same)) (subst T (sym plan) (is.faithful known (going goes)))));
+      in_order = λ lists may. (let k = subst K same order lists may in k.1 (is.in_order lists k.0));
       needed =
           (let W : Run → Type 0 = λ v. WaitsFor v old.mux.events i in
           subst (TakesAsNeeded run) (sym events) (needed_of run i e old.mux.events event.2 (subst W is.run_is (more, unready)), is.needed));
@@ -309,21 +302,25 @@ consumed None rest bytes all e used = cc
 consumed (Some first) None bytes all e used = absurd used
 consumed (Some first) (Some more) bytes all e used = (more, sym (same_Some first all e) ∙ used)
 
+-- what was taken of an input begins what can be taken of it
+pub begun_one : {R : Type 0} (remaining : R → Option (List ℕ)) (p : PlanValue) (h : List Event) (i : ℕ) (input : InputValue) (start : Option (List ℕ)) (all : List ℕ) (x : SerialInput R)
+    → slice_get p.request.inputs i ≡ Some input → start ≡ Some all → HasGiven remaining p i start x (taken i h)
+    → (later : List Stamped) × (taken i h ++ later ≡ takeable p (origin_of i input) (framed 188 all))
+begun_one remaining p h i input start all x at known has =
+    let o = has.origin in
+    let b = has.read in
+    let more = consumed start (remaining x.reader.stream.source) b.0 all known b.1 in
+    let later = given_begins remaining p x.reader b.0 (taken i h) b.2 more.0 in
+    let same : o.0 ≡ input = same_Some o.0 input (sym o.1 ∙ at) in
+    (later.0, later.1 ∙ ap (λ v. takeable p v (framed 188 (b.0 ++ more.0))) (o.3 ∙ ap (origin_of i) same) ∙ ap (λ v. takeable p (origin_of i input) (framed 188 v)) (sym more.1))
+
 pub begun : {R : Type 0} (remaining : R → Option (List ℕ)) (p : PlanValue) (h : List Event) (starts : List (Option (List ℕ))) (inputs : List (SerialInput R)) → AreFed remaining p h starts inputs → AreBegun p h starts
 begun remaining p h starts inputs fed i input all at start =
-    let within = slice_get_within p.request.inputs i input at in
     elim (slice_get_cases inputs i).1 [
       | inl found ↦
-          (let x = found.0 in
-          let f = fed.each i x found.2 in
-          let o = f.2.given.origin in
-          let known : f.0 ≡ Some all = same_Some f.0 (Some all) (sym f.1 ∙ start) in
-          let b = f.2.given.read in
-          let more = consumed f.0 (remaining x.reader.stream.source) b.0 all known b.1 in
-          let later = given_begins remaining p x.reader b.0 (taken i h) b.2 more.0 in
-          let same : o.0 ≡ input = same_Some o.0 input (sym o.1 ∙ at) in
-          (later.0, later.1 ∙ ap (λ v. takeable p v (framed 188 (b.0 ++ more.0))) (o.3 ∙ ap (origin_of i) same) ∙ ap (λ v. takeable p (origin_of i input) (framed 188 v)) (sym more.1)))
-      | inr past ↦ absurd (omega (arith, within, past.0, fed.count))
+          (let f = fed.each i found.0 found.2 in
+          begun_one remaining p h i input f.0 all found.0 at (same_Some f.0 (Some all) (sym f.1 ∙ start)) f.2.given)
+      | inr past ↦ absurd (omega (arith, slice_get_within p.request.inputs i input at, past.0, fed.count))
     ]
 
 -- what a slot leaves of the inputs
@@ -334,11 +331,16 @@ fed_sent remaining p old new packet starts inputs answer fed =
     let P : List Event → Type 0 = λ h. AreFed remaining p h starts inputs in
     subst P (sym sent.events) (fed_slot remaining p old.events sent.content starts inputs fed)
 
-pub faithful_sent : (p : PlanValue) (old new : History) (packet : List ℕ) (starts : List (Option (List ℕ))) → SlotAnswers old (Sent packet) new → IsFaithful (packet_lists p starts) old.events → IsFaithful (packet_lists p starts) new.events
-faithful_sent p old new packet starts answer is =
+pub order_sent : {R : Type 0} (old new : History) (packet : List ℕ) (inputs : List (SerialInput R)) → SlotAnswers old (Sent packet) new → TakesInOrder old.events inputs → TakesInOrder new.events inputs
+order_sent old new packet inputs answer is =
     let sent = is_sent old.run.plan old new packet refl answer in
-    let P : List Event → Type 0 = IsFaithful (packet_lists p starts) in
+    let P : List Event → Type 0 = λ h. TakesInOrder h inputs in
     subst P (sym sent.events) is
+
+pub needed_sent : (run : Run) (old new : History) (packet : List ℕ) → SlotAnswers old (Sent packet) new → TakesAsNeeded run old.events → TakesAsNeeded run new.events
+needed_sent run old new packet answer is =
+    let sent = is_sent old.run.plan old new packet refl answer in
+    subst (TakesAsNeeded run) (sym sent.events) (tt, is)
 
 -- what went out is a beginning
 pub sent_begun : (p : PlanValue) (old new : History) (packet : List ℕ) (before a b : Option (List ℕ)) (waiting : List ℕ) → old.run.plan ≡ p → SlotAnswers old (Sent packet) new
@@ -358,7 +360,7 @@ runs_flushed remaining run limit starts old output is same =
       fed = is.fed;
       limited = is.limited;
       piece = is.piece;
-      faithful = is.faithful;
+      in_order = is.in_order;
       needed = is.needed;
       analysed = subst O (sym same) (record { seen = a.seen; rate_is = a.rate_is; period_is = a.period_is; faults_are = a.faults_are });
     }

@@ -47,6 +47,12 @@ pub record Feeds {R : Type 0} (remaining : R → Option (List ℕ)) (p : PlanVal
   pub own : IsOwnStop x.reader.report.stopped
   pub stands : x.is_closed ≡ false → EndsAtTaken p x.reader.origin given.read.2.0
 
+-- The same of an input that may have been given up for want of memory, wherever it was looked at.
+pub record HasFed {R : Type 0} (remaining : R → Option (List ℕ)) (p : PlanValue) (h : List Event) (i : ℕ) (start : Option (List ℕ)) (x : SerialInput R) : Type 0 where
+  pub given : HasGiven remaining p i start x (taken i h)
+  pub closed : x.is_closed ≡ is_closed i h
+  pub over : x.is_closed ≡ true → IsSpent x.reader
+
 -- the packets that an input gives, as far as the bytes of its source are known
 abbrev pub packet_list : PlanValue → ℕ → Option InputValue → Option (Option (List ℕ)) → List Stamped
 packet_list p i (Some input) (Some (Some all)) = takeable p (origin_of i input) (framed 188 all)
@@ -61,9 +67,9 @@ packet_lists p starts i = packet_list p i (slice_get p.request.inputs i) (slice_
 abbrev pub AreKnown : List (Option (List ℕ)) → Type 0
 AreKnown starts = (i : ℕ) (start : Option (List ℕ)) → slice_get starts i ≡ Some start → IsSome start
 
--- nothing stopped the inputs so far
-abbrev pub AreUnstopped : {R : Type 0} → List (SerialInput R) → Type 0
-AreUnstopped {R} inputs = (i : ℕ) (x : SerialInput R) → slice_get inputs i ≡ Some x → x.reader.report.stopped ≡ None
+-- no input was given up for want of memory
+abbrev pub AreUnrefused : {R : Type 0} → List (SerialInput R) → Type 0
+AreUnrefused {R} inputs = (i : ℕ) (x : SerialInput R) → slice_get inputs i ≡ Some x → x.reader.report.stopped ≡ Some Memory → ⊥
 
 -- each input may have so many bytes, at most
 abbrev pub AreLimited : {R : Type 0} → ℕ → List (SerialInput R) → Type 0
@@ -84,10 +90,6 @@ MayBeTaken p h i item = (refusal_of p h i item ≡ None) ⊎ (refusal_of p h i i
 abbrev pub turns_left : ℕ → List Event → ℕ
 turns_left i h =
     (MAX_LIMIT - length (taken i h)) + (if is_closed i h then 0 else 1) + (if full_noted i h then 0 else 1)
-
--- the input holds a packet of the stream
-abbrev pub Holds : {R : Type 0} → ℕ → Stream → SerialInput R → Type 0
-Holds i st x = (item : Stamped) × (x.reader.held ≡ Some item) × (is_mapped_to st i item ≡ true)
 
 -- The item that the input held was taken of it, or is still held, where the queue of its stream was found full.
 abbrev pub IsGivenOrHeld : {R : Type 0} → History → History → ℕ → SerialInput R → SerialInput R → Stamped → Type 0

@@ -2,6 +2,7 @@ pub mod Devices
 pub mod Written
 pub mod Order
 pub mod Feeding
+pub mod Giving
 pub mod Sending
 pub mod Running
 pub mod Opening

@@ -1,5 +1,5 @@
 -- What comes of a run (profile).
-use Rattle.std.specs.Prelude.{◌≡◌, ◌⊎◌, ℕ, ◌<◌, ◌≤◌, List, ◌++◌, length, Option, Some, None, true, false}
+use Rattle.std.specs.Prelude.{◌≡◌, ◌⊎◌, ℕ, ◌<◌, ◌≤◌, List, ◌++◌, length, map, Option, Some, None, true, false}
 use Rattle.std.specs.List.{slice_get}
 use Rattle.std.specs.Option.{option_to_list}
 use Rattle.std.specs.Io.KnownBytes.{Appends, Consumes, IsAtEnd}
@@ -13,17 +13,20 @@ use Rattle.mux.specs.declared.event.Event.{Event}
 use Rattle.mux.specs.History.{History, taken, is_closed, emitted}
 use Rattle.mux.specs.Totals.{IsTotals, IsCounts}
 use Rattle.mux.specs.Headline.{IsSound}
-use Rattle.mux.specs.Faithful.{IsFaithful, IsFinished}
+use Rattle.mux.specs.Faithful.{IsFinished}
 use Rattle.reading.specs.Failures.{FailsOnce}
 use Rattle.reading.specs.Takeable.{takeable, origin_of, CountsItems, EndsAtTaken}
 use Rattle.reading.specs.PacketReading.{BeginsTakeable, CountsTold}
-use Rattle.serial.specs.Feeding.{AreKnown, packet_lists}
-use Rattle.serial.specs.Running.{AreBegun, IsHalted, IsUnhalted}
+use Rattle.serial.specs.Feeding.{AreKnown}
+use Rattle.serial.specs.Giving.{TakesWhatIsGiven}
+use Rattle.serial.specs.Running.{AreBegun, IsHalted}
 use Rattle.serial.specs.Ending.{ArePeaks}
 use Rattle.serial.specs.Written.{SendsBeginning}
 use Rattle.serial.specs.Sending.{bytes_of}
 use Rattle.reading.specs.declared.stop.Stop.{Stop}
 use Rattle.reading.specs.declared.stop.Stop.TheVariants.{Gate, Memory, ReadFailed, TooMuch}
+use Rattle.serial.specs.declared.run_fault.RunFault.{RunFault}
+use Rattle.serial.specs.declared.run_fault.RunFault.TheVariants as run_faults
 use Rattle.serial.specs.declared.summary.InputSummary.{InputSummary}
 use Rattle.serial.specs.declared.summary.Summary.{Summary}
 
@@ -65,6 +68,10 @@ abbrev pub AreUnfailed : List InputSummary → Type 0
 AreUnfailed inputs =
     (i : ℕ) (s : InputSummary) → slice_get inputs i ≡ Some s
     → (s.report.stopped ≡ None) ⊎ (s.report.stopped ≡ Some Gate)
+
+-- what stopped each input, if anything
+abbrev pub stops_of : List InputSummary → List (Option Stop)
+stops_of inputs = map (λ s. s.report.stopped) inputs
 
 -- What is said of a run is so.
 pub record IsSummary (limit : ℕ) (p : PlanValue) (h : List Event) (starts : List (Option (List ℕ))) (s : Summary) : Type 0 where
@@ -109,8 +116,8 @@ pub record HasRun (h : History) (limit : ℕ) (starts lefts : List (Option (List
   pub written : Appends before after (bytes_of (emitted h.run.plan h.events))
   -- what was taken of each input begins what can be taken of its bytes
   pub begun : AreBegun h.run.plan h.events starts
-  -- it takes the inputs' packets in their order, where nothing but the end of the run stopped them
-  pub faithful : AreKnown starts → AreUnfailed s.inputs.items → IsFaithful (packet_lists h.run.plan starts) h.events
+  -- it takes what the inputs give, each input's packets in their order
+  pub faithful : AreKnown starts → TakesWhatIsGiven h.run.plan starts lefts (stops_of s.inputs.items) h.events
   pub summary : IsSummary limit h.run.plan h.events starts s
   -- the sources come back in their order, read on
   pub read : AreReadOn limit h.run.plan h.events starts lefts s.inputs.items
@@ -128,18 +135,23 @@ FailuresAreTold {R} failures before after inputs =
     → slice_get inputs i ≡ Some s → slice_get before i ≡ Some old → slice_get after i ≡ Some new
     → IsFailureTold failures old new s.report.stopped
 
--- What a run of these readers makes, each of at most so many bytes, where it doesn't end by itself: a beginning of the packets
--- of a sound history was written. `lefts` are the readers as the run left them, each with what stopped its input, if anything.
-pub record HasBegun {R : Type 0} (failures : R → ℕ) (h : History) (limit : ℕ) (starts : List (Option (List ℕ))) (readers : List R) (before after : Option (List ℕ)) : Type 0 where
+-- What a run of these readers makes, each of at most so many bytes, where it doesn't end by itself but with this fault: a
+-- beginning of the packets of a sound history was written. `lefts` are the readers as the run left them, each with what stopped
+-- its input, if anything.
+pub record HasBegun {R : Type 0} (remaining : R → Option (List ℕ)) (failures : R → ℕ) (h : History) (limit : ℕ) (readers : List R) (before after : Option (List ℕ)) (fault : RunFault) : Type 0 where
   pub sound : IsSound h
-  pub begun : AreBegun h.run.plan h.events starts
+  pub begun : AreBegun h.run.plan h.events (map remaining readers)
   pub written : SendsBeginning before after (bytes_of (emitted h.run.plan h.events))
   pub lefts : List (R × Option Stop)
   pub count : length lefts ≡ length readers
-  pub halted : (i : ℕ) (start : Option (List ℕ)) (left : R × Option Stop) → slice_get starts i ≡ Some start → slice_get lefts i ≡ Some left
-      → IsHalted limit h.run.plan h.events i start left.1
+  pub halted : (i : ℕ) (old : R) (left : R × Option Stop) → slice_get readers i ≡ Some old → slice_get lefts i ≡ Some left
+      → IsHalted limit h.run.plan h.events i (remaining old) left.1
   pub told : (i : ℕ) (old : R) (left : R × Option Stop) → slice_get readers i ≡ Some old → slice_get lefts i ≡ Some left
       → IsFailureTold failures old left.0 left.1
-  -- it takes the inputs' packets in their order, where nothing but want of memory stopped them
-  pub faithful : AreKnown starts → ((i : ℕ) (left : R × Option Stop) → slice_get lefts i ≡ Some left → IsUnhalted left.1)
-      → IsFaithful (packet_lists h.run.plan starts) h.events
+  pub read : (i : ℕ) (old : R) (left : R × Option Stop) → slice_get readers i ≡ Some old → slice_get lefts i ≡ Some left
+      → (bytes : List ℕ) × Consumes (remaining old) (remaining left.0) bytes
+  -- it takes what the inputs give, each input's packets in their order
+  pub faithful : AreKnown (map remaining readers)
+      → TakesWhatIsGiven h.run.plan (map remaining readers) (map (λ left. remaining left.0) lefts) (map (λ left. left.1) lefts) h.events
+  -- an input's want of memory is told as that
+  pub refused : (i : ℕ) (left : R × Option Stop) → slice_get lefts i ≡ Some left → left.1 ≡ Some Memory → fault ≡ run_faults.Memory

@@ -1,5 +1,5 @@
 -- A run: its inputs, its multiplex and what went out (profile).
-use Rattle.std.specs.Prelude.{◌≡◌, ◌⊎◌, ℕ, ◌+◌, ◌*◌, ◌-◌, ◌<◌, ◌≤◌, List, [], ◌∷◌, ◌++◌, length, sum_by, Option, Some, None, false}
+use Rattle.std.specs.Prelude.{◌≡◌, ◌⊎◌, ℕ, ◌+◌, ◌*◌, ◌-◌, ◌<◌, ◌≤◌, List, [], ◌∷◌, ◌++◌, length, sum_by, Option, Some, false}
 use Rattle.std.specs.List.{slice_get, range_with_len}
 use Rattle.tspkt.specs.Framed.{framed}
 use Rattle.tspkt.specs.declared.stamped.Stamped.{Stamped}
@@ -11,10 +11,10 @@ use Rattle.mux.specs.History.{Run, slots, taken, emitted}
 use Rattle.mux.specs.Lawful.{IsDone, is_ready}
 use Rattle.mux.specs.Answers.{IsLeastUnready}
 use Rattle.reading.specs.Takeable.{takeable, origin_of}
-use Rattle.mux.specs.Faithful.{IsFaithful}
 use Rattle.reading.specs.declared.stop.Stop.{Stop}
 use Rattle.reading.specs.declared.stop.Stop.TheVariants.{Gate, Memory, TooMuch}
-use Rattle.serial.specs.Feeding.{Feeds, AreKnown, AreUnstopped, AreLimited, packet_lists, turns_left}
+use Rattle.serial.specs.Feeding.{Feeds, HasFed, AreLimited, turns_left}
+use Rattle.serial.specs.Giving.{TakesInOrder}
 use Rattle.serial.specs.Sending.{HasAnalysed}
 use Rattle.serial.specs.declared.serial_input.SerialInput.{SerialInput}
 use Rattle.serial.specs.declared.serial_run.SerialRun.{SerialRun}
@@ -41,14 +41,14 @@ abbrev pub TakesAsNeeded : Run → List Event → Type 0
 TakesAsNeeded run [] = Unit {0}
 TakesAsNeeded run (e ∷ h) = IsNeeded run e h × TakesAsNeeded run h
 
--- The run goes on over these sources, each of at most so many bytes: it takes the inputs' packets in their order, while nothing
--- stops them, and as they are needed, and its packets were analysed.
+-- The run goes on over these sources, each of at most so many bytes: it takes the inputs' packets in their order, and as they are
+-- needed, and its packets were analysed.
 pub record IsRunning {R : Type 0} (remaining : R → Option (List ℕ)) (run : Run) (limit : ℕ) (starts : List (Option (List ℕ))) (r : SerialRun R) : Type 0 where
   pub run_is : r.mux.run ≡ run
   pub fed : AreFed remaining run.plan r.mux.events starts r.inputs.items
   pub limited : AreLimited limit r.inputs.items
   pub piece : 0 < length r.piece.items
-  pub faithful : AreKnown starts → AreUnstopped r.inputs.items → IsFaithful (packet_lists run.plan starts) r.mux.events
+  pub in_order : TakesInOrder r.mux.events r.inputs.items
   pub needed : TakesAsNeeded run r.mux.events
   pub analysed : HasAnalysed r.output run.plan.request.rate run.plan.request.watch (emitted run.plan r.mux.events)
 
@@ -75,16 +75,11 @@ pub record IsHalted (limit : ℕ) (p : PlanValue) (h : List Event) (i : ℕ) (st
   pub refused : stopped ≡ Some Memory → is_ready p i h ≡ false
   pub too_much : stopped ≡ Some TooMuch → (all : List ℕ) → start ≡ Some all → limit < length all
 
--- nothing but want of memory stopped the input
-abbrev pub IsUnhalted : Option Stop → Type 0
-IsUnhalted stopped = (stopped ≡ None) ⊎ (stopped ≡ Some Memory)
-
--- The inputs of a run that fails, and what it took of them: their packets in their order, where nothing but want of memory
--- stopped them.
-pub record AreHalted {R : Type 0} (limit : ℕ) (p : PlanValue) (h : List Event) (starts : List (Option (List ℕ))) (inputs : List (SerialInput R)) : Type 0 where
+-- The inputs of a run that fails, and what it took of them, in their order.
+pub record AreHalted {R : Type 0} (remaining : R → Option (List ℕ)) (limit : ℕ) (p : PlanValue) (h : List Event) (starts : List (Option (List ℕ))) (inputs : List (SerialInput R)) : Type 0 where
   pub count : length inputs ≡ length p.request.inputs
   pub each : (i : ℕ) (start : Option (List ℕ)) (x : SerialInput R) → slice_get starts i ≡ Some start → slice_get inputs i ≡ Some x
       → IsHalted limit p h i start x.reader.report.stopped
-  pub begun : AreBegun p h starts
-  pub faithful : AreKnown starts → ((i : ℕ) (x : SerialInput R) → slice_get inputs i ≡ Some x → IsUnhalted x.reader.report.stopped)
-      → IsFaithful (packet_lists p starts) h
+  pub fed : (i : ℕ) (x : SerialInput R) → slice_get inputs i ≡ Some x
+      → (start : Option (List ℕ)) × (slice_get starts i ≡ Some start) × HasFed remaining p h i start x
+  pub in_order : TakesInOrder h inputs

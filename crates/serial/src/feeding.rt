@@ -5,10 +5,9 @@ ghost use Rattle.mux.specs.declared.event.Event.{Event};
 ghost use Rattle.mux.specs.declared.event.Event.TheVariants as events;
 ghost use Rattle.mux.specs.History.{with_event, is_closed, full_noted};
 ghost use Rattle.mux.specs.Answers.{IsLeastUnready};
-ghost use Rattle.mux.specs.Faithful.{IsFaithful};
 ghost use Rattle.tspkt.specs.declared.stamped.Stamped.{Stamped as GivenPacket};
-ghost use Rattle.request.specs.declared.stream.Stream.{Stream};
-ghost use Rattle.serial.specs.Feeding.{Feeds, AreKnown, AreUnstopped, AreLimited, packet_lists, IsOfInput, MayBeTaken, Holds, IsGivenOrHeld, AllTellFailures, turns_left};
+ghost use Rattle.serial.specs.Feeding.{Feeds, HasFed, AreLimited, IsOfInput, MayBeTaken, IsGivenOrHeld, AllTellFailures, turns_left};
+ghost use Rattle.serial.specs.Giving.{KeepsOrder, KeepOrder, TakesInOrder};
 ghost use Rattle.reading.specs.declared.stop.Stop.TheVariants.{Memory};
 ghost use Rattle.serial.specs.Running.{AreFed, AreHalted};
 ghost use Rattle.reading.specs.PacketReading.{TellsFailures};
@@ -31,16 +30,15 @@ pub(crate) fn pull<R: Source>(
     requires feeds { (start : Option (List ℕ)) × Feeds R.remaining mux.old.run.plan mux.old.events number start input.old }
     ensures feeds { OnOk result ((start : Option (List ℕ)) → Feeds R.remaining mux.old.run.plan mux.old.events number start input.old
         → Feeds R.remaining mux.old.run.plan mux.new.events number start input.new) }
-    ensures going { OnOk result (input.new.reader.report.stopped ≡ None → input.old.reader.report.stopped ≡ None) }
-    ensures noted { OnOk result ((st : Stream) → mux.new ≡ with_event mux.old (Event.Full number st)
-        → Holds number st input.new) }
+    ensures order { KeepsOrder number mux.old.events mux.new.events input.old input.new }
+    ensures given { OnErr result ((start : Option (List ℕ)) → Feeds R.remaining mux.old.run.plan mux.old.events number start input.old
+        → HasFed R.remaining mux.old.run.plan mux.old.events number start input.new) }
     ensures event { OnOk result ((e : Event) × (mux.new ≡ with_event mux.old e) × IsOfInput number e) }
     ensures fewer { OnOk result (turns_left number mux.new.events < turns_left number mux.old.events) }
     ensures limit { OnOk result (input.new.reader.stream.items.limit ≡ input.old.reader.stream.items.limit) }
     ensures failures { (before : ℕ) → TellsFailures R.failures before input.old.reader
         → TellsFailures R.failures before input.new.reader }
     ensures refused { OnErr result (input.new.reader.report.stopped ≡ Some Memory) }
-    ensures reading { OnErr result (input.old.reader.report.stopped ≡ None) }
     ensures err { OnErr result (mux.new ≡ mux.old) }
 {
     if input.reader.find(mux.plan(), piece)? {
@@ -65,12 +63,7 @@ pub(crate) fn pull_at<R: Source>(
     ensures fed { OnOk result ((starts : List (Option (List ℕ)))
         → AreFed R.remaining mux.old.run.plan mux.old.events starts inputs.old.items
         → AreFed R.remaining mux.old.run.plan mux.new.events starts inputs.new.items) }
-    ensures going { OnOk result (AreUnstopped inputs.new.items → AreUnstopped inputs.old.items) }
-    ensures faithful { OnOk result ((starts : List (Option (List ℕ)))
-        → AreFed R.remaining mux.old.run.plan mux.old.events starts inputs.old.items
-        → AreKnown starts → AreUnstopped inputs.new.items
-        → IsFaithful (packet_lists mux.old.run.plan starts) mux.old.events
-        → IsFaithful (packet_lists mux.old.run.plan starts) mux.new.events) }
+    ensures order { KeepOrder mux.old.events mux.new.events inputs.old.items inputs.new.items }
     ensures event { OnOk result ((e : Event) × (mux.new ≡ with_event mux.old e) × IsOfInput number e) }
     ensures fewer { OnOk result (turns_left number mux.new.events < turns_left number mux.old.events) }
     ensures limited { OnOk result ((limit : ℕ) → AreLimited limit inputs.old.items → AreLimited limit inputs.new.items) }
@@ -80,8 +73,8 @@ pub(crate) fn pull_at<R: Source>(
     ensures halted { OnErr result ((limit : ℕ) (starts : List (Option (List ℕ)))
         → AreFed R.remaining mux.old.run.plan mux.old.events starts inputs.old.items
         → AreLimited limit inputs.old.items
-        → (AreKnown starts → AreUnstopped inputs.old.items → IsFaithful (packet_lists mux.old.run.plan starts) mux.old.events)
-        → AreHalted limit mux.old.run.plan mux.old.events starts inputs.new.items) }
+        → TakesInOrder mux.old.events inputs.old.items
+        → AreHalted R.remaining limit mux.old.run.plan mux.old.events starts inputs.new.items) }
     ensures err { OnErr result (mux.new ≡ mux.old) }
 {
     pull(mux, number, &mut inputs[number], piece)

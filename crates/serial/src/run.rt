@@ -1,6 +1,6 @@
 //! A whole run.
 
-ghost use Rattle.std.specs.Prelude.{◌≡◌, ◌^◌, ◌≤◌, ℕ, List, length, map, Err, IfOk, OnOk, OnErr};
+ghost use Rattle.std.specs.Prelude.{◌≡◌, ◌^◌, ◌≤◌, ℕ, List, length, map, Err, IfOk, IfErr, OnOk};
 ghost use Rattle.tspkt.specs.declared.framer.TheConstants.{MAX_LIMIT};
 ghost use Rattle.mux.specs.declared.event.Event.{Event};
 ghost use Rattle.mux.specs.Plans.{IsMultiplexPlan};
@@ -37,9 +37,10 @@ pub fn run_serial<R: Source + Drop, W: Sink>(
         (map R.remaining readers.items) (map R.remaining done.1.items)
         (W.contents writer) (W.contents result.0) done.0
         × TakesAsNeeded (record { plan = plan; limit = slots }) h) }
-    ensures begins { OnErr result.1 ((h : List Event)
-        × HasBegun R.failures (record { run = record { plan = plan; limit = slots }; events = h }) 3154116608
-        (map R.remaining readers.items) readers.items (W.contents writer) (W.contents result.0)) }
+    ensures begins { IfErr result.1 (λ fault. (h : List Event)
+        × HasBegun R.remaining R.failures (record { run = record { plan = plan; limit = slots }; events = h }) 3154116608
+        readers.items (W.contents writer) (W.contents result.0) fault
+        × TakesAsNeeded (record { plan = plan; limit = slots }) h) }
     ensures readers { IfOk result.1 (λ done. length done.1.items ≡ length readers.items) }
     ensures read_failed { IfOk result.1 (λ done.
         FailuresAreTold R.failures readers.items done.1.items done.0.inputs.items) }
@@ -67,9 +68,10 @@ pub fn run_serial_within<R: Source + Drop, W: Sink>(
         (map R.remaining readers.items) (map R.remaining done.1.items)
         (W.contents writer) (W.contents result.0) done.0
         × TakesAsNeeded (record { plan = plan; limit = slots }) h) }
-    ensures begins { OnErr result.1 ((h : List Event)
-        × HasBegun R.failures (record { run = record { plan = plan; limit = slots }; events = h }) limit
-        (map R.remaining readers.items) readers.items (W.contents writer) (W.contents result.0)) }
+    ensures begins { IfErr result.1 (λ fault. (h : List Event)
+        × HasBegun R.remaining R.failures (record { run = record { plan = plan; limit = slots }; events = h }) limit
+        readers.items (W.contents writer) (W.contents result.0) fault
+        × TakesAsNeeded (record { plan = plan; limit = slots }) h) }
     ensures readers { IfOk result.1 (λ done. length done.1.items ≡ length readers.items) }
     ensures read_failed { IfOk result.1 (λ done.
         FailuresAreTold R.failures readers.items done.1.items done.0.inputs.items) }
@@ -107,9 +109,10 @@ fn run_to<R: Source + Drop, W: Sink>(
         (map R.remaining readers.items) (map R.remaining done.1.items)
         (W.contents sink.old) (W.contents sink.new) done.0
         × TakesAsNeeded (record { plan = plan; limit = slots }) h) }
-    ensures begins { OnErr result ((h : List Event)
-        × HasBegun R.failures (record { run = record { plan = plan; limit = slots }; events = h }) limit
-        (map R.remaining readers.items) readers.items (W.contents sink.old) (W.contents sink.new)) }
+    ensures begins { IfErr result (λ fault. (h : List Event)
+        × HasBegun R.remaining R.failures (record { run = record { plan = plan; limit = slots }; events = h }) limit
+        readers.items (W.contents sink.old) (W.contents sink.new) fault
+        × TakesAsNeeded (record { plan = plan; limit = slots }) h) }
     ensures readers { IfOk result (λ done. length done.1.items ≡ length readers.items) }
     ensures read_failed { IfOk result (λ done.
         FailuresAreTold R.failures readers.items done.1.items done.0.inputs.items) }

@@ -34,10 +34,10 @@ impl<R: Source + Drop> SerialRun<R> {
     ghost use Rattle.serial.specs.Sending.{bytes_of};
     ghost use Rattle.mux.specs.Headline.{IsSound};
     ghost use Rattle.mux.specs.Totals.{IsCounts};
-    ghost use Rattle.serial.specs.Feeding.{AllTellFailures};
+    ghost use Rattle.serial.specs.Feeding.{AreUnrefused, AllTellFailures};
     ghost use Rattle.serial.specs.Ending.{AreReported, ArePeaks};
     ghost use Rattle.tspkt.specs.declared.framer.TheConstants.{MAX_LIMIT};
-    ghost use Rattle.serial.specs.Running.{IsRunning, IsOver, AreHalted, steps_left};
+    ghost use Rattle.serial.specs.Running.{TakesAsNeeded, IsRunning, IsOver, AreHalted, steps_left};
 
     /// A run of a plan for at most this many slots, with inputs of at most `limit` bytes, of which nothing was read or sent.
     pub fn open(
@@ -103,7 +103,9 @@ impl<R: Source + Drop> SerialRun<R> {
             → Appends before (W.contents sink.new) (bytes_of (emitted self.old.mux.run.plan self.new.mux.events))) }
         ensures halted { OnErr result ((run : Run) (limit : ℕ) (starts : List (Option (List ℕ)))
             → IsRunning R.remaining run limit starts self.old
-            → AreHalted limit run.plan self.new.mux.events starts self.new.inputs.items) }
+            → AreHalted R.remaining limit run.plan self.new.mux.events starts self.new.inputs.items
+            × TakesAsNeeded run self.new.mux.events) }
+        ensures unrefused { result ≡ Err RunFault.Write → AreUnrefused self.new.inputs.items }
         ensures failures_told { (befores : List ℕ)
             → AllTellFailures R.failures befores self.old.inputs.items
             → AllTellFailures R.failures befores self.new.inputs.items }
@@ -137,7 +139,9 @@ impl<R: Source + Drop> SerialRun<R> {
             → Sends before (W.contents sink.new) (bytes_of (emitted self.old.mux.run.plan self.new.mux.events)) self.new.output.writer) }
         ensures halted { OnErr result ((run : Run) (limit : ℕ) (starts : List (Option (List ℕ)))
             → IsRunning R.remaining run limit starts self.old
-            → AreHalted limit run.plan self.new.mux.events starts self.new.inputs.items) }
+            → AreHalted R.remaining limit run.plan self.new.mux.events starts self.new.inputs.items
+            × TakesAsNeeded run self.new.mux.events) }
+        ensures unrefused { result ≡ Err RunFault.Write → AreUnrefused self.new.inputs.items }
         ensures failures_told { (befores : List ℕ)
             → AllTellFailures R.failures befores self.old.inputs.items
             → AllTellFailures R.failures befores self.new.inputs.items }

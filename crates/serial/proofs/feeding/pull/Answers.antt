@@ -1,11 +1,13 @@
-use Rattle.std.proofs.Common.{◌∙◌, ap, sym, subst, Ok}
-use Rattle.reading.proofs.PacketLaws.{unstopped_reading}
+use Rattle.std.proofs.Common.{◌∙◌, refl, ap, sym, subst, Ok}
+use Rattle.std.proofs.lemmas.Bool.{false≢true}
 use Rattle.serial.proofs.SendingLaws.{on_err_always}
 use Rattle.plan.specs.Build.{PlanValue}
 use Rattle.mux.specs.History.{History, taken}
 use Rattle.serial.specs.declared.serial_input.SerialInput.{SerialInput}
 use Rattle.reading.specs.PacketReading.{ReadsOn}
 use Rattle.serial.specs.Feeding.{Feeds}
+use Rattle.reading.specs.declared.packet_reader.PacketReader.{PacketReader}
+use Rattle.serial.proofs.GivingLaws.{order_given, order_closed, order_refused}
 use Rattle.serial.proofs.FeedingLaws.{given_on, given_released, some_held, waited_for, next_may_be_taken, feeds_closed, feeds_given, fewer, few_given}
 use Rattle.serial.proofs.feeding.pull.Goals as goal
 
@@ -58,8 +60,51 @@ returns-else-branch-clause-feeds g c =
     subst M (sym c.close.ensures.closed) (subst N (sym c.close.ensures.input) (feeds_closed g.R.Source.remaining c.args.mux.now.run.plan h.events i start x given done
     (record { unleft = λ e. feeds.own.unleft (c.find.ensures.goes.unleft e); unrefused = λ e. feeds.own.unrefused (c.in_ok-find.ensures.unrefused e) })))
 
-pub returns-in_err-find-clause-reading : goal.returns-in_err-find-clause-reading
-returns-in_err-find-clause-reading g c =
+pub returns-then-branch-clause-order : goal.returns-then-branch-clause-order
+returns-then-branch-clause-order g c =
+    let h = c.args.mux.now in
+    let i = c.args.number in
+    let old = c.args.input.now in
+    let x = record old { reader = c.find.new.self } in
     let feeds = c.requires.feeds in
-    let read = feeds.1.given.read in
-    on_err_always c.from_residual.result (unstopped_reading g.R.Source.remaining c.args.mux.now.run.plan c.args.input.now.reader read.0 _ read.2 c.in_err-find.ensures.reading)
+    let item = some_held x.reader.held (c.find.ensures.found (c.in_ok-find.was ∙ ap Ok c.if-branch.true)) in
+    let wait = waited_for h.run.plan i h.events c.requires.unready.unready in
+    order_given i h c.give.new.mux old x c.give.new.input item.0 (c.give.ensures item.0 item.1) item.1
+    (λ some. ap (λ (v : PacketReader _). v.held) (sym (c.find.ensures.stays some)) ∙ item.1) (feeds.1.closed ∙ wait.open_)
+
+pub returns-else-branch-clause-order : goal.returns-else-branch-clause-order
+returns-else-branch-clause-order g c =
+    let h = c.args.mux.now in
+    let i = c.args.number in
+    let old = c.args.input.now in
+    let x = record old { reader = c.find.new.self } in
+    let feeds = c.requires.feeds in
+    let done = c.find.ensures.done (c.in_ok-find.was ∙ ap Ok c.if-branch.false) in
+    let wait = waited_for h.run.plan i h.events c.requires.unready.unready in
+    order_closed i h c.close.new.mux old x c.close.new.input c.close.ensures.closed c.close.ensures.input
+    (λ some. ap (λ (v : PacketReader _). v.held) (sym (c.find.ensures.stays some)) ∙ done.held) (feeds.1.closed ∙ wait.open_)
+
+pub returns-in_err-find-clause-order : goal.returns-in_err-find-clause-order
+returns-in_err-find-clause-order g c =
+    let h = c.args.mux.now in
+    let i = c.args.number in
+    let old = c.args.input.now in
+    let feeds = c.requires.feeds in
+    let wait = waited_for h.run.plan i h.events c.requires.unready.unready in
+    order_refused i h.events h.events old (record old { reader = c.find.new.self }) refl
+    (λ some. ap (λ (v : PacketReader _). v.held) (sym (c.find.ensures.stays some))) (feeds.1.closed ∙ wait.open_)
+
+pub returns-in_err-find-clause-given : goal.returns-in_err-find-clause-given
+returns-in_err-find-clause-given g c =
+    let h = c.args.mux.now in
+    let i = c.args.number in
+    let old = c.args.input.now in
+    let wait = waited_for h.run.plan i h.events c.requires.unready.unready in
+    on_err_always c.from_residual.result
+    (λ start feeds.
+    record {
+      given = given_on g.R.Source.remaining h.run.plan i start old (record old { reader = c.find.new.self }) (taken i h.events) feeds.given
+          (subst (λ (v : PlanValue). ReadsOn g.R.Source.remaining v old.reader c.find.new.self) c.plan.ensures c.find.ensures.read) c.find.ensures.goes.origin c.find.ensures.goes.limit;
+      closed = feeds.closed;
+      over = λ e. absurd (false≢true (sym wait.open_ ∙ sym feeds.closed ∙ e));
+    })

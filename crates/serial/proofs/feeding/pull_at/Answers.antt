@@ -1,18 +1,25 @@
-use Rattle.std.proofs.Common.{ℕ, ◌<◌, ◌≡◌, false, List, Option, set, sym, subst, ap, ◌∙◌, length, arith}
+use Rattle.std.proofs.Common.{ℕ, ◌<◌, List, Option, set, sym, subst, length, arith}
 use Rattle.std.proofs.lemmas.Result.{on_ok_weaker}
-use Rattle.plan.specs.Build.{PlanValue}
-use Rattle.mux.specs.History.{History, with_event}
-use Rattle.mux.specs.Faithful.{IsFaithful}
-use Rattle.serial.specs.Feeding.{Feeds, packet_lists}
+use Rattle.mux.specs.History.{History}
+use Rattle.serial.specs.Feeding.{Feeds}
+use Rattle.serial.specs.Giving.{KeepOrder}
 use Rattle.serial.specs.Running.{AreFed}
-use Rattle.mux.specs.Lawful.{is_ready}
 use Rattle.serial.proofs.FailureLaws.{all_tell}
 use Rattle.serial.proofs.HaltedLaws.{halted_refused, all_limited}
-use Rattle.serial.proofs.SendingLaws.{on_err_two}
+use Rattle.serial.proofs.SendingLaws.{on_err_three}
 use Rattle.serial.proofs.FeedingLaws.{on_ok_two}
-use Rattle.serial.proofs.RunningLaws.{fed_input, set_here}
-use Rattle.serial.proofs.FaithfulLaws.{faithful_on, unstopped_before, on_ok_three}
+use Rattle.serial.proofs.RunningLaws.{fed_input}
+use Rattle.serial.proofs.GivingLaws.{keep_order, taken_still}
 use Rattle.serial.proofs.feeding.pull_at.Goals as goal
+
+pub returns-clause-order : goal.returns-clause-order
+returns-clause-order g c =
+    let h = c.args.mux.now in
+    let i = c.args.number in
+    let l = c.requires.unready.input in
+    let within : i < length c.args.inputs.now.items = omega (arith, l, c.requires.fed.1.count) in
+    keep_order c.args.inputs.now.items i c.index_mut.result.now c.pull.new.input h.events c.pull.new.mux.events c.index_mut.ensures.value within c.pull.ensures.order
+    (taken_still c.pull.result i h c.pull.new.mux c.pull.ensures.event c.pull.ensures.err)
 
 pub returns-clause-failures : goal.returns-clause-failures
 returns-clause-failures g c befores all =
@@ -30,12 +37,16 @@ pub returns-clause-halted : goal.returns-clause-halted
 returns-clause-halted g c =
     let h = c.args.mux.now in
     let i = c.args.number in
+    let x = c.index_mut.result.now in
+    let y = c.pull.new.input in
+    let items = c.args.inputs.now.items in
     let l = c.requires.unready.input in
-    let within : i < length c.args.inputs.now.items = omega (arith, l, c.requires.fed.1.count) in
+    let within : i < length items = omega (arith, l, c.requires.fed.1.count) in
     let waits = c.requires.unready.unready in
-    on_err_two c.pull.result c.pull.ensures.refused c.pull.ensures.reading
-    (λ memory unstopped limit starts fed limited faithful.
-    halted_refused g.R.Source.remaining limit c.args.mux.now.run.plan h.events i starts c.args.inputs.now.items c.index_mut.result.now c.pull.new.input c.index_mut.ensures.value within waits unstopped memory fed limited faithful)
+    on_err_three c.pull.result c.pull.ensures.refused c.pull.ensures.given c.pull.ensures.err
+    (λ memory given same limit starts fed limited order.
+    let K : History → Type 0 = λ v. KeepOrder h.events v.events items (set items i y) in
+    halted_refused g.R.Source.remaining limit h.run.plan h.events i starts items x y c.index_mut.ensures.value within waits memory fed limited given (subst K same (returns-clause-order g c)) order)
 
 pub returns-clause-fed : goal.returns-clause-fed
 returns-clause-fed g c =
@@ -52,28 +63,3 @@ returns-clause-fed g c =
     subst N (sym event.1)
     (fed_input g.R.Source.remaining c.args.mux.now.run.plan h e i starts c.args.inputs.now.items x y c.index_mut.ensures.value
     (omega (arith, l)) event.2 fed (subst M event.1 goes)))
-
-pub returns-clause-going : goal.returns-clause-going
-returns-clause-going g c =
-    let l = c.requires.unready.input in
-    on_ok_weaker c.pull.result
-    (λ goes. unstopped_before c.args.inputs.now.items c.args.number c.index_mut.result.now c.pull.new.input c.index_mut.ensures.value
-    (omega (arith, l, c.requires.fed.1.count)) goes)
-    c.pull.ensures.going
-
-pub returns-clause-faithful : goal.returns-clause-faithful
-returns-clause-faithful g c =
-    let h = c.args.mux.now in
-    let i = c.args.number in
-    let y = c.pull.new.input in
-    let l = c.requires.unready.input in
-    let within : i < length c.args.inputs.now.items = omega (arith, l, c.requires.fed.1.count) in
-    on_ok_three c.pull.result (returns-clause-fed g c) c.pull.ensures.event c.pull.ensures.noted
-    (λ fed event noted starts before known goes faithful.
-    let e = event.0 in
-    let new = event.1 in
-    let M : History → Type 0 = λ v. AreFed g.R.Source.remaining c.args.mux.now.run.plan v.events starts (set c.args.inputs.now.items i y) in
-    let N : History → Type 0 = λ v. IsFaithful (packet_lists c.args.mux.now.run.plan starts) v.events in
-    subst N (sym new)
-    (faithful_on g.R.Source.remaining c.args.mux.now.run.plan h.events e i starts (set c.args.inputs.now.items i y) y (set_here c.args.inputs.now.items i y within) event.2
-    (λ st full. noted st (new ∙ ap (with_event h) full)) (subst M new (fed starts before)) known goes faithful))

@@ -1,5 +1,6 @@
-use Rattle.std.proofs.Common.{[], map, length, ap, ◌∙◌, sym, subst, arith}
+use Rattle.std.proofs.Common.{[], Err, map, length, ap, ◌∙◌, sym, subst, arith}
 use Rattle.std.proofs.lemmas.List.{length-map}
+use Rattle.std.proofs.lemmas.Result.{err_from_is_err_and}
 use Rattle.std.specs.Io.KnownBytes.{Appends}
 use Rattle.plan.specs.Build.{PlanValue}
 use Rattle.mux.specs.History.{Run, emitted}
@@ -7,8 +8,8 @@ use Rattle.serial.specs.Written.{SendsBeginning}
 use Rattle.serial.specs.Sending.{bytes_of}
 use Rattle.serial.specs.Running.{IsOver}
 use Rattle.serial.specs.declared.serial_input.SerialInput.{SerialInput}
-use Rattle.serial.proofs.SendingLaws.{on_err_always}
-use Rattle.serial.proofs.HaltedLaws.{halted_running}
+use Rattle.serial.proofs.SendingLaws.{if_err_always, if_err_is, same_err}
+use Rattle.serial.proofs.HaltedLaws.{halted_running, unrefused_running}
 use Rattle.serial.proofs.OutcomeLaws.{has_run, has_begun_nothing, has_begun, all_begun, nothing_sent, failures_told}
 use Rattle.serial.proofs.run.run_to.Goals as goal
 
@@ -59,8 +60,8 @@ returns-clause-read_failed g c =
 pub returns-in_err-run-clause-begins : goal.returns-in_err-run-clause-begins
 returns-in_err-run-clause-begins g c =
     let run : Run = record { plan = c.args.plan; limit = c.args.slots } in
-    on_err_always c.from_residual.result
-    ([], has_begun_nothing g.R.Source.failures run c.args.limit (map g.R.Source.remaining c.args.readers.items) c.args.readers.items (g.W.Sink.contents c.args.sink.now) c.known.ensures c.requires.slots)
+    if_err_always c.from_residual.result
+    (λ fault. ([], has_begun_nothing g.R.Source.remaining g.R.Source.failures run c.args.limit c.args.readers.items (g.W.Sink.contents c.args.sink.now) fault c.known.ensures c.requires.slots, tt))
 
 pub returns-in_err-driven-clause-begins : goal.returns-in_err-driven-clause-begins
 returns-in_err-driven-clause-begins g c =
@@ -73,13 +74,18 @@ returns-in_err-driven-clause-begins g c =
     let after = g.W.Sink.contents c.drive-driven.new.sink in
     let failures = g.R.Source.failures in
     let S : PlanValue → Type 0 = λ p. SendsBeginning before after (bytes_of (emitted p r.mux.events)) in
-    on_err_always c.from_residual-in_err-driven.result (
+    let halted = c.in_err-driven.ensures.halted run c.args.limit starts opened.running in
+    let passed = err_from_is_err_and c.from_residual-in_err-driven.result c.from_residual-in_err-driven.ensures.1 in
+    if_err_is c.from_residual-in_err-driven.result
+    (λ fault is. (
       r.mux.events,
-      has_begun failures run c.args.limit starts c.args.readers.items r before after c.requires.readers (c.drive-driven.ensures.run ∙ opened.running.run_is) c.slots.ensures.sound
-          (c.in_err-driven.ensures.halted run c.args.limit starts opened.running)
+      has_begun g.R.Source.remaining failures run c.args.limit c.args.readers.items r before after fault c.requires.readers (c.drive-driven.ensures.run ∙ opened.running.run_is) c.slots.ensures.sound
+          halted.0
           (c.drive-driven.ensures.failures_told (map failures c.args.readers.items) opened.failures)
-          (subst S (ap (λ (v : Run). v.plan) opened.running.run_is) (c.in_err-driven.ensures.sent_begun before (nothing_sent old.mux.run.plan old.mux.events before old.output.writer opened.new opened.waiting))),
-    )
+          (subst S (ap (λ (v : Run). v.plan) opened.running.run_is) (c.in_err-driven.ensures.sent_begun before (nothing_sent old.mux.run.plan old.mux.events before old.output.writer opened.new opened.waiting)))
+          (λ write. c.drive-driven.ensures.unrefused (c.in_err-driven.was ∙ ap Err (sym passed.2 ∙ same_err c.from_residual-in_err-driven.result passed.0 fault passed.1 is ∙ write))),
+      halted.1,
+    ))
 
 pub returns-in_err-finish-clause-begins : goal.returns-in_err-finish-clause-begins
 returns-in_err-finish-clause-begins g c =
@@ -95,8 +101,11 @@ returns-in_err-finish-clause-begins g c =
     let A : PlanValue → Type 0 = λ p. Appends before after (bytes_of (emitted p r.mux.events)) in
     let written = subst A (ap (λ (v : Run). v.plan) opened.running.run_is) (driven.written before (nothing_sent old.mux.run.plan old.mux.events before old.output.writer opened.new opened.waiting)) in
     let is = driven.runs run c.args.limit starts opened.running in
-    on_err_always c.from_residual-in_err-finish.result (
+    if_err_always c.from_residual-in_err-finish.result
+    (λ fault. (
       r.mux.events,
-      has_begun failures run c.args.limit starts c.args.readers.items r before after c.requires.readers is.run_is c.slots.ensures.sound (halted_running g.R.Source.remaining run c.args.limit starts r is)
-          (c.drive-driven.ensures.failures_told (map failures c.args.readers.items) opened.failures) (all_begun before after (bytes_of (emitted run.plan r.mux.events)) written),
-    )
+      has_begun g.R.Source.remaining failures run c.args.limit c.args.readers.items r before after fault c.requires.readers is.run_is c.slots.ensures.sound (halted_running g.R.Source.remaining run c.args.limit starts r is)
+          (c.drive-driven.ensures.failures_told (map failures c.args.readers.items) opened.failures) (all_begun before after (bytes_of (emitted run.plan r.mux.events)) written)
+          (λ write. unrefused_running g.R.Source.remaining run c.args.limit starts r is),
+      is.needed,
+    ))

@@ -5,7 +5,7 @@ use Rattle.mux.specs.History.{Run, emitted}
 use Rattle.serial.specs.Written.{Sends, SendsBeginning}
 use Rattle.serial.specs.Sending.{bytes_of}
 use Rattle.serial.proofs.SendingLaws.{on_err_always, on_ok_always, on_err_weaker}
-use Rattle.serial.proofs.HaltedLaws.{halted_running}
+use Rattle.serial.proofs.HaltedLaws.{halted_running, unrefused_running}
 use Rattle.serial.proofs.RunningLaws.{runs_flushed, all_sent, part_sent}
 use Rattle.serial.proofs.serial_run.SerialRun.drive.Goals as goal
 
@@ -60,7 +60,13 @@ pub returns-clause-halted : goal.returns-clause-halted
 returns-clause-halted g c =
     on_err_always c.flush.result
     (λ run limit starts is.
-    halted_running g.R.Source.remaining run limit starts c.step.new.self (c.in_ok-step.ensures.runs run limit starts (c.loop.invariant.runs run limit starts is)))
+    let goes = c.in_ok-step.ensures.runs run limit starts (c.loop.invariant.runs run limit starts is) in
+    (halted_running g.R.Source.remaining run limit starts c.step.new.self goes, goes.needed))
+
+pub returns-clause-unrefused : goal.returns-clause-unrefused
+returns-clause-unrefused g c e =
+    let goes = c.loop.invariant.goes in
+    unrefused_running g.R.Source.remaining goes.0 goes.1 goes.2 c.step.new.self (c.in_ok-step.ensures.runs goes.0 goes.1 goes.2 goes.3)
 
 pub returns-clause-sent_begun : goal.returns-clause-sent_begun
 returns-clause-sent_begun g c =

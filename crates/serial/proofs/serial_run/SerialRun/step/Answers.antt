@@ -1,16 +1,15 @@
 use Rattle.std.proofs.Common.{◌≡◌, length, refl, ap, ◌∙◌, sym, subst, arith}
 use Rattle.std.specs.List.{length_refill}
 use Rattle.std.specs.Vec.{with_items}
-use Rattle.mux.specs.History.{Run, History, slots}
+use Rattle.mux.specs.History.{Run, History}
 use Rattle.mux.proofs.Emitted.{last_sent}
 use Rattle.mux.proofs.Heads.{some_of, lent_last}
 use Rattle.plan.specs.Build.{PlanValue}
-use Rattle.mux.specs.Faithful.{IsFaithful}
-use Rattle.serial.specs.Feeding.{AreKnown, AreUnstopped, packet_lists}
-use Rattle.serial.specs.Running.{AreFed, AreHalted}
-use Rattle.serial.proofs.HaltedLaws.{halted_fed, halted_running}
+use Rattle.serial.specs.Giving.{TakesInOrder}
+use Rattle.serial.specs.Running.{TakesAsNeeded, AreFed, AreHalted}
+use Rattle.serial.proofs.HaltedLaws.{halted_fed, halted_running, unrefused_running}
 use Rattle.serial.proofs.SendingLaws.{on_err_always}
-use Rattle.serial.proofs.RunningLaws.{runs_sent, fewer_sent, written_sent, runs_pulled, fewer_pulled, fed_sent, faithful_sent, sent_begun}
+use Rattle.serial.proofs.RunningLaws.{runs_sent, fewer_sent, written_sent, runs_pulled, fewer_pulled, fed_sent, order_sent, needed_sent, sent_begun}
 use Rattle.serial.proofs.serial_run.SerialRun.step.Goals as goal
 
 pub unwrap-packet-requires : goal.unwrap-packet-requires
@@ -38,8 +37,7 @@ returns-in_ok-pull_at-in-NotReady-clause-runs g c run limit starts is =
     runs_pulled g.R.Source.remaining run limit starts old
     (record old { mux = c.pull_at.new.mux; inputs = c.pull_at.new.inputs; piece = with_items old.piece c.pull_at.new.piece })
     c.send_next.new.self c.in-NotReady.input is c.in-NotReady.ensures.answer.1.within c.in-NotReady.ensures.answer.2 c.in-NotReady.ensures.answer.0 (omega (arith, some, length_is, kept)) refl
-    c.in_ok-pull_at-in-NotReady.ensures.event c.in_ok-pull_at-in-NotReady.ensures.fed c.in_ok-pull_at-in-NotReady.ensures.limited c.in_ok-pull_at-in-NotReady.ensures.going
-    c.in_ok-pull_at-in-NotReady.ensures.faithful
+    c.in_ok-pull_at-in-NotReady.ensures.event c.in_ok-pull_at-in-NotReady.ensures.fed c.in_ok-pull_at-in-NotReady.ensures.limited c.pull_at.ensures.order
 
 pub returns-in_ok-pull_at-in-NotReady-clause-fewer :
     goal.returns-in_ok-pull_at-in-NotReady-clause-fewer
@@ -53,10 +51,12 @@ returns-in_err-put-in-Sent-clause-halted g c =
     let packet = c.unwrap-packet.result.now in
     let answer = lent_last old.mux c.send_next.new.self c.last.result c.unwrap-packet.result c.in-Sent.ensures.answer c.unwrap-packet.ensures c.last.ensures in
     on_err_always c.from_residual.result
-    (λ run limit starts is.
-    halted_fed g.R.Source.remaining limit run.plan c.send_next.new.self.events starts old.inputs.items
-    (fed_sent g.R.Source.remaining run.plan old.mux c.send_next.new.self packet starts old.inputs.items answer is.fed) is.limited
-    (λ known free. faithful_sent run.plan old.mux c.send_next.new.self packet starts answer (is.faithful known free)))
+    (λ run limit starts is. (
+      halted_fed g.R.Source.remaining limit run.plan c.send_next.new.self.events starts old.inputs.items
+          (fed_sent g.R.Source.remaining run.plan old.mux c.send_next.new.self packet starts old.inputs.items answer is.fed) is.limited
+          (order_sent old.mux c.send_next.new.self packet old.inputs.items answer is.in_order),
+      needed_sent run old.mux c.send_next.new.self packet answer is.needed,
+    ))
 
 pub returns-in_err-put-in-Sent-clause-sent_begun :
     goal.returns-in_err-put-in-Sent-clause-sent_begun
@@ -78,15 +78,23 @@ returns-in_err-pull_at-in-NotReady-clause-halted g c =
     let plan : between.run.plan ≡ run.plan = ap (λ (v : History). v.run.plan) same ∙ ap (λ (r : Run). r.plan) is.run_is in
     let F : History → Type 0 = λ v. AreFed g.R.Source.remaining between.run.plan v.events starts old.inputs.items in
     let G : PlanValue → Type 0 = λ p. AreFed g.R.Source.remaining p old.mux.events starts old.inputs.items in
-    let T : PlanValue → Type 0 = λ p. AreKnown starts → AreUnstopped old.inputs.items → IsFaithful (packet_lists p starts) old.mux.events in
-    let U : History → Type 0 = λ v. AreKnown starts → AreUnstopped old.inputs.items → IsFaithful (packet_lists between.run.plan starts) v.events in
-    let A : PlanValue → Type 0 = λ p. AreHalted limit p between.events starts now.inputs.items in
-    let B : History → Type 0 = λ v. AreHalted limit run.plan v.events starts now.inputs.items in
-    let halted = c.in_err-pull_at-in-NotReady.ensures.halted limit starts (subst F (sym same) (subst G (sym plan) is.fed)) is.limited (subst U (sym same) (subst T (sym plan) is.faithful)) in
-    subst B (sym c.in_err-pull_at-in-NotReady.ensures.err) (subst A plan halted))
+    let T : History → Type 0 = λ v. TakesInOrder v.events old.inputs.items in
+    let A : PlanValue → Type 0 = λ p. AreHalted g.R.Source.remaining limit p between.events starts now.inputs.items in
+    let B : History → Type 0 = λ v. AreHalted g.R.Source.remaining limit run.plan v.events starts now.inputs.items in
+    let N : History → Type 0 = λ v. TakesAsNeeded run v.events in
+    let err = c.in_err-pull_at-in-NotReady.ensures.err in
+    let halted = c.in_err-pull_at-in-NotReady.ensures.halted limit starts (subst F (sym same) (subst G (sym plan) is.fed)) is.limited (subst T (sym same) is.in_order) in
+    (subst B (sym err) (subst A plan halted), subst N (sym err) (subst N (sym same) is.needed)))
 
 pub returns-in-Memory-clause-halted : goal.returns-in-Memory-clause-halted
 returns-in-Memory-clause-halted g c run limit starts is =
     let old = c.args.self.now in
-    let P : History → Type 0 = λ v. AreHalted limit run.plan v.events starts old.inputs.items in
-    subst P (sym c.in-Memory.ensures.answer.0) (halted_running g.R.Source.remaining run limit starts old is)
+    let same = c.in-Memory.ensures.answer.0 in
+    let P : History → Type 0 = λ v. AreHalted g.R.Source.remaining limit run.plan v.events starts old.inputs.items in
+    let N : History → Type 0 = λ v. TakesAsNeeded run v.events in
+    (subst P (sym same) (halted_running g.R.Source.remaining run limit starts old is), subst N (sym same) is.needed)
+
+pub returns-in_err-put-in-Sent-clause-unrefused : goal.returns-in_err-put-in-Sent-clause-unrefused
+returns-in_err-put-in-Sent-clause-unrefused g c e =
+    let goes = c.requires in
+    unrefused_running g.R.Source.remaining goes.0 goes.1 goes.2 c.args.self.now goes.3
