@@ -136,8 +136,8 @@ FailuresAreTold {R} failures before after inputs =
     → IsFailureTold failures old new s.report.stopped
 
 -- What a run of these readers makes, each of at most so many bytes, where it doesn't end by itself but with this fault: a
--- beginning of the packets of a sound history was written. `lefts` are the readers as the run left them, each with what stopped
--- its input, if anything.
+-- beginning of the packets of a sound history was written. `lefts` are readers as a run may leave them, each with what stopped
+-- its input, if anything: they don't come back.
 pub record HasBegun {R : Type 0} (remaining : R → Option (List ℕ)) (failures : R → ℕ) (h : History) (limit : ℕ) (readers : List R) (before after : Option (List ℕ)) (fault : RunFault) : Type 0 where
   pub sound : IsSound h
   pub begun : AreBegun h.run.plan h.events (map remaining readers)

@@ -46,7 +46,7 @@ impl PacketWriter {
     }
 
     /// One more packet. Where the buffer has no room for it, what is in it is written to the sink before. At an `Err`,
-    /// which only the sink's failure makes, a beginning of what was in the buffer is written, and the buffer is empty.
+    /// which only the sink's failure makes, a beginning of all that was to be written is, and the buffer is empty.
     pub fn put<W: Sink>(&mut self, packet: &Packet, sink: &mut W) -> io::Result<()>
         ensures ok { OnOk result
             (Sends (W.contents sink.old) (W.contents sink.new) (self.old ++ packet.now) self.new) }

@@ -126,7 +126,7 @@ impl<R: Source + Drop> SerialRun<R> {
     }
 
     /// One step: the next slot is sent, or the input for which the multiplex waits gives a packet or is closed. True is
-    /// answered where the run is over, and nothing changed.
+    /// answered where the run is over.
     fn step<W: Sink>(&mut self, sink: &mut W) -> Result<bool, RunFault>
         requires { (run : Run) × (limit : ℕ) × (starts : List (Option (List ℕ))) × IsRunning R.remaining run limit starts self.old }
         ensures runs { OnOk result ((run : Run) (limit : ℕ) (starts : List (Option (List ℕ)))
