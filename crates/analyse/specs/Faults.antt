@@ -2,6 +2,7 @@
 -- slots and the order are profile.
 use Rattle.std.specs.Prelude.{ℕ, ◌+◌, ◌-◌, ◌/◌, ◌==◌, Bool, true, ◌&&◌, ◌||◌, not, if◌then◌else◌, List, [], ◌∷◌, ◌++◌, length, take, drop, Option, Some, None, filter}
 use Rattle.std.specs.List.{flat_map, range_with_len}
+use Rattle.rounds.specs.Rounds.{fast_limit_of}
 use Rattle.tspkt.specs.Bits.{field}
 use Rattle.tspkt.specs.Packet.{pid_of, transport_scrambling_control_of}
 use Rattle.tspkt.specs.Counters.{lawful_of}
@@ -9,6 +10,7 @@ use Rattle.tables.specs.InForce.{SectionValue}
 use Rattle.tables.specs.Pat.{PatValue}
 use Rattle.tables.specs.Pmt.{PmtValue}
 use Rattle.tables.specs.OnPid.{sections_on, pat_sections, pmts_on}
+use Rattle.analyse.specs.declared.watched_pids.TheConstants.{PID_COUNT}
 use Rattle.analyse.specs.Slots.{slot_at, is_packet, packets_in, packets_of_pid, is_sync_lost_at, is_sync_byte_bad_at}
 use Rattle.analyse.specs.Gaps.{is_gap_at}
 use Rattle.analyse.specs.InForce.{is_pmt_pid_behind, is_referred_behind}
@@ -98,11 +100,11 @@ told_if told kind m pid = if told then record { slot = m; kind = kind; pid = pid
 
 -- of every PID in order, where the test passes
 abbrev pub told_of_pids : (ℕ → Bool) → FaultKind → ℕ → List Fault
-told_of_pids test kind m = flat_map (λ pid. told_if (test pid) kind m (Some pid)) (range_with_len 0 8192)
+told_of_pids test kind m = flat_map (λ pid. told_if (test pid) kind m (Some pid)) (range_with_len 0 PID_COUNT)
 
 -- within how many slots the PAT and each PMT have to come: those of half a second
 abbrev pub table_limit : ℕ → ℕ
-table_limit rate = rate / 3008
+table_limit rate = fast_limit_of rate
 
 -- what is told at slot m, in the order of the standard's list, for one kind by PID
 unfoldable pub faults_at : ℕ → ℕ → List (List ℕ) → ℕ → List Fault

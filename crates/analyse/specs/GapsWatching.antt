@@ -2,6 +2,7 @@
 use Rattle.std.specs.Prelude.{◌≡◌, ◌≢◌, ℕ, ◌+◌, ◌-◌, ◌<◌, ◌≤◌, ◌==◌, Bool, true, false, ◌&&◌, ◌||◌, not, List, [], Option, Some, None, slice_index_or}
 use Rattle.std.specs.List.{flat_map, range_with_len}
 use Rattle.tspkt.specs.Packet.{pid_of}
+use Rattle.analyse.specs.declared.watched_pids.TheConstants.{PID_COUNT}
 use Rattle.analyse.specs.Gaps.{is_gap_at}
 use Rattle.analyse.specs.Faults.{told_if, told_of_pids}
 use Rattle.analyse.specs.GapWatching.{IsSince, since_behind, is_long}
@@ -28,13 +29,13 @@ is_of_packet (Some packet) pid = pid_of packet == pid
 
 -- no open gap falls due from slot `first` on and below slot `due`
 abbrev pub IsDue : GapsState → ℕ → ℕ → Type 0
-IsDue w first due = (pid since : ℕ) → pid < 8192 → since_of w pid ≡ Some since → first ≤ since + w.limit → due ≤ since + w.limit
+IsDue w first due = (pid since : ℕ) → pid < PID_COUNT → since_of w pid ≡ Some since → first ≤ since + w.limit → due ≤ since + w.limit
 
 -- of each PID they have seen the numbers below `count`; no gap is open where nothing is watched; the slots at which one
 -- can fall due are known from the last slot below `count` on
 pub record HaveSeenNumbers (w : GapsState) (watched mark : ℕ → ℕ → Bool) (count : ℕ) : Type 0 where
-  pub since : (pid : ℕ) → pid < 8192 → IsSince (watched pid) (mark pid) count (since_of w pid)
-  pub closed : (pid : ℕ) → pid < 8192 → is_watched w pid ≡ false → since_of w pid ≡ None
+  pub since : (pid : ℕ) → pid < PID_COUNT → IsSince (watched pid) (mark pid) count (since_of w pid)
+  pub closed : (pid : ℕ) → pid < PID_COUNT → is_watched w pid ≡ false → since_of w pid ≡ None
   pub due : IsDue w (count - 1) w.due
 
 -- the slot from which on a gap can fall due is lowered to that of a mark at number `count`
@@ -47,8 +48,8 @@ pub record IsLowered (w new : GapsState) (count : ℕ) : Type 0 where
 
 -- at number `count` the same PIDs are watched, and the packet's PID alone has a mark
 pub record OnlyMarked (w : GapsState) (watched mark : ℕ → ℕ → Bool) (count : ℕ) (packet : Option (List ℕ)) : Type 0 where
-  pub same : (pid : ℕ) → pid < 8192 → watched pid count ≡ is_watched w pid
-  pub only : (pid : ℕ) → pid < 8192 → mark pid count ≡ is_of_packet packet pid
+  pub same : (pid : ℕ) → pid < PID_COUNT → watched pid count ≡ is_watched w pid
+  pub only : (pid : ℕ) → pid < PID_COUNT → mark pid count ≡ is_of_packet packet pid
 
 -- the packet's PID, and one that wasn't watched before and is now
 abbrev pub has_mark : GapsState → List Bool → Option (List ℕ) → ℕ → Bool
@@ -60,16 +61,16 @@ changed w set packet count pid = since_behind (since_of w pid) count (slice_inde
 
 -- at number `count` the PIDs of `set` are watched, and the packet's PID and those that weren't watched before have a mark
 pub record ChangesTo (w : GapsState) (set : List Bool) (watched mark : ℕ → ℕ → Bool) (count : ℕ) (packet : Option (List ℕ)) : Type 0 where
-  pub now : (pid : ℕ) → pid < 8192 → watched pid count ≡ slice_index_or set pid false
-  pub marks : (pid : ℕ) → pid < 8192 → mark pid count ≡ has_mark w set packet pid
+  pub now : (pid : ℕ) → pid < PID_COUNT → watched pid count ≡ slice_index_or set pid false
+  pub marks : (pid : ℕ) → pid < PID_COUNT → mark pid count ≡ has_mark w set packet pid
 
 -- at number `count` the PIDs are watched that pass the test, by a set that has them
 pub record HasChanged (w new : GapsState) (test : ℕ → Bool) (count : ℕ) (packet : Option (List ℕ)) : Type 0 where
   pub set : List Bool
-  pub has : (pid : ℕ) → pid < 8192 → slice_index_or set pid false ≡ test pid
+  pub has : (pid : ℕ) → pid < PID_COUNT → slice_index_or set pid false ≡ test pid
   pub seen : (watched mark : ℕ → ℕ → Bool) → HaveSeenNumbers w watched mark count → ChangesTo w set watched mark count packet
       → HaveSeenNumbers new watched mark (count + 1)
-  pub watched : (pid : ℕ) → pid < 8192 → is_watched new pid ≡ slice_index_or set pid false
+  pub watched : (pid : ℕ) → pid < PID_COUNT → is_watched new pid ≡ slice_index_or set pid false
   pub limit : new.limit ≡ w.limit
 
 -- one PID is as it is to be, and the others as they were

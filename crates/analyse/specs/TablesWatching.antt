@@ -1,6 +1,7 @@
 -- What the watches of the PMTs and of the PIDs to which they refer know of the slots so far.
 use Rattle.std.specs.Prelude.{◌≡◌, ℕ, ◌+◌, ◌<◌, ◌==◌, not, if◌then◌else◌, List, length, ◌++◌, Option, Some, None}
 use Rattle.tspkt.specs.Packet.{pid_of, transport_scrambling_control_of}
+use Rattle.analyse.specs.declared.watched_pids.TheConstants.{PID_COUNT}
 use Rattle.analyse.specs.InForce.{is_pmt_pid_behind, is_referred_behind}
 use Rattle.analyse.specs.Faults.{is_pmt_watched, is_pmt_mark, is_pid_watched, is_pid_mark, is_pmt_bad_at, is_pid_missing_at, told_of_pids}
 use Rattle.analyse.specs.GapsWatching.{GapsState, is_watched, HaveSeenNumbers}
@@ -28,8 +29,8 @@ pub record HaveSeenTables (w : TablesState) (slots : List (List ℕ)) : Type 0 w
   pub pmts : HaveSeenPmts w.pmts slots
   pub pmt_gaps : HaveSeenNumbers w.pmt_gaps (is_pmt_watched slots) (is_pmt_mark slots) (length slots + 1)
   pub pid_gaps : HaveSeenNumbers w.pid_gaps (is_pid_watched slots) (is_pid_mark slots) (length slots + 1)
-  pub pmt_pids : (pid : ℕ) → pid < 8192 → is_watched w.pmt_gaps pid ≡ is_pmt_pid_behind slots pid
-  pub referred : (pid : ℕ) → pid < 8192 → is_watched w.pid_gaps pid ≡ is_referred_behind slots pid
+  pub pmt_pids : (pid : ℕ) → pid < PID_COUNT → is_watched w.pmt_gaps pid ≡ is_pmt_pid_behind slots pid
+  pub referred : (pid : ℕ) → pid < PID_COUNT → is_watched w.pid_gaps pid ≡ is_referred_behind slots pid
 
 -- PMT_error_2 and PID_error at slot m
 abbrev pub table_faults_at : ℕ → ℕ → List (List ℕ) → ℕ → List Fault

@@ -6,12 +6,10 @@ ghost use Rattle.analyse.specs.CountersWatching.{HasSeenIfAny};
 ghost use Rattle.analyse.specs.Faults.{last_is_lawful};
 
 use crate::counter_watch::CounterWatch;
+use crate::watched_pids::PID_COUNT;
 use std::alloc::{AllocError, Global};
 use std::marker::Model;
 use tspkt::{NULL_PID, Packet};
-
-/// PIDs are below this.
-const PID_COUNT: usize = 8192;
 
 /// Sees the next packet of a PID, and tells whether it isn't lawful. The first one makes the PID's watch.
 fn see_packet(watch: &mut Option<CounterWatch>, packet: &Packet) -> bool
@@ -37,6 +35,7 @@ pub struct CounterWatches {
 }
 
 impl Model for CounterWatches {
+    ghost use Rattle.analyse.specs.declared.watched_pids.TheConstants.{PID_COUNT};
     ghost use Rattle.std.specs.Prelude.{◌≡◌, List, Option, length};
     ghost use Rattle.analyse.specs.CounterWatching.{CounterState};
 
@@ -44,7 +43,7 @@ impl Model for CounterWatches {
 
     ghost view = { λ w. w.watches.items };
 
-    ghost invariant = { λ w. length w.watches.items ≡ 8192 };
+    ghost invariant = { λ w. length w.watches.items ≡ PID_COUNT };
 }
 
 impl CounterWatches {

@@ -7,12 +7,10 @@ ghost use Rattle.analyse.specs.GapWatching.{is_long};
 use crate::fault::Fault;
 use crate::fault_kind::FaultKind;
 use crate::gap_watch::since_behind;
+use crate::watched_pids::PID_COUNT;
 use std::alloc::{AllocError, Global};
 use std::marker::Model;
 use tspkt::Packet;
-
-/// PIDs are below this.
-const PID_COUNT: usize = 8192;
 
 /// Whether an open gap is as long as the limit behind `count` slots.
 fn is_long(limit: u64, count: u64, since: Option<u64>) -> bool
@@ -95,6 +93,7 @@ pub struct GapWatches {
 }
 
 impl Model for GapWatches {
+    ghost use Rattle.analyse.specs.declared.watched_pids.TheConstants.{PID_COUNT};
     ghost use Rattle.std.specs.Prelude.{◌≡◌, length};
     ghost use Rattle.analyse.specs.GapsWatching.{GapsState};
 
@@ -102,7 +101,7 @@ impl Model for GapWatches {
 
     ghost view = { λ w. record { limit = w.limit; watched = w.watched.items; since = w.since.items; due = w.due } };
 
-    ghost invariant = { λ w. (length w.watched.items ≡ 8192) × (length w.since.items ≡ 8192) };
+    ghost invariant = { λ w. (length w.watched.items ≡ PID_COUNT) × (length w.since.items ≡ PID_COUNT) };
 }
 
 impl GapWatches {
@@ -151,7 +150,7 @@ impl GapWatches {
 
     /// Whether the PID is watched.
     pub fn is_watched(&self, pid: u16) -> bool
-        requires { pid < 8192 }
+        requires { pid < PID_COUNT }
         ensures { result ≡ is_watched self.now pid }
     {
         self.watched[usize::from(pid)]
@@ -163,7 +162,7 @@ impl GapWatches {
         ensures seen { (watched mark : ℕ → ℕ → Bool) → HaveSeenNumbers self.old watched mark count
             → ChangesTo self.old set.now watched mark count (option_map (λ p. p.now) marked.entry)
             → HaveSeenNumbers self.new watched mark (count + 1) }
-        ensures watched { (pid : ℕ) → pid < 8192 → is_watched self.new pid ≡ slice_index_or set.now pid false }
+        ensures watched { (pid : ℕ) → pid < PID_COUNT → is_watched self.new pid ≡ slice_index_or set.now pid false }
         ensures limit { self.new.limit ≡ self.old.limit }
     {
         self.lower_due(count);
@@ -181,7 +180,7 @@ impl GapWatches {
 
     /// One PID's part of a change.
     fn change_one(&mut self, count: u64, pid: u16, watched: bool, marked: bool)
-        requires { pid < 8192 }
+        requires { pid < PID_COUNT }
         ensures { IsChangedAt self.old self.new count pid watched marked }
     {
         let place = usize::from(pid);
@@ -199,7 +198,7 @@ impl GapWatches {
         kind: FaultKind,
         out: &mut Vec<Fault>,
     ) -> Result<(), AllocError>
-        requires { ForSome also (λ pid. pid < 8192) }
+        requires { ForSome also (λ pid. pid < PID_COUNT) }
         ensures limit { self.new.limit ≡ self.old.limit }
         ensures watched { self.new.watched ≡ self.old.watched }
         ensures seen { (watched mark : ℕ → ℕ → Bool) → HaveSeenNumbers self.old watched mark (count + 1)
@@ -231,7 +230,7 @@ impl GapWatches {
         kind: FaultKind,
         out: &mut Vec<Fault>,
     ) -> Result<(), AllocError>
-        requires { ForSome also (λ pid. pid < 8192) }
+        requires { ForSome also (λ pid. pid < PID_COUNT) }
         ensures { OnOk result ((watched mark : ℕ → ℕ → Bool) → HaveSeenNumbers self.now watched mark (count + 1)
             → out.new.items ≡ out.old.items ++ gaps_at self.now.limit watched mark also kind count) }
     {
@@ -260,7 +259,7 @@ impl GapWatches {
         kind: FaultKind,
         out: &mut Vec<Fault>,
     ) -> Result<(), AllocError>
-        ensures { OnOk result (out.new.items ≡ out.old.items ++ long_gaps self.now also kind count 8192) }
+        ensures { OnOk result (out.new.items ≡ out.old.items ++ long_gaps self.now also kind count PID_COUNT) }
     {
         for pid in 0..8192_u16 {
             self.tell_one(count, pid, is_also(also, pid), kind, out)?;
@@ -277,7 +276,7 @@ impl GapWatches {
         kind: FaultKind,
         out: &mut Vec<Fault>,
     ) -> Result<(), AllocError>
-        requires { pid < 8192 }
+        requires { pid < PID_COUNT }
         ensures { OnOk result (out.new.items ≡ out.old.items
             ++ told_if (is_long self.now.limit count (since_of self.now pid) || is_also) kind count (Some pid)) }
     {

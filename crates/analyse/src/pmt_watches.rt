@@ -8,13 +8,11 @@ ghost use Rattle.analyse.specs.PmtWatching.{HasSeenPmts, new_pmt_watch, state_of
 
 use crate::pmt_watch::PmtWatch;
 use crate::table_seen::TableSeen;
+use crate::watched_pids::PID_COUNT;
 use section::Told;
 use std::alloc::{AllocError, Global};
 use std::marker::Model;
 use tspkt::Packet;
-
-/// PIDs are below this.
-const PID_COUNT: usize = 8192;
 
 /// A watch that has seen no packet. An `Err` is want of memory.
 fn boxed_watch(alloc: Global) -> Result<Box<PmtWatch>, AllocError>
@@ -62,6 +60,7 @@ pub struct PmtWatches {
 }
 
 impl Model for PmtWatches {
+    ghost use Rattle.analyse.specs.declared.watched_pids.TheConstants.{PID_COUNT};
     ghost use Rattle.std.specs.Prelude.{◌≡◌, List, Option, length, map};
     ghost use Rattle.analyse.specs.PmtWatching.{PmtState, boxed_state};
 
@@ -69,7 +68,7 @@ impl Model for PmtWatches {
 
     ghost view = { λ w. map boxed_state w.watches.items };
 
-    ghost invariant = { λ w. length w.watches.items ≡ 8192 };
+    ghost invariant = { λ w. length w.watches.items ≡ PID_COUNT };
 }
 
 impl PmtWatches {

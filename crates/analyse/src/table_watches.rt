@@ -2,6 +2,7 @@
 
 ghost use Rattle.std.specs.Prelude.{◌≡◌, ◌<◌, ◌&&◌, ℕ, option_map};
 ghost use Rattle.std.specs.Option.{ForSome};
+ghost use Rattle.analyse.specs.declared.watched_pids.TheConstants.{PID_COUNT};
 ghost use Rattle.analyse.specs.GapsWatching.{is_of_packet, HasChanged};
 ghost use Rattle.analyse.specs.TablesWatching.{scrambled_pid, watched_only};
 ghost use Rattle.analyse.specs.WatchedPids.{is_pmt_pid_of, is_referred_of};
@@ -19,7 +20,7 @@ use tspkt::Packet;
 /// The PID of a scrambled packet.
 fn scrambled_pid(packet: Option<&Packet>) -> Option<u16>
     ensures value { result ≡ scrambled_pid (option_map (λ p. p.now) packet.entry) }
-    ensures fits { ForSome result (λ pid. pid < 8192) }
+    ensures fits { ForSome result (λ pid. pid < PID_COUNT) }
 {
     match packet {
         Some(packet) if packet.scrambling() != 0 => Some(packet.pid()),
@@ -29,9 +30,9 @@ fn scrambled_pid(packet: Option<&Packet>) -> Option<u16>
 
 /// The PID, where it is watched.
 fn watched_only(gaps: &GapWatches, pid: Option<u16>) -> Option<u16>
-    requires { ForSome pid (λ pid. pid < 8192) }
+    requires { ForSome pid (λ pid. pid < PID_COUNT) }
     ensures value { result ≡ watched_only gaps.now pid }
-    ensures fits { ForSome result (λ pid. pid < 8192) }
+    ensures fits { ForSome result (λ pid. pid < PID_COUNT) }
 {
     match pid {
         Some(pid) if gaps.is_watched(pid) => Some(pid),

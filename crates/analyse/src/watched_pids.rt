@@ -8,6 +8,9 @@ ghost use Rattle.analyse.specs.PmtWatching.{pids_of_program};
 use crate::pmt_watches::PmtWatches;
 use tables::PatRow;
 
+/// How many PIDs there are: a PID has 13 bits (ISO/IEC 13818-1, 2.4.3.2).
+pub const PID_COUNT: usize = 8192;
+
 /// No PID.
 fn no_pids() -> [bool; 8192]
     ensures { (pid : ℕ) → slice_index_or result pid false ≡ false }
@@ -17,7 +20,7 @@ fn no_pids() -> [bool; 8192]
 
 /// Adds a PID. Those of 13 bits are below 8,192.
 fn insert(set: &mut [bool; 8192], pid: u16)
-    ensures { (other : ℕ) → other < 8192
+    ensures { (other : ℕ) → other < PID_COUNT
         → slice_index_or set.new other false ≡ (slice_index_or set.old other false || pid == other) }
 {
     let place = usize::from(pid);
@@ -28,7 +31,7 @@ fn insert(set: &mut [bool; 8192], pid: u16)
 
 /// Adds some PIDs.
 fn insert_all(set: &mut [bool; 8192], pids: &[u16])
-    ensures { (other : ℕ) → other < 8192
+    ensures { (other : ℕ) → other < PID_COUNT
         → slice_index_or set.new other false ≡ (slice_index_or set.old other false || list_any (λ pid. pid == other) pids.now) }
 {
     for pid in pids {
@@ -38,7 +41,7 @@ fn insert_all(set: &mut [bool; 8192], pids: &[u16])
 
 /// The PIDs of the PMTs that these rows name (ISO/IEC 13818-1, 2.4.4.3).
 pub fn pmt_pids(rows: &[PatRow]) -> [bool; 8192]
-    ensures { (pid : ℕ) → pid < 8192 → slice_index_or result pid false ≡ is_pmt_pid_of rows.now pid }
+    ensures { (pid : ℕ) → pid < PID_COUNT → slice_index_or result pid false ≡ is_pmt_pid_of rows.now pid }
 {
     let mut set = no_pids();
     for row in rows {
@@ -64,7 +67,7 @@ fn first_pid(rows: &[PatRow], program: u16) -> Option<u16>
 
 /// Adds the elementary PIDs of the program's PMT: of the newest one on the PID of its first row.
 fn insert_program(set: &mut [bool; 8192], rows: &[PatRow], pmts: &PmtWatches, program: u16)
-    ensures { (other : ℕ) → other < 8192 → slice_index_or set.new other false
+    ensures { (other : ℕ) → other < PID_COUNT → slice_index_or set.new other false
         ≡ (slice_index_or set.old other false || is_listed other (pids_of_row pmts.now rows.now program)) }
 {
     let Some(pid) = first_pid(rows, program) else {
@@ -77,7 +80,7 @@ fn insert_program(set: &mut [bool; 8192], rows: &[PatRow], pmts: &PmtWatches, pr
 
 /// The PIDs to which the PMTs of these rows refer as elementary PIDs (ISO/IEC 13818-1, 2.4.4.8).
 pub fn referred_pids(rows: &[PatRow], pmts: &PmtWatches) -> [bool; 8192]
-    ensures { (pid : ℕ) → pid < 8192 → slice_index_or result pid false ≡ is_referred_of pmts.now rows.now pid }
+    ensures { (pid : ℕ) → pid < PID_COUNT → slice_index_or result pid false ≡ is_referred_of pmts.now rows.now pid }
 {
     let mut set = no_pids();
     for row in rows {

@@ -14,7 +14,7 @@ use tspkt::{Packet, Stamped, time};
 /// How many slots are sent.
 const SLOTS: u64 = 1_000_000;
 
-/// The last place of an input that is stamped, in bytes.
+/// The last position of an input that is stamped, in bytes.
 const LAST_PLACE: u64 = 3_000_000_000;
 
 /// Prints how many slots were sent, how many of them with a packet of a stream or of a table, and the time a slot, where each
@@ -61,18 +61,18 @@ fn drive(mux: &mut Mux, packets: &[Packet]) {
         match mux.send_next() {
             Sending::Sent => {}
             Sending::NotReady(input) if input < INPUTS && next[input] < LAST_PLACE => {
-                let place = next[input];
-                let Some(packet) = packets.get((place / 188 % streams) as usize) else {
+                let position = next[input];
+                let Some(packet) = packets.get((position / 188 % streams) as usize) else {
                     break;
                 };
                 let stamped = Stamped {
                     packet: *packet,
-                    stamp: time(place + 10, INPUT_RATE),
+                    stamp: time(position + 10, INPUT_RATE),
                 };
                 if mux.offer(input, &stamped) != Offered::Taken {
                     break;
                 }
-                next[input] = place + 188;
+                next[input] = position + 188;
             }
             _ => break,
         }

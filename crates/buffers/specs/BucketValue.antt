@@ -1,5 +1,6 @@
 -- A transport buffer as contracts see it: ISO/IEC 13818-1, 2.4.2.
 use Rattle.std.specs.Prelude.{ℕ, ◌+◌, ◌-◌, ◌*◌, ◌≤◌, List, max}
+use Rattle.buffers.specs.declared.bucket.TheConstants.{TRANSPORT_BUFFER_BYTES}
 use Rattle.buffers.specs.Level.{IsLevel, NewestAreWithin, IsWithinAtEachByte}
 
 -- the rates in bits a second, and the level in bits a second times bytes
@@ -14,7 +15,7 @@ pub record IsBucket (b : BucketValue) : Type 0 where
   pub leak_to : b.leak ≤ 100000000
   pub rate_from : 500000 ≤ b.multiplex_rate
   pub rate_to : b.multiplex_rate ≤ 100000000
-  pub level_to : b.level ≤ 512 * b.multiplex_rate
+  pub level_to : b.level ≤ TRANSPORT_BUFFER_BYTES * b.multiplex_rate
 
 -- these bytes of the multiplex leave the buffer at its level
 abbrev pub IsFilledBy : BucketValue → List ℕ → Type 0
@@ -22,11 +23,11 @@ IsFilledBy b bytes = IsLevel b.leak b.multiplex_rate bytes b.level
 
 -- no load of a window that ends in the newest bytes, so many of them, is above 512 bytes
 abbrev pub NewestFit : BucketValue → ℕ → List ℕ → Type 0
-NewestFit b count bytes = NewestAreWithin b.leak b.multiplex_rate (512 * b.multiplex_rate) count bytes
+NewestFit b count bytes = NewestAreWithin b.leak b.multiplex_rate (TRANSPORT_BUFFER_BYTES * b.multiplex_rate) count bytes
 
 -- no load at all is above 512 bytes
 abbrev pub AllFit : BucketValue → List ℕ → Type 0
-AllFit b bytes = IsWithinAtEachByte b.leak b.multiplex_rate (512 * b.multiplex_rate) bytes
+AllFit b bytes = IsWithinAtEachByte b.leak b.multiplex_rate (TRANSPORT_BUFFER_BYTES * b.multiplex_rate) bytes
 
 -- the level after a packet of the set: one leak before its first byte, and 187 from there to its last
 abbrev pub level_after_packet : BucketValue → ℕ
@@ -34,7 +35,7 @@ level_after_packet b = max b.multiplex_rate ((b.level - b.leak) + 188 * b.multip
 
 -- a packet of the set may come next
 abbrev pub HasRoom : BucketValue → Type 0
-HasRoom b = level_after_packet b ≤ 512 * b.multiplex_rate
+HasRoom b = level_after_packet b ≤ TRANSPORT_BUFFER_BYTES * b.multiplex_rate
 
 abbrev pub after_packet : BucketValue → BucketValue
 after_packet b = record b { level = level_after_packet b }

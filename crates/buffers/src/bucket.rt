@@ -52,7 +52,7 @@ impl Bucket {
     /// The level, in bits a second times bytes: at most 512 times the rate of the multiplex.
     pub fn level(&self) -> u64
         ensures value { result ≡ self.now.level }
-        ensures within { result ≤ 512 * self.now.multiplex_rate }
+        ensures within { result ≤ TRANSPORT_BUFFER_BYTES * self.now.multiplex_rate }
     {
         self.level
     }

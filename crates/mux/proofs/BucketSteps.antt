@@ -22,7 +22,7 @@ use Rattle.mux.specs.Plans.{IsMultiplexPlan}
 use Rattle.mux.specs.History.{queue, slots, slot_time, emitted, packet_behind, sent_packet}
 use Rattle.mux.specs.Lawful.{IsLawful, IsContent, Fits}
 use Rattle.mux.specs.Headline.{IsLevelOf}
-use Rattle.mux.specs.Buckets.{empty_bucket, IsBucketOf, AreBuckets, is_place, after_slot, MovedOn}
+use Rattle.mux.specs.Buckets.{empty_bucket, IsBucketOf, AreBuckets, carries_stream, after_slot, MovedOn}
 use Rattle.mux.proofs.Contents.{stream_choice}
 use Rattle.mux.proofs.Plans.{IsAt, stream_in, same_place, one_out}
 use Rattle.mux.proofs.StreamPackets.{head_is_item, out_below, moved_to, null_apart, table_apart}
@@ -72,21 +72,21 @@ bucket_moved rate out st b q false is on room =
       fits = stream_fits_idle b (st.output_pid ∷ []) out q old is.filled is.fits on;
     }
 
--- the packet is of the stream at this place, or of none
-abbrev pub IsOfPlace : PlanValue → List ℕ → Option ℕ → Type 0
-IsOfPlace p q sent = (k : ℕ) (st : Stream) → IsAt p k st → is_on_pids (st.output_pid ∷ []) q ≡ is_place sent k
+-- the packet is of the stream of this index, or of none
+abbrev pub IsOfIndex : PlanValue → List ℕ → Option ℕ → Type 0
+IsOfIndex p q sent = (k : ℕ) (st : Stream) → IsAt p k st → is_on_pids (st.output_pid ∷ []) q ≡ carries_stream sent k
 
 -- the buckets have room for it
 abbrev pub HaveRoom : Option ℕ → List BucketValue → Type 0
-HaveRoom sent buckets = (k : ℕ) (b : BucketValue) → is_place sent k ≡ true → slice_get buckets k ≡ Some b → HasRoom b
+HaveRoom sent buckets = (k : ℕ) (b : BucketValue) → carries_stream sent k ≡ true → slice_get buckets k ≡ Some b → HasRoom b
 
-pub buckets_moved : (p : PlanValue) (out : List (List ℕ)) (q : List ℕ) (sent : Option ℕ) (buckets now : List BucketValue) → AreBuckets p out buckets → MovedOn sent buckets now → IsOfPlace p q sent → HaveRoom sent buckets
+pub buckets_moved : (p : PlanValue) (out : List (List ℕ)) (q : List ℕ) (sent : Option ℕ) (buckets now : List BucketValue) → AreBuckets p out buckets → MovedOn sent buckets now → IsOfIndex p q sent → HaveRoom sent buckets
     → AreBuckets p (out ++ q ∷ []) now
 buckets_moved p out q sent buckets now are moved of room = record {
   count = moved.count ∙ are.count;
   each = λ k st at.
       let old = are.each k st at in
-      (after_slot (is_place sent k) old.0, moved.each k old.0 old.1, bucket_moved p.request.rate out st old.0 q (is_place sent k) old.2 (of k st at) (λ e. room k old.0 e old.1));
+      (after_slot (carries_stream sent k) old.0, moved.each k old.0 old.1, bucket_moved p.request.rate out st old.0 q (carries_stream sent k) old.2 (of k st at) (λ e. room k old.0 e old.1));
 }
 
 -- Which packets are whose.
@@ -94,17 +94,17 @@ buckets_moved p out q sent buckets now are moved of room = record {
 on_pid : (pid : ℕ) (q : List ℕ) → is_on_pids (pid ∷ []) q ≡ nat_eq pid (pid_of q)
 on_pid pid q = or-false (nat_eq pid (pid_of q))
 
-pub null_of_none : (p : PlanValue) → IsMultiplexPlan p → IsOfPlace p null_packet None
+pub null_of_none : (p : PlanValue) → IsMultiplexPlan p → IsOfIndex p null_packet None
 null_of_none p plan k st at = on_pid st.output_pid null_packet ∙ ne_eqb st.output_pid (pid_of null_packet) (λ e. null_apart p k st plan at (sym e))
 
-pub table_of_none : (p : PlanValue) (h : List Event) (place : TablePlace) → IsMultiplexPlan p → IsContent p h (Table place) → IsOfPlace p (packet_behind p h (emitted p h) (Table place)) None
+pub table_of_none : (p : PlanValue) (h : List Event) (place : TablePlace) → IsMultiplexPlan p → IsContent p h (Table place) → IsOfIndex p (packet_behind p h (emitted p h) (Table place)) None
 table_of_none p h place plan content k st at =
     let q = packet_behind p h (emitted p h) (Table place) in
     on_pid st.output_pid q ∙ ne_eqb st.output_pid (pid_of q) (λ e. table_apart p h place k st plan content at (sym e))
 
-pub stream_of_place : (p : PlanValue) (h : List Event) (place : ℕ) (su : Stream) → IsMultiplexPlan p → IsLawful p h → IsAt p place su → IsContent p h (Elementary su)
-    → IsOfPlace p (packet_behind p h (emitted p h) (Elementary su)) (Some place)
-stream_of_place p h place su plan law there content k st at =
+pub stream_of_index : (p : PlanValue) (h : List Event) (place : ℕ) (su : Stream) → IsMultiplexPlan p → IsLawful p h → IsAt p place su → IsContent p h (Elementary su)
+    → IsOfIndex p (packet_behind p h (emitted p h) (Elementary su)) (Some place)
+stream_of_index p h place su plan law there content k st at =
     let q = packet_behind p h (emitted p h) (Elementary su) in
     let chosen = stream_choice p h su content in
     let moved = moved_to p h su chosen.0 plan law (place, there) chosen.1.head in

@@ -15,7 +15,7 @@ use Rattle.mux.specs.Choosing.{IsEligibleHead, IsFirstHead, Precedes, Leads, IsB
 -- of the streams before place n, this one goes first
 pub record IsBest (streams : List Stream) (queues : List QueueValue) (buckets : List BucketValue) (now n : ℕ) (b : Candidate) : Type 0 where
   pub item : Stamped
-  pub can : IsEligibleHead streams queues buckets now b.place b.stream item
+  pub can : IsEligibleHead streams queues buckets now b.index b.stream item
   pub stamp_is : item.stamp ≡ b.stamp
   pub first : (j : ℕ) (su : Stream) (other : Stamped) → j < n → IsEligibleHead streams queues buckets now j su other → IsNotAfter b.stream item su other
 
@@ -127,7 +127,7 @@ skips_read streams queues buckets now n (Some b) q d limit best at_limit l size 
                 let stream : st ≡ su = same_Some _ _ (sym (slice_get-get_or streams n d (omega arith)) ∙ here.stream) in
                 let head = ap (λ (x : QueueValue). slice_get x.items 0) (sym same) ∙ here.head in
                 let stamp = best.stamp_is in
-                let next : Candidate = record { place = n; stream = st; stamp = other.stamp } in
+                let next : Candidate = record { index = n; stream = st; stamp = other.stamp } in
                 let Q : Stream → Type 0 = λ y. IsNotAfter b.stream best.item y other in
                 elim (cases_order other.stamp limit) [
                   | inl s ↦ subst Q stream (goes b next best.item other stamp refl (nothing other here.bucket head (omega arith) here.bucket_here here.room))
@@ -139,7 +139,7 @@ skips_read streams queues buckets now n (Some b) q d limit best at_limit l size 
 
 -- the head at the next place goes first
 picks : (streams : List Stream) (queues : List QueueValue) (buckets : List BucketValue) (now n : ℕ) (best : Option Candidate) (next : Candidate) (item : Stamped) → IsBestBelow streams queues buckets now n best
-    → next.place ≡ n → IsEligibleHead streams queues buckets now next.place next.stream item → item.stamp ≡ next.stamp → Leads best next → IsBest streams queues buckets now (n + 1) next
+    → next.index ≡ n → IsEligibleHead streams queues buckets now next.index next.stream item → item.stamp ≡ next.stamp → Leads best next → IsBest streams queues buckets now (n + 1) next
 picks streams queues buckets now n None next item none place can stamp leads = record {
   item = item;
   can = can;
@@ -147,7 +147,7 @@ picks streams queues buckets now n None next item none place can stamp leads = r
   first = λ j su other l there.
       elim (below j n l) [
         | inl m ↦ absurd (none j su other m there)
-        | inr e ↦ at_place next.stream item next.place j can (e ∙ sym place) there (goes_itself next.stream item)
+        | inr e ↦ at_place next.stream item next.index j can (e ∙ sym place) there (goes_itself next.stream item)
       ];
 }
 picks streams queues buckets now n (Some b) next item best place can stamp leads = record {
@@ -157,7 +157,7 @@ picks streams queues buckets now n (Some b) next item best place can stamp leads
   first = λ j su other l there.
       elim (below j n l) [
         | inl m ↦ goes_on next.stream b.stream su item best.item other (goes next b item best.item stamp best.stamp_is leads) (best.first j su other m there)
-        | inr e ↦ at_place next.stream item next.place j can (e ∙ sym place) there (goes_itself next.stream item)
+        | inr e ↦ at_place next.stream item next.index j can (e ∙ sym place) there (goes_itself next.stream item)
       ];
 }
 
@@ -167,7 +167,7 @@ picks_read streams queues buckets now n best q d limit next is at_limit l size a
     let low = limit_within streams queues buckets now n best limit is at_limit in
     let due = better.due in
     let stamp = better.stamp_is in
-    let place : next.place ≡ n = ap (λ (c : Candidate). c.place) better.here in
+    let place : next.index ≡ n = ap (λ (c : Candidate). c.index) better.here in
     let can : IsEligibleHead streams queues buckets now n (get_or streams n d) better.item = record {
       stream = slice_get-get_or streams n d (omega arith);
       queue = q;
@@ -178,5 +178,5 @@ picks_read streams queues buckets now n best q d limit next is at_limit l size a
       bucket_here = better.bucket_here;
       room = better.room;
     } in
-    let P : Candidate → Type 0 = λ c. IsEligibleHead streams queues buckets now c.place c.stream better.item in
+    let P : Candidate → Type 0 = λ c. IsEligibleHead streams queues buckets now c.index c.stream better.item in
     picks streams queues buckets now n best next better.item is place (subst P (sym better.here) can) stamp better.leads

@@ -114,9 +114,9 @@ none_goes {r} {h} k are now t free none = untabled r.plan h Null free (λ st ite
 
 pub one_goes : {r : Run} {h : List Event} {states : List InputState} {queues : List QueueValue} {buckets : List BucketValue} → AgreesWith r h states queues → AreBuckets r.plan (emitted r.plan h) buckets
     → (now : ℕ) → now ≡ slot_time r.plan (slots h) → table_at r.plan.rounds (slots h) ≡ None → (c : Candidate) → IsFirstHead r.plan.request.streams queues buckets now c
-    → (slice_get r.plan.request.streams c.place ≡ Some c.stream) × IsContent r.plan h (Elementary c.stream)
+    → (slice_get r.plan.request.streams c.index ≡ Some c.stream) × IsContent r.plan h (Elementary c.stream)
 one_goes {r} {h} k are now t free c best =
-    (best.head.stream, untabled r.plan h (Elementary c.stream) free (best.item, head_to k are now t c.place c.stream best.item best.head, λ su other e. best.first (has_of r.plan su e.stream).0 su other (head_from k are now t su other e)))
+    (best.head.stream, untabled r.plan h (Elementary c.stream) free (best.item, head_to k are now t c.index c.stream best.item best.head, λ su other e. best.first (has_of r.plan su e.stream).0 su other (head_from k are now t su other e)))
 
 -- what follows where there is no value
 pub when_none : {X : Type 0} {P Q : Type 0} (o : Option X) → IfNone o P → (P → Q) → IfNone o Q

@@ -29,7 +29,7 @@ use Rattle.mux.specs.Totals.{contents, is_table, is_elementary, is_null}
 use Rattle.mux.specs.Lawful.{MayTake, MayNoteFull, MaySend}
 use Rattle.mux.specs.Keeping.{AgreesWith, IsKept, state_of, queue_of, counts_of, turn_at, without_full}
 use Rattle.mux.specs.Buckets.{AreBuckets, MovedOn, empty_bucket}
-use Rattle.mux.proofs.BucketSteps.{buckets_none, buckets_moved, null_of_none, table_of_none, stream_of_place, chosen_has_room}
+use Rattle.mux.proofs.BucketSteps.{buckets_none, buckets_moved, null_of_none, table_of_none, stream_of_index, chosen_has_room}
 use Rattle.mux.proofs.Lists.{set_map, set_map_at}
 use Rattle.mux.proofs.Plans.{IsAt}
 use Rattle.mux.proofs.Refusals.{IsTakenFor}
@@ -294,7 +294,7 @@ sending_head {r} {h} {states} {queues} {buckets} {clock} {turn} {packets} {count
     (ap (λ ys. set ys st.input (with_sent x)) cleared_is ∙ ap (set (map before (range_with_len 0 inputs)) st.input) (ap with_sent x_is ∙ sends_one h st) ∙ set_state before (state_of (Slot (Elementary st) ∷ h)) inputs st.input l (sends_others h st))
     (ap (λ ys. set ys k w) kept.queues_are ∙ ap (set (map (queue_of capacity h) r.plan.request.streams) k) w' ∙ set_map_at (queue_of capacity h) (queue_of capacity (Slot (Elementary st) ∷ h)) r.plan.request.streams k st at (unsent_queue r.plan h st k kept.plan at))
     (buckets_moved r.plan (emitted r.plan h) (packet_behind r.plan h (emitted r.plan h) (Elementary st)) (Some k) buckets now_buckets whole.buckets_are moved
-    (stream_of_place r.plan h k st kept.plan kept.lawful at may.content) (chosen_has_room r.plan h buckets k st kept.plan kept.lawful whole.buckets_are at may.content))
+    (stream_of_index r.plan h k st kept.plan kept.lawful at may.content) (chosen_has_room r.plan h buckets k st kept.plan kept.lawful whole.buckets_are at may.content))
     t u ps (ap (λ (x : Counts). let y : Counts = record x { elementary = x.elementary + 1 } in y) whole.counts_are ∙ counts_elementary st h) within may
 
 -- the packet that carries a stream's head

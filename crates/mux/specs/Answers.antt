@@ -12,13 +12,13 @@ use Rattle.mux.specs.declared.sending.Sending.{Sending}
 use Rattle.mux.specs.declared.sending.Sending.TheVariants as sending
 use Rattle.mux.specs.declared.slot.Slot.{Slot}
 use Rattle.mux.specs.declared.slot.Slot.TheVariants as slot
-use Rattle.mux.specs.History.{History, with_event, in_force, is_mapped_to, full_noted, slots, emitted, packet_behind}
+use Rattle.mux.specs.History.{History, with_event, is_mapped_to, full_noted, slots, emitted, packet_behind}
 use Rattle.mux.specs.Lawful.{Closed, Stranger, Backward, Full, refusal_of, IsDone, AllReady, is_ready, MaySend}
 
 -- The queue of the item's stream is full: that is noted, but once for an input since the last turn.
 abbrev pub NotesFull : History → ℕ → Stamped → History → Type 0
 NotesFull h i item new =
-    (st : Stream) × Contains (in_force h.run.plan h.events).request.streams st × (is_mapped_to st i item ≡ true)
+    (st : Stream) × Contains h.run.plan.request.streams st × (is_mapped_to st i item ≡ true)
     × (new ≡ (if full_noted i h.events then h else with_event h (events.Full i st)))
 
 -- what `offer` answers and leaves: the first reason against the item, or want of memory where an event is due

@@ -26,10 +26,10 @@ pub record AreBuckets (p : PlanValue) (out : List (List ℕ)) (buckets : List Bu
   pub each : (k : ℕ) (st : Stream) → slice_get p.request.streams k ≡ Some st
       → (b : BucketValue) × (slice_get buckets k ≡ Some b) × IsBucketOf p.request.rate out st b
 
--- whether the slot carries the packet of the stream at place k, if it carries one of a stream at all
-abbrev pub is_place : Option ℕ → ℕ → Bool
-is_place None k = false
-is_place (Some place) k = place == k
+-- whether the slot carries the packet of stream k, if it carries one of a stream at all
+abbrev pub carries_stream : Option ℕ → ℕ → Bool
+carries_stream None k = false
+carries_stream (Some index) k = index == k
 
 -- the bucket after a slot, which carries a packet of its stream or not
 abbrev pub after_slot : Bool → BucketValue → BucketValue
@@ -38,4 +38,4 @@ after_slot is_sent b = if is_sent then after_packet b else after_others b
 -- each bucket is one slot on
 pub record MovedOn (sent : Option ℕ) (before after : List BucketValue) : Type 0 where
   pub count : length after ≡ length before
-  pub each : (k : ℕ) (b : BucketValue) → slice_get before k ≡ Some b → slice_get after k ≡ Some (after_slot (is_place sent k) b)
+  pub each : (k : ℕ) (b : BucketValue) → slice_get before k ≡ Some b → slice_get after k ≡ Some (after_slot (carries_stream sent k) b)

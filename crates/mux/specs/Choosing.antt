@@ -8,7 +8,7 @@ use Rattle.buffers.specs.QueueValue.{QueueValue}
 use Rattle.buffers.specs.BucketValue.{BucketValue, HasRoom}
 use Rattle.mux.specs.Lawful.{IsNotAfter}
 
--- the item is the head of the queue of the stream at place k, is due, and that stream's bucket has room for it
+-- the item is the head of the queue of stream k, is due, and that stream's bucket has room for it
 pub record IsEligibleHead (streams : List Stream) (queues : List QueueValue) (buckets : List BucketValue) (now k : ℕ)
     (st : Stream) (item : Stamped) : Type 0 where
   pub stream : slice_get streams k ≡ Some st
@@ -24,7 +24,7 @@ pub record IsEligibleHead (streams : List Stream) (queues : List QueueValue) (bu
 pub record IsFirstHead (streams : List Stream) (queues : List QueueValue) (buckets : List BucketValue) (now : ℕ)
     (c : Candidate) : Type 0 where
   pub item : Stamped
-  pub head : IsEligibleHead streams queues buckets now c.place c.stream item
+  pub head : IsEligibleHead streams queues buckets now c.index c.stream item
   pub first : (j : ℕ) (su : Stream) (other : Stamped) → IsEligibleHead streams queues buckets now j su other
       → IsNotAfter c.stream item su other
 
@@ -41,21 +41,21 @@ abbrev pub Follows : Option Candidate → Candidate → Type 0
 Follows None next = ⊥
 Follows (Some b) next = Precedes b next
 
--- the candidate is the head of this queue, at this place, has a time of at most the limit and room, and goes before the best
-pub record IsBetterHead (best : Option Candidate) (place : ℕ) (stream : Stream) (queue : QueueValue) (buckets : List BucketValue)
+-- the candidate is the head of this queue, of the stream of this index, has a time of at most the limit and room, and goes before the best
+pub record IsBetterHead (best : Option Candidate) (index : ℕ) (stream : Stream) (queue : QueueValue) (buckets : List BucketValue)
     (limit : ℕ) (c : Candidate) : Type 0 where
-  pub here : c ≡ record { place = place; stream = stream; stamp = c.stamp }
+  pub here : c ≡ record { index = index; stream = stream; stamp = c.stamp }
   pub leads : Leads best c
   pub item : Stamped
   pub head : slice_get queue.items 0 ≡ Some item
   pub stamp_is : item.stamp ≡ c.stamp
   pub due : c.stamp ≤ limit
   pub bucket : BucketValue
-  pub bucket_here : slice_get buckets place ≡ Some bucket
+  pub bucket_here : slice_get buckets index ≡ Some bucket
   pub room : HasRoom bucket
 
 -- there is none
 abbrev pub IsNoBetterHead : Option Candidate → ℕ → Stream → QueueValue → List BucketValue → ℕ → Type 0
-IsNoBetterHead best place stream queue buckets limit = (item : Stamped) (bucket : BucketValue) → slice_get queue.items 0 ≡ Some item
-    → item.stamp ≤ limit → slice_get buckets place ≡ Some bucket → HasRoom bucket
-    → Follows best (record { place = place; stream = stream; stamp = item.stamp })
+IsNoBetterHead best index stream queue buckets limit = (item : Stamped) (bucket : BucketValue) → slice_get queue.items 0 ≡ Some item
+    → item.stamp ≤ limit → slice_get buckets index ≡ Some bucket → HasRoom bucket
+    → Follows best (record { index = index; stream = stream; stamp = item.stamp })

@@ -41,10 +41,6 @@ pub data Entry : Type 0 where
 abbrev pub all_events : History → List Entry
 all_events h = Open h.run ∷ map Then (reverse h.events)
 
--- the plan that the next event is judged by
-abbrev pub in_force : PlanValue → List Event → PlanValue
-in_force p h = p
-
 -- whether an item of input i is one of the stream
 abbrev pub is_mapped_to : Stream → ℕ → Stamped → Bool
 is_mapped_to st i item = (i == st.input) && (pid_of item.packet == st.pid)
@@ -80,13 +76,9 @@ sent st (Full j su ∷ before) = sent st before
 sent st (Close j ∷ before) = sent st before
 sent st (Slot c ∷ before) = if is_of_stream st c then sent st before + 1 else sent st before
 
--- how many have left the stream's queue
-abbrev pub gone : Stream → List Event → ℕ
-gone st h = sent st h
-
 -- what was taken of a stream and hasn't left its queue
 abbrev pub queue : Stream → List Event → List Stamped
-queue st h = drop (gone st h) (taken_for st h)
+queue st h = drop (sent st h) (taken_for st h)
 
 -- how many slots there were
 abbrev pub slots : List Event → ℕ

@@ -13,7 +13,7 @@ use Rattle.mux.specs.declared.event.Event.{Event}
 use Rattle.mux.specs.declared.event.Event.TheVariants as events
 use Rattle.plan.specs.Build.{PlanValue}
 use Rattle.emission.specs.TableBuffers.{BufferFits}
-use Rattle.mux.specs.History.{Run, in_force, is_mapped_to, queue, slots, slot_time, last_stamp, is_closed, full_noted, sent_packet, emitted}
+use Rattle.mux.specs.History.{Run, is_mapped_to, queue, slots, slot_time, last_stamp, is_closed, full_noted, sent_packet, emitted}
 
 -- The next slot can't get an earlier packet of the input: it is closed, or its last stamp is past
 -- the slot's time, or a full queue of it was noted since the last turn.
@@ -36,7 +36,7 @@ Fits p h st item =
 
 -- the item is the head of its stream's queue, is due in the next slot, and its packet fits the stream's transport buffer
 pub record IsEligible (p : PlanValue) (h : List Event) (st : Stream) (item : Stamped) : Type 0 where
-  pub stream : Contains (in_force p h).request.streams st
+  pub stream : Contains p.request.streams st
   pub head : slice_get (queue st h) 0 ≡ Some item
   pub due : item.stamp ≤ slot_time p (slots h)
   pub fits : Fits p h st item
@@ -83,9 +83,9 @@ is_queue_full p h i item =
 unfoldable pub refusal_of : PlanValue → List Event → ℕ → Stamped → Option Refusal
 refusal_of p h i item =
     if is_closed i h then Some Closed
-    else if not (is_mapped (in_force p h) i item) then Some Stranger
+    else if not (is_mapped p i item) then Some Stranger
     else if nat_lt item.stamp (last_stamp i h) then Some Backward
-    else if is_queue_full (in_force p h) h i item then Some Full
+    else if is_queue_full p h i item then Some Full
     else None
 
 -- nothing is against the item, and its packet is one
@@ -96,10 +96,10 @@ pub record MayTake (p : PlanValue) (before : List Event) (i : ℕ) (item : Stamp
 
 -- the queue of a stream of the input is full, and none was noted since the last turn
 pub record MayNoteFull (p : PlanValue) (before : List Event) (i : ℕ) (st : Stream) : Type 0 where
-  pub stream : Contains (in_force p before).request.streams st
+  pub stream : Contains p.request.streams st
   pub input : st.input ≡ i
   pub open_ : is_closed i before ≡ false
-  pub full : length (queue st before) ≡ (in_force p before).request.queue
+  pub full : length (queue st before) ≡ p.request.queue
   pub first : full_noted i before ≡ false
 
 pub record MayClose (p : PlanValue) (before : List Event) (i : ℕ) : Type 0 where

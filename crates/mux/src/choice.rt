@@ -72,27 +72,27 @@ fn goes_first(best: Option<Candidate>, next: Candidate) -> bool
     }
 }
 
-/// The head of the queue at a place, if its time isn't after the limit, it goes before the best so far, and its stream's
+/// The head of the queue of a stream, if its time isn't after the limit, it goes before the best so far, and its stream's
 /// bucket has room.
 fn better_head(
     best: Option<Candidate>,
-    place: usize,
+    index: usize,
     stream: Stream,
     queue: &PidQueue,
     progress: &Progress,
     limit: u64,
 ) -> Option<Candidate>
-    requires { place < length progress.now.buckets }
-    ensures some { IfSome result (IsBetterHead best place stream queue.now progress.now.buckets limit) }
-    ensures none { IfNone result (IsNoBetterHead best place stream queue.now progress.now.buckets limit) }
+    requires { index < length progress.now.buckets }
+    ensures some { IfSome result (IsBetterHead best index stream queue.now progress.now.buckets limit) }
+    ensures none { IfNone result (IsNoBetterHead best index stream queue.now progress.now.buckets limit) }
 {
     let stamp = queue.first_due(limit)?;
     let next = Candidate {
-        place,
+        index,
         stream,
         stamp,
     };
-    if goes_first(best, next) && progress.bucket(place).fits() {
+    if goes_first(best, next) && progress.bucket(index).fits() {
         Some(next)
     } else {
         None

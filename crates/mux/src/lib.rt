@@ -30,6 +30,8 @@ mod sending;
 mod slot;
 mod slot_clock;
 mod taken;
+#[cfg(test)]
+mod tests;
 mod totals;
 
 pub use content::Content;

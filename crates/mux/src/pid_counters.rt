@@ -16,13 +16,14 @@ pub(crate) struct PidCounters {
 }
 
 impl Model for PidCounters {
+    ghost use Rattle.mux.specs.declared.pid_counters.TheConstants.{PIDS};
     ghost use Rattle.std.specs.Prelude.{ℕ, List, ◌≡◌, ◌<◌, length, All};
 
     ghost Value = { List ℕ };
 
     ghost view = { λ c. c.next.items };
 
-    ghost invariant = { λ c. (length c.next.items ≡ 8192) × All (λ n. n < 16) c.next.items };
+    ghost invariant = { λ c. (length c.next.items ≡ PIDS) × All (λ n. n < 16) c.next.items };
 }
 
 impl PidCounters {

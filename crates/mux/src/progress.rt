@@ -80,12 +80,12 @@ impl Progress {
         self.clock.time()
     }
 
-    /// The buffer of the stream at this place.
-    pub fn bucket(&self, place: usize) -> Bucket
-        requires { place < length self.now.buckets }
-        ensures { slice_get self.now.buckets place ≡ Some result }
+    /// The buffer of the stream of this index.
+    pub fn bucket(&self, index: usize) -> Bucket
+        requires { index < length self.now.buckets }
+        ensures { slice_get self.now.buckets index ≡ Some result }
     {
-        self.kept[place].at(self.clock.slot())
+        self.kept[index].at(self.clock.slot())
     }
 
     /// The next slot carries a packet of no stream.
@@ -97,16 +97,16 @@ impl Progress {
         self.clock.advance();
     }
 
-    /// The next slot carries a packet of the stream at this place, whose buffer has room for it.
-    pub fn send(&mut self, place: usize)
+    /// The next slot carries a packet of the stream of this index, whose buffer has room for it.
+    pub fn send(&mut self, index: usize)
         requires within { self.old.clock.slot < MAX_SLOTS }
-        requires place { place < length self.old.buckets }
-        requires room { (b : BucketValue) → slice_get self.old.buckets place ≡ Some b → HasRoom b }
+        requires index { index < length self.old.buckets }
+        requires room { (b : BucketValue) → slice_get self.old.buckets index ≡ Some b → HasRoom b }
         ensures clock { self.new.clock ≡ advanced self.old.clock }
-        ensures buckets { MovedOn (Some place) self.old.buckets self.new.buckets }
+        ensures buckets { MovedOn (Some index) self.old.buckets self.new.buckets }
     {
         let slot = self.clock.slot();
-        self.kept[place].send(slot);
+        self.kept[index].send(slot);
         self.clock.advance();
     }
 }

@@ -15,6 +15,7 @@ pub struct StreamMap {
 }
 
 impl Model for StreamMap {
+    ghost use Rattle.plan.specs.declared.stream_map.TheConstants.{PIDS};
     ghost use Rattle.std.specs.Prelude.{◌≡◌, ◌*◌, ◌≤◌, length};
     ghost use Rattle.plan.specs.StreamPlace.{StreamMapValue};
 
@@ -22,7 +23,7 @@ impl Model for StreamMap {
 
     ghost view = { λ m. record { inputs = m.inputs; numbers = m.numbers.items } };
 
-    ghost invariant = { λ m. (m.inputs ≤ 8) × (length m.numbers.items ≡ m.inputs * 8192) };
+    ghost invariant = { λ m. (m.inputs ≤ 8) × (length m.numbers.items ≡ m.inputs * PIDS) };
 }
 
 impl StreamMap {
@@ -37,7 +38,7 @@ impl StreamMap {
         requires inputs { inputs ≤ 8 }
         requires count { length streams.now ≤ 64 }
         requires known { All (λ (s : Stream). s.input < inputs) streams.now }
-        requires pids { All (λ (s : Stream). s.pid < 8192) streams.now }
+        requires pids { All (λ (s : Stream). s.pid < PIDS) streams.now }
         ensures { IfOk result (λ m. IsMapOf m streams.now) }
     {
         let mut numbers = vec![in alloc; None; inputs * PIDS]?;

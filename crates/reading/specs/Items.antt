@@ -21,9 +21,9 @@ given_up items = record { limit = items.limit; framer = None; ahead = [] }
 
 -- a packet begins within the most bytes that any stream may have
 abbrev pub IsPlaced : Item → Type 0
-IsPlaced (Packet place bytes) = place ≤ MAX_LIMIT
-IsPlaced (Bad place) = Unit {0}
-IsPlaced (SyncLoss place) = Unit {0}
+IsPlaced (Packet position bytes) = position ≤ MAX_LIMIT
+IsPlaced (Bad position) = Unit {0}
+IsPlaced (SyncLoss position) = Unit {0}
 IsPlaced (Lost count) = Unit {0}
 
 pub record IsFramerWithin (limit : ℕ) (f : FramerState) : Type 0 where

@@ -29,17 +29,17 @@ is_well_formed packet = is_none (fault_of packet)
 abbrev pub is_named : PlanValue → OriginValue → List ℕ → Bool
 is_named plan origin packet = is_some (planned_stream plan.request.streams origin.number (pid_of packet))
 
--- when a packet that begins at this place of the input comes: with its byte 10, the last of a PCR's base
+-- when a packet that begins at this position of the input comes: with its byte 10, the last of a PCR's base
 abbrev pub stamp_at : OriginValue → ℕ → ℕ
-stamp_at origin place = origin.offset + time_of (place + 10) origin.rate
+stamp_at origin position = origin.offset + time_of (position + 10) origin.rate
 
 -- the packet that a run takes of an item: one that is well formed and that the plan names, with its time
 abbrev pub taken_of : PlanValue → OriginValue → Item → Option Stamped
-taken_of plan origin (Packet place bytes) =
-    if is_well_formed bytes then (if is_named plan origin bytes then Some (record { packet = bytes; stamp = stamp_at origin place }) else None)
+taken_of plan origin (Packet position bytes) =
+    if is_well_formed bytes then (if is_named plan origin bytes then Some (record { packet = bytes; stamp = stamp_at origin position }) else None)
     else None
-taken_of plan origin (Bad place) = None
-taken_of plan origin (SyncLoss place) = None
+taken_of plan origin (Bad position) = None
+taken_of plan origin (SyncLoss position) = None
 taken_of plan origin (Lost count) = None
 
 -- the packets that a run takes of what framing tells, in order
@@ -54,7 +54,7 @@ EndsAtTaken plan origin items =
 -- What an item counts as: a packet is framed, and may be malformed, or else unmapped, where the plan doesn't name it;
 -- a packet with a bad sync byte is bad; a loss of sync is one; bytes in no packet are lost.
 abbrev pub counted_of : PlanValue → OriginValue → Item → Report
-counted_of plan origin (Packet place bytes) = record {
+counted_of plan origin (Packet position bytes) = record {
   framed = 1;
   malformed = if is_well_formed bytes then 0 else 1;
   unmapped = if is_well_formed bytes then (if is_named plan origin bytes then 0 else 1) else 0;
@@ -63,8 +63,8 @@ counted_of plan origin (Packet place bytes) = record {
   lost = 0;
   stopped = None;
 }
-counted_of plan origin (Bad place) = record { framed = 0; malformed = 0; unmapped = 0; bad = 1; losses = 0; lost = 0; stopped = None }
-counted_of plan origin (SyncLoss place) = record { framed = 0; malformed = 0; unmapped = 0; bad = 0; losses = 1; lost = 0; stopped = None }
+counted_of plan origin (Bad position) = record { framed = 0; malformed = 0; unmapped = 0; bad = 1; losses = 0; lost = 0; stopped = None }
+counted_of plan origin (SyncLoss position) = record { framed = 0; malformed = 0; unmapped = 0; bad = 0; losses = 1; lost = 0; stopped = None }
 counted_of plan origin (Lost count) = record { framed = 0; malformed = 0; unmapped = 0; bad = 0; losses = 0; lost = count; stopped = None }
 
 -- the report has the counts of these items

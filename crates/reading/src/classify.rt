@@ -29,8 +29,8 @@ pub(crate) fn classify(
     ensures counts { report.new ≡ with_counts report.old (counted_of plan.now origin.old item.now) }
 {
     match item {
-        Item::Packet(place, bytes) => {
-            return classify_packet(plan, origin, *place, bytes, held, report);
+        Item::Packet(position, bytes) => {
+            return classify_packet(plan, origin, *position, bytes, held, report);
         }
         Item::Bad(_) => report.bad = report.bad.saturating_add(1),
         Item::SyncLoss(_) => report.losses = report.losses.saturating_add(1),
@@ -39,21 +39,21 @@ pub(crate) fn classify(
     false
 }
 
-/// The same of a packet at a place of the input.
+/// The same of a packet at a position of the input, in bytes.
 fn classify_packet(
     plan: &Plan,
     origin: &mut Origin,
-    place: u64,
+    position: u64,
     bytes: &[u8; 188],
     held: &mut Option<Stamped>,
     report: &mut Report,
 ) -> bool
-    requires placed { place ≤ MAX_LIMIT }
+    requires placed { position ≤ MAX_LIMIT }
     requires held { held.old ≡ None }
-    ensures held { held.new ≡ taken_of plan.now origin.old (Packet place bytes.now) }
+    ensures held { held.new ≡ taken_of plan.now origin.old (Packet position bytes.now) }
     ensures found { result ≡ is_some held.new }
     ensures origin { origin.new ≡ origin.old }
-    ensures counts { report.new ≡ with_counts report.old (counted_of plan.now origin.old (Packet place bytes.now)) }
+    ensures counts { report.new ≡ with_counts report.old (counted_of plan.now origin.old (Packet position bytes.now)) }
 {
     report.framed = report.framed.saturating_add(1);
     let Ok(packet) = tspkt::Packet::read(bytes) else {
@@ -64,7 +64,7 @@ fn classify_packet(
         report.unmapped = report.unmapped.saturating_add(1);
         return false;
     }
-    let stamp = origin.stamp(place);
+    let stamp = origin.stamp(position);
     *held = Some(Stamped { packet, stamp });
     true
 }

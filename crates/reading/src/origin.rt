@@ -49,14 +49,14 @@ impl Origin {
         self.number
     }
 
-    /// When a packet comes that begins at this place of the input, in bytes: ticks of 27 MHz. It is found without a division
+    /// When a packet comes that begins at this position of the input, in bytes: ticks of 27 MHz. It is found without a division
     /// where the packet follows the one before it.
-    pub fn stamp(&mut self, place: u64) -> u64
-        requires { place ≤ MAX_LIMIT }
-        ensures value { result ≡ stamp_at self.old place }
+    pub fn stamp(&mut self, position: u64) -> u64
+        requires { position ≤ MAX_LIMIT }
+        ensures value { result ≡ stamp_at self.old position }
         ensures origin { self.new ≡ self.old }
     {
-        self.clock.go_to(place);
+        self.clock.go_to(position);
         self.offset + self.clock.time()
     }
 }

@@ -7,7 +7,7 @@ use Rattle.request.specs.declared.stream.Stream.{Stream}
 use Rattle.plan.specs.Build.{PlanValue}
 use Rattle.mux.specs.declared.event.Event.{Event}
 use Rattle.mux.specs.declared.event.Event.TheVariants.{Took, Full, Close, Slot}
-use Rattle.mux.specs.History.{History, with_event, in_force, taken, is_closed, last_stamp, full_noted, is_mapped_to}
+use Rattle.mux.specs.History.{History, with_event, taken, is_closed, last_stamp, full_noted, is_mapped_to}
 use Rattle.mux.specs.Lawful.{Closed, Stranger, Backward, refusal_of, is_mapped, is_queue_full}
 use Rattle.mux.specs.Lawful as refusals
 use Rattle.mux.specs.Answers.{NotesFull}
@@ -149,7 +149,7 @@ closed false true true d e = cc
 closed false true false true e = cc
 closed false true false false e = cc
 
-pub is_stranger : (p : PlanValue) (h : List Event) (i : ℕ) (item : Stamped) → refusal_of p h i item ≡ Some Stranger → is_mapped (in_force p h) i item ≡ false
+pub is_stranger : (p : PlanValue) (h : List Event) (i : ℕ) (item : Stamped) → refusal_of p h i item ≡ Some Stranger → is_mapped p i item ≡ false
 unfolding refusal_of
 is_stranger p h i item e = stranger (is_closed i h) (is_mapped p i item) (ltb item.stamp (last_stamp i h)) (is_queue_full p h i item) e
 

@@ -6,7 +6,7 @@ use Rattle.tspkt.specs.declared.stamped.Stamped.{Stamped}
 use Rattle.request.specs.declared.stream.Stream.{Stream}
 use Rattle.mux.specs.declared.event.Event.{Event}
 use Rattle.mux.specs.declared.event.Event.TheVariants.{Full}
-use Rattle.mux.specs.History.{History, in_force, taken, is_closed, last_stamp, is_mapped_to}
+use Rattle.mux.specs.History.{History, taken, is_closed, last_stamp, is_mapped_to}
 use Rattle.mux.specs.Lawful.{is_mapped}
 use Rattle.port.specs.Rings.{RingId}
 use Rattle.station.specs.declared.inlet.Inlet.{Inlet}
@@ -24,7 +24,7 @@ rings_of inputs = map (λ x. x.end.ring) inputs
 -- taken.
 abbrev pub IsRefusedForGood : History → ℕ → Stamped → Type 0
 IsRefusedForGood h i item =
-    (is_mapped (in_force h.run.plan h.events) i item ≡ false) ⊎ (item.stamp < last_stamp i h.events)
+    (is_mapped h.run.plan i item ≡ false) ⊎ (item.stamp < last_stamp i h.events)
 
 -- Wherever a full queue of the input was noted, it was that of the packet that came next behind those taken before.
 abbrev pub FullsAreOfNext : ℕ → List Stamped → List Event → Type 0

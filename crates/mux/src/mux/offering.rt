@@ -30,7 +30,7 @@ impl Mux {
         self.inputs[input]
     }
 
-    /// The stream that the plan maps a packet to, with its place.
+    /// The stream that the plan maps a packet to, with its index.
     fn find(&self, input: usize, item: &Stamped) -> Option<(usize, Stream)>
         ensures found { IfSome result (λ x. (slice_get self.now.run.plan.request.streams x.0 ≡ Some x.1)
             × (is_mapped_to x.1 input item.now ≡ true)) }

@@ -61,7 +61,7 @@ impl Mux {
         requires no_table { table_at self.now.run.plan.rounds (slots self.now.events) ≡ None }
         ensures none { IfNone result (IsContent self.now.run.plan self.now.events Content.Null) }
         ensures some { IfSome result (λ c.
-            (slice_get self.now.run.plan.request.streams c.place ≡ Some c.stream)
+            (slice_get self.now.run.plan.request.streams c.index ≡ Some c.stream)
             × IsContent self.now.run.plan self.now.events (Content.Elementary c.stream)) }
     {
         choose(
@@ -158,7 +158,7 @@ impl Mux {
             Some(place) => self.send_table(place),
             None => match self.next(now) {
                 None => self.send_null(),
-                Some(best) => self.send_head(best.place, best.stream, now),
+                Some(best) => self.send_head(best.index, best.stream, now),
             },
         }
     }

@@ -28,5 +28,5 @@ returns-clause-some c =
     let free = ap (λ (h : History). table_at h.run.plan.rounds (slots h.events)) c.self.view_is ∙ c.requires.no_table in
     let Q : List Stream → Type 0 = λ xs. IsFirstHead xs c.as_slice.result.now c.self.inside.progress.buckets c.args.now b in
     let S : List QueueValue → Type 0 = λ xs. IsFirstHead c.self.inside.plan.request.streams xs c.self.inside.progress.buckets c.args.now b in
-    let R : History → Type 0 = λ h. (slice_get h.run.plan.request.streams b.place ≡ Some b.stream) × IsContent h.run.plan h.events (Elementary b.stream) in
+    let R : History → Type 0 = λ h. (slice_get h.run.plan.request.streams b.index ≡ Some b.stream) × IsContent h.run.plan h.events (Elementary b.stream) in
     subst R c.self.view_is (one_goes c.self.invariant.0.agrees c.self.invariant.0.buckets_are c.args.now t free b (subst S c.as_slice.ensures.value (subst Q c.streams.ensures first))))

@@ -92,8 +92,8 @@ overflow_sub-delay c =
     let due = next.due in
     omega arith
 
-pub send-requires-clause-place : goal.send-requires-clause-place
-send-requires-clause-place c =
+pub send-requires-clause-index : goal.send-requires-clause-index
+send-requires-clause-index c =
     let at : slice_get c.self.inside.plan.request.streams c.args.index ≡ Some c.args.stream = ap (λ (h : History). slice_get h.run.plan.request.streams c.args.index) c.self.view_is ∙ c.requires.index in
     let l = slice_get_within c.self.inside.plan.request.streams c.args.index c.args.stream at in
     let count = c.self.invariant.0.buckets_are.count in

@@ -12,16 +12,16 @@ send-requires-clause-room c =
     let kept = c.self.inside.kept.items in
     let seen = ap (λ (p : ProgressValue). p.buckets) c.self.view_is in
     let P : ℕ → Type 0 = λ n. HasRoom (bucket_at n c.index_mut.result.now) in
-    subst P (sym c.slot-slot.ensures) (c.requires.room _ (kept_read slot kept _ c.args.place c.index_mut.result.now seen c.requires.place c.index_mut.ensures.value))
+    subst P (sym c.slot-slot.ensures) (c.requires.room _ (kept_read slot kept _ c.args.index c.index_mut.result.now seen c.requires.index c.index_mut.ensures.value))
 
 pub returns-clause-buckets : goal.returns-clause-buckets
 returns-clause-buckets c =
     let slot = c.self.inside.clock.slot in
     let kept = c.self.inside.kept.items in
     let seen = ap (λ (p : ProgressValue). p.buckets) c.self.view_is in
-    let now = set c.self.inside.kept.items c.args.place c.send.new.self in
+    let now = set c.self.inside.kept.items c.args.index c.send.new.self in
     let e : c.advance.new.self.slot ≡ c.self.inside.clock.slot + 1 = ap (λ (x : ClockValue). x.slot) c.advance.ensures in
     let sent : c.send.new.self ≡ sent_at c.self.inside.clock.slot c.index_mut.result.now = c.send.ensures ∙ ap (λ n. sent_at n c.index_mut.result.now) c.slot-slot.ensures in
-    let P : List BucketValue → Type 0 = λ before. MovedOn (Some c.args.place) before (map (bucket_at c.advance.new.self.slot) now) in
-    let Q : ℕ → Type 0 = λ n. MovedOn (Some c.args.place) (map (bucket_at c.self.inside.clock.slot) c.self.inside.kept.items) (map (bucket_at n) now) in
-    subst P seen (subst Q (sym e) (one_sent slot kept now c.args.place c.index_mut.result.now c.self.invariant (kept_within slot kept _ c.args.place seen c.requires.place) c.index_mut.ensures.value (ap (set kept c.args.place) sent)))
+    let P : List BucketValue → Type 0 = λ before. MovedOn (Some c.args.index) before (map (bucket_at c.advance.new.self.slot) now) in
+    let Q : ℕ → Type 0 = λ n. MovedOn (Some c.args.index) (map (bucket_at c.self.inside.clock.slot) c.self.inside.kept.items) (map (bucket_at n) now) in
+    subst P seen (subst Q (sym e) (one_sent slot kept now c.args.index c.index_mut.result.now c.self.invariant (kept_within slot kept _ c.args.index seen c.requires.index) c.index_mut.ensures.value (ap (set kept c.args.index) sent)))
