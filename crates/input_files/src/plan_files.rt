@@ -1,51 +1,111 @@
 //! A plan from its file and the files of its inputs.
 
-ghost use Rattle.std.specs.Prelude.{◌≡◌, [], Ok, false, length, IfOk};
+ghost use Rattle.std.specs.Prelude.{◌≡◌, ◌≤◌, ◌++◌, [], Ok, false, length, IfOk, OnOk};
 
+use crate::file_identity::FileIdentity;
+use crate::input_file::InputFile;
+use crate::plan_read::ReadPlan;
 use crate::sources::Sources;
 use acquire::{Acquire, Found};
-use messages::CommandFault;
+use messages::{CommandFault, FileCause};
 use plan::Plan;
 use reading::{INPUT_LIMIT, Source, Stop, StreamReader};
 use request::{PlanFault, Request};
 use selection::seek;
 use std::alloc::{AllocError, Global};
 use std::str;
+use stream_shape::{StreamShape, shape_of};
+use text_causes::text_cause;
 use tspkt::{Item, Packet};
 
 /// How many bytes are read at once.
 const PIECE: usize = 1 << 16;
+/// The most bytes of a plan's file.
+const PLAN_LIMIT: usize = 1_048_576;
 
-/// All bytes of a source; none where a read fails, and where 2^64 - 1 pieces are no end.
-fn read_all<R: Source>(alloc: Global, source: &mut R) -> Result<Option<Vec<u8>>, AllocError> {
-    let mut piece = vec![in alloc; 0; PIECE]?;
-    let mut bytes = Vec::new(alloc);
-    for _ in 0..u64::MAX {
-        match source.read(piece.as_mut_slice()) {
-            Err(_) => return Ok(None),
-            Ok(0) => return Ok(Some(bytes)),
-            Ok(count) => bytes.extend_from_slice(&piece[..count])?,
-        }
+/// Adds bytes that were read of a plan's file to those before them, if there are no more than a mebibyte.
+fn add_read(bytes: &mut Vec<u8>, read: &[u8]) -> Result<(), Stop>
+    ensures added { OnOk result (bytes.new.items ≡ bytes.old.items ++ read.now) }
+    ensures bound { OnOk result (length bytes.new.items ≤ 1048576) }
+{
+    if bytes.extend_from_slice(read).is_err() {
+        return Err(Stop::Memory);
     }
-    Ok(None)
+    if bytes.len() > PLAN_LIMIT {
+        return Err(Stop::TooMuch);
+    }
+    Ok(())
 }
 
-/// The request that a plan's file writes.
+/// All bytes of a plan's file, at most a mebibyte.
+fn read_text<R: Source>(alloc: Global, source: &mut R) -> Result<Vec<u8>, Stop>
+    ensures { IfOk result (λ bytes. length bytes.items ≤ 1048576) }
+{
+    let Ok(mut piece) = vec![in alloc; 0; PIECE] else {
+        return Err(Stop::Memory);
+    };
+    let mut bytes = Vec::new(alloc);
+    for _ in 0..=PLAN_LIMIT {
+        let Ok(count) = source.read(piece.as_mut_slice()) else {
+            return Err(Stop::ReadFailed);
+        };
+        add_read(&mut bytes, &piece[..count])?;
+        if count == 0 {
+            return Ok(bytes);
+        }
+    }
+    Err(Stop::TooMuch)
+}
+
+/// A reader of the file with this name.
+fn open<F: Sources>(alloc: Global, files: &mut F, name: &str) -> Result<F::Reader, CommandFault> {
+    match files.reader(name) {
+        Ok(reader) => Ok(reader),
+        Err(cause) => Err(CommandFault::file(alloc, name, cause)),
+    }
+}
+
+/// The fault of a file whose reading stopped before its end, which may have so many bytes.
+pub fn stopped<R: InputFile>(
+    alloc: Global,
+    name: &str,
+    reader: &R,
+    stop: Stop,
+    limit: u64,
+) -> CommandFault {
+    match stop {
+        Stop::Memory => CommandFault::Memory,
+        Stop::TooMuch => CommandFault::file(alloc, name, FileCause::TooLong(limit)),
+        _ => CommandFault::file(alloc, name, reader.cause()),
+    }
+}
+
+/// The request that a text writes. Where it is no plan's text, the fault says why.
+fn request_of(alloc: Global, text: &str) -> Result<Request, CommandFault> {
+    match Request::read(alloc, text) {
+        Ok(request) => Ok(request),
+        Err(PlanFault::BadText) => match text_cause(alloc, text)? {
+            Some(cause) => Err(CommandFault::PlanCause(PlanFault::BadText, cause)),
+            None => Err(CommandFault::from(PlanFault::BadText)),
+        },
+        Err(fault) => Err(CommandFault::from(fault)),
+    }
+}
+
+/// The request that a plan's file writes, and which file that is.
 fn read_request<F: Sources>(
     alloc: Global,
     files: &mut F,
     name: &str,
-) -> Result<Request, CommandFault> {
-    let Some(mut source) = files.reader(name) else {
-        return Err(CommandFault::file(alloc, name));
-    };
-    let Some(bytes) = read_all(alloc, &mut source)? else {
-        return Err(CommandFault::file(alloc, name));
-    };
-    let Ok(text) = str::from_utf8(&bytes) else {
-        return Err(CommandFault::Plan(PlanFault::BadText));
-    };
-    Ok(Request::read(alloc, text)?)
+) -> Result<(Request, Option<FileIdentity>), CommandFault> {
+    let mut source = open(alloc, files, name)?;
+    match read_text(alloc, &mut source) {
+        Ok(bytes) => match str::from_utf8(&bytes) {
+            Ok(text) => Ok((request_of(alloc, text)?, source.identity())),
+            Err(_) => Err(CommandFault::from(PlanFault::BadText)),
+        },
+        Err(stop) => Err(stopped(alloc, name, &source, stop, PLAN_LIMIT as u64)),
+    }
 }
 
 /// Pushes the packet of an item, where it is one, and answers whether all that is wanted was found.
@@ -78,77 +138,93 @@ fn push_told<R: Source>(
     Ok(false)
 }
 
-/// Reads an input until all that is wanted was found or it ends, and answers whether it could be read: it can't where a read
-/// fails, or where it is too long.
+/// Reads an input until all that is wanted was found or it ends. The answer is its reader, and why it couldn't be read, if it
+/// couldn't.
 fn read_tables<R: Source + Drop>(
     alloc: Global,
     acquire: &mut Acquire,
     source: R,
-) -> Result<bool, AllocError> {
+) -> Result<(R, Option<Stop>), AllocError> {
     let mut piece = vec![in alloc; 0; PIECE]?;
     let mut stream = StreamReader::new(alloc, source, INPUT_LIMIT);
     loop {
         if push_told(acquire, &mut stream)? || stream.is_over() {
-            return Ok(true);
+            return Ok((stream.into_source(), None));
         }
-        match stream.read(piece.as_mut_slice()) {
-            Ok(()) => {}
-            Err(Stop::Memory) => return Err(AllocError),
-            Err(_) => return Ok(false),
+        if let Err(stop) = stream.read(piece.as_mut_slice()) {
+            return Ok((stream.into_source(), Some(stop)));
         }
     }
 }
 
-/// What is found in an input.
+/// What is found in an input, and its reader.
 fn find<F: Sources>(
     alloc: Global,
     files: &mut F,
     request: &Request,
     input: usize,
     name: &str,
-) -> Result<Found, CommandFault> {
-    let Some(source) = files.reader(name) else {
-        return Err(CommandFault::file(alloc, name));
-    };
+) -> Result<(Found, F::Reader), CommandFault> {
+    let source = open(alloc, files, name)?;
     let mut acquire = seek(alloc, request, input)?;
-    if read_tables(alloc, &mut acquire, source)? {
-        Ok(acquire.found())
-    } else {
-        Err(CommandFault::file(alloc, name))
+    let (reader, stop) = read_tables(alloc, &mut acquire, source)?;
+    match stop {
+        None => Ok((acquire.found(), reader)),
+        Some(stop) => Err(stopped(alloc, name, &reader, stop, INPUT_LIMIT)),
     }
+}
+
+/// Whether programs are sought in an input that has none of them, and that doesn't look like packets of 188 bytes.
+fn is_no_stream(found: &Found, shape: StreamShape) -> bool {
+    !found.pmts.is_empty()
+        && found.pmts.iter().all(|pmt| pmt.is_none())
+        && shape != StreamShape::Packets(188)
+}
+
+/// The fault of a plan. Where a program isn't there, and an input has none of those that are sought in it, it says what that
+/// input looks like, if that is no stream of packets.
+fn plan_fault<R: InputFile>(
+    alloc: Global,
+    fault: PlanFault,
+    request: &Request,
+    found: &[Found],
+    readers: &[R],
+) -> Result<CommandFault, AllocError> {
+    let read = found.iter().zip(readers.iter());
+    for (number, (input, (found, reader))) in request.inputs().iter().zip(read).enumerate() {
+        let shape = shape_of(reader.head());
+        if fault == PlanFault::NoProgram && is_no_stream(found, shape) {
+            let file = &input.file;
+            let cause = format!(in alloc; "input {number}, {file}: {shape}")?;
+            return Ok(CommandFault::PlanCause(fault, cause));
+        }
+    }
+    Ok(CommandFault::from(fault))
 }
 
 /// The plan in the file with this name, made by what is found in its inputs, each of which is read from its beginning.
 ///
-/// The first fault ends it: of the plan's file, of its text, of the inputs in their order, and of the plan.
+/// The first fault ends it: of the plan's file, which may have 1,048,576 bytes; of its text; of the inputs in their order; and
+/// of the plan.
 pub fn read_plan<F: Sources>(
     alloc: Global,
     files: &mut F,
     name: &str,
-) -> Result<Plan, CommandFault> {
-    let request = read_request(alloc, files, name)?;
+) -> Result<ReadPlan<F::Reader>, CommandFault> {
+    let (request, identity) = read_request(alloc, files, name)?;
     let mut found = Vec::new(alloc);
-    for (number, input) in request.inputs().iter().enumerate() {
-        found.push(find(alloc, files, &request, number, input.file.as_str())?)?;
-    }
-    Ok(Plan::build(alloc, &request, &found)?)
-}
-
-/// A reader of each input of a plan.
-pub fn open_inputs<F: Sources>(
-    alloc: Global,
-    files: &mut F,
-    plan: &Plan,
-) -> Result<Vec<F::Reader>, CommandFault>
-    ensures { IfOk result (λ readers. length readers.items ≡ length plan.now.request.inputs) }
-{
     let mut readers = Vec::new(alloc);
-    for input in plan.inputs() {
-        let name = input.file.as_str();
-        let Some(reader) = files.reader(name) else {
-            return Err(CommandFault::file(alloc, name));
-        };
+    for (number, input) in request.inputs().iter().enumerate() {
+        let (tables, reader) = find(alloc, files, &request, number, input.file.as_str())?;
+        found.push(tables)?;
         readers.push(reader)?;
     }
-    Ok(readers)
+    match Plan::build(alloc, &request, &found) {
+        Ok(plan) => Ok(ReadPlan {
+            plan,
+            plan_file: identity,
+            readers,
+        }),
+        Err(fault) => Err(plan_fault(alloc, fault, &request, &found, &readers)?),
+    }
 }

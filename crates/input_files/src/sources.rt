@@ -1,11 +1,19 @@
 //! Where the files that a command reads come from.
 
-use reading::Source;
+use crate::input_file::InputFile;
+use messages::FileCause;
 
 /// Gives readers for names, so that a test can stand in for the system's files.
 pub trait Sources {
-    type Reader: Source + Drop;
+    /// What a plan's file is read from, and an input whose tables are sought.
+    type Reader: InputFile + Drop;
 
-    /// A reader of the file with this name, from its beginning; none where it can't be opened.
-    fn reader(&mut self, name: &str) -> Option<Self::Reader>;
+    /// What an input is read from in the run.
+    type Again: InputFile + Drop;
+
+    /// A reader of the file with this name, from its beginning.
+    fn reader(&mut self, name: &str) -> Result<Self::Reader, FileCause>;
+
+    /// A reader of the same file, from its beginning again. `first` has read some of it.
+    fn again(&mut self, name: &str, first: Option<Self::Reader>) -> Result<Self::Again, FileCause>;
 }

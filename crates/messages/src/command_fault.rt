@@ -1,5 +1,6 @@
 //! Why a command fails.
 
+use crate::file_cause::FileCause;
 use request::PlanFault;
 use std::alloc::{AllocError, AllocFailed, Global};
 use std::io;
@@ -9,19 +10,31 @@ use std::io;
 pub enum CommandFault {
     /// The plan is refused, for another reason than want of memory.
     Plan(PlanFault),
-    /// The file with this name can't be opened, read or written, or is too long; or it is to be written and is read.
-    File(String),
+    /// The same, with its cause in words.
+    PlanCause(PlanFault, String),
+    /// The file with this name fails.
+    File(String, FileCause),
     /// What is printed can't be written.
-    Print,
+    Print(io::Error),
     /// There is no memory.
     Memory,
 }
 
+/// Prints the line of a plan's fault, and a second one that says it in words.
+fn print_plan_fault<E: io::Write>(fault: &PlanFault, err: &mut E) -> io::Result<()> {
+    let number = fault.number();
+    writeln!(err, "fault {number} {fault:?}")?;
+    writeln!(err, "{fault}")
+}
+
 impl CommandFault {
     /// That of a file.
-    pub fn file(alloc: Global, name: &str) -> CommandFault {
+    pub fn file(alloc: Global, name: &str, cause: FileCause) -> CommandFault {
+        if cause.is_memory() {
+            return CommandFault::Memory;
+        }
         match String::from_str(alloc, name) {
-            Ok(name) => CommandFault::File(name),
+            Ok(name) => CommandFault::File(name, cause),
             Err(_) => CommandFault::Memory,
         }
     }
@@ -29,21 +42,28 @@ impl CommandFault {
     /// The status with which the program ends.
     pub fn status(&self) -> u8 {
         match self {
-            CommandFault::Plan(_) => 3,
-            CommandFault::File(_) | CommandFault::Print => 4,
+            CommandFault::Plan(_) | CommandFault::PlanCause(..) => 3,
+            CommandFault::File(..) | CommandFault::Print(_) => 4,
             CommandFault::Memory => 5,
         }
     }
 
-    /// Prints the fault's line.
+    /// Prints the fault's line, and after that of a plan or a file a second one that says it in words.
     pub fn print<E: io::Write>(&self, err: &mut E) -> io::Result<()> {
         match self {
-            CommandFault::Plan(fault) => {
-                let number = fault.number();
-                writeln!(err, "fault {number} {fault:?}")
+            CommandFault::Plan(fault) => print_plan_fault(fault, err),
+            CommandFault::PlanCause(fault, cause) => {
+                print_plan_fault(fault, err)?;
+                writeln!(err, "{cause}")
             }
-            CommandFault::File(name) => writeln!(err, "fault file {name}"),
-            CommandFault::Print => writeln!(err, "fault file standard output"),
+            CommandFault::File(name, cause) => {
+                writeln!(err, "fault file {name}")?;
+                writeln!(err, "{name}: {cause}")
+            }
+            CommandFault::Print(error) => {
+                writeln!(err, "fault file standard output")?;
+                writeln!(err, "standard output: it can't be written: {error}")
+            }
             CommandFault::Memory => writeln!(err, "fault memory"),
         }
     }
@@ -59,8 +79,8 @@ impl From<PlanFault> for CommandFault {
 }
 
 impl From<io::Error> for CommandFault {
-    fn from(_error: io::Error) -> CommandFault {
-        CommandFault::Print
+    fn from(error: io::Error) -> CommandFault {
+        CommandFault::Print(error)
     }
 }
 

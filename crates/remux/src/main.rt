@@ -5,15 +5,16 @@
 #![tactic(auto)]
 
 mod commands;
-mod files;
 mod printing;
-mod system_files;
+mod run_command;
 #[cfg(test)]
 mod tests;
 
-use crate::system_files::SystemFiles;
+use files::SystemFiles;
 use messages::CommandFault;
+use std::fs::OpenOptions;
 use std::io::{BufWriter, ErrorKind, Write};
+use std::os::fd::{AsRawFd, IntoRawFd};
 use std::process::ExitCode;
 use std::rt::Env;
 use std::{env, io};
@@ -28,7 +29,10 @@ fn no_words<E: Write>(error: &io::Error, err: &mut E) -> u8 {
     if error.kind() == ErrorKind::OutOfMemory {
         return no_memory(err);
     }
-    let _ = writeln!(err, "error: a word of the command line is no text");
+    let _ = writeln!(
+        err,
+        "error: a word of the command line is not UTF-8 text; file names have to be UTF-8 here"
+    );
     2
 }
 
@@ -38,7 +42,26 @@ fn no_memory<E: Write>(err: &mut E) -> u8 {
     CommandFault::Memory.status()
 }
 
+/// Opens the null device, and keeps it open where its number is at most this one.
+fn open_null(rt: &HostRuntime, how: &OpenOptions, most: i32) {
+    match how.open(rt, "/dev/null") {
+        Ok(file) if file.as_raw_fd() <= most => {
+            let _ = file.into_raw_fd();
+        }
+        _ => {}
+    }
+}
+
+/// Takes the numbers of standard input, output and error where they are closed, so that no file that is opened later gets them.
+/// Each use fails as that of a closed file does, since input is opened to be written, and the other two to be read.
+fn open_standard_files(rt: &HostRuntime) {
+    open_null(rt, OpenOptions::new().write(true), 0);
+    open_null(rt, OpenOptions::new().read(true), 2);
+    open_null(rt, OpenOptions::new().read(true), 2);
+}
+
 fn main(rt: HostRuntime) -> ExitCode {
+    open_standard_files(&rt);
     let mut err = rt.stderr();
     let words = match words(&rt) {
         Ok(words) => words,
@@ -47,7 +70,7 @@ fn main(rt: HostRuntime) -> ExitCode {
     let Ok(mut out) = BufWriter::new(rt.alloc(), rt.stdout()) else {
         return ExitCode::from(no_memory(&mut err));
     };
-    let mut files = SystemFiles { rt: &rt };
+    let mut files = SystemFiles::new(rt.alloc(), &rt, rt.stdout());
     let (status, _) = commands::command(rt.alloc(), &words, &mut files, &mut out, &mut err);
     ExitCode::from(status)
 }

@@ -12,12 +12,14 @@ const EXAMPLE: &str = "Example, from the top of the repository:
   ./remux run --plan examples/plan.toml --out out.ts
   ./remux analyse --rate 3000000 --period 5000 out.ts
 
-Status: 0 success, 1 analyse told a fault, 2 refused words, 3 refused plan, 4 a file that failed, 5 want of memory.";
+Status: 0 success, 1 analyse reported a fault, 2 refused words, 3 refused plan, 4 a file that failed, 5 out of memory.";
 
 const RUN_USAGE: &str =
     "remux run --plan <F> --out <F> [--slots <N> | --all] [--serial] [--delays]";
 
-const RUN_EXAMPLE: &str = "It prints a line for each input and one for the output.
+const RUN_EXAMPLE: &str =
+    "It prints a line for each input and one for the output, on standard error where the multiplex goes to standard output.
+The output is written as its name with .part, and gets its name when the run has ended well.
 
 With --all the run goes on until its inputs end, whatever its length; it takes no more memory than a short one.
 
@@ -79,7 +81,8 @@ fn plan<'a>(alloc: Global) -> Arg<'a> {
 
 /// The option `--out F`.
 fn out<'a>(alloc: Global) -> Arg<'a> {
-    let help = "The file that the multiplex is written to, none of those that are read";
+    let help =
+        "The file that the multiplex is written to, none of those that are read; - is standard output";
     file(alloc, "out", help).long("out")
 }
 
@@ -102,7 +105,7 @@ fn rate<'a>(alloc: Global) -> Arg<'a> {
 
 /// The option `--period N`.
 fn period<'a>(alloc: Global) -> Arg<'a> {
-    let help = "After how many packets the absence of a PID is told, 1 to 1000000";
+    let help = "After how many packets the absence of a PID is reported, 1 to 1000000";
     number(alloc, "period", help, 1, MOST_SLOTS).required(true)
 }
 
@@ -141,8 +144,8 @@ fn check_command<'a>(alloc: Global) -> Result<Command<'a>, AllocError> {
 }
 
 fn analyse_command<'a>(alloc: Global) -> Result<Command<'a>, AllocError> {
-    let about = "Tells the faults of a stream";
-    let stream = "The stream's file: packets of 188 bytes from its start";
+    let about = "Reports the faults of a stream";
+    let stream = "The stream's file: packets of 188 bytes from its start; - is standard input";
     command(alloc, "analyse", about, ANALYSE_USAGE, ANALYSE_EXAMPLE)
         .arg(rate(alloc))?
         .arg(period(alloc))?

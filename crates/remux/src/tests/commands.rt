@@ -5,10 +5,9 @@ use crate::tests::memory_files::{Done, MemoryFiles, does};
 use crate::tests::runs::marks_of;
 use anyhow::Result;
 use example::{eight_packets, service};
-use messages::CommandFault;
+use messages::{CommandFault, FileCause};
 use request::PlanFault;
 use std::alloc::{AllocError, Global};
-use std::ops::Range;
 use std::process::Abort;
 use std::test::Fail;
 
@@ -45,6 +44,9 @@ pub fn ends(rt: &impl Abort, done: &Done, status: u8, out: &str, err: &str) {
     assert_eq!(rt; done.status, status);
 }
 
+/// What a run says whose inputs were read to their ends.
+pub const ENDED: &str = "end: all inputs ended\n";
+
 pub const LINES: &str =
     "input 0 framed 8 malformed 0 unmapped 3 bad 0 losses 0 lost 0 taken 5 sent 5 queued 0
 slots 9 tables 3 elementary 5 null 1 faults 0
@@ -53,7 +55,7 @@ slots 9 tables 3 elementary 5 null 1 faults 0
 /// The run of the example ends well, and prints its lines.
 fn prints_its_lines(rt: &impl Abort, alloc: Global, words: &[&str]) -> Result<(), AllocError> {
     let done = does(alloc, words, &mut files(alloc)?)?;
-    ends(rt, &done, 0, LINES, "");
+    ends(rt, &done, 0, LINES, ENDED);
     assert_eq!(rt; done.written_len(), Some(1_692));
     Ok(())
 }
@@ -74,7 +76,13 @@ fn a_run_has_the_slots_that_are_asked_for(rt: HostRuntime) -> Result<(), Fail> {
         "input 0 framed 4 malformed 0 unmapped 3 bad 0 losses 0 lost 0 taken 1 sent 0 queued 1
 slots 3 tables 2 elementary 0 null 1 faults 0
 ";
-    ends(&rt, &done, 0, lines, "");
+    ends(
+        &rt,
+        &done,
+        0,
+        lines,
+        "end: the slot limit: input 0 was read to 50 %\n",
+    );
     assert_eq!(rt; done.written_len(), Some(564));
     Ok(())
 }
@@ -177,18 +185,54 @@ fn without_words_the_stored_run_is_made(rt: HostRuntime) -> Result<(), Fail> {
 }
 
 const PLAN_FAULTS: [(PlanFault, &str); 12] = [
-    (PlanFault::BadText, "fault 1 BadText\n"),
-    (PlanFault::OutOfRange, "fault 2 OutOfRange\n"),
-    (PlanFault::ServiceTaken, "fault 3 ServiceTaken\n"),
-    (PlanFault::PidTaken, "fault 4 PidTaken\n"),
-    (PlanFault::NoProgram, "fault 5 NoProgram\n"),
-    (PlanFault::NoSdtRow, "fault 6 NoSdtRow\n"),
-    (PlanFault::CaFound, "fault 7 CaFound\n"),
-    (PlanFault::RateMissing, "fault 8 RateMissing\n"),
-    (PlanFault::StreamUnknown, "fault 9 StreamUnknown\n"),
-    (PlanFault::TooLarge, "fault 10 TooLarge\n"),
-    (PlanFault::RoundTooLong, "fault 11 RoundTooLong\n"),
-    (PlanFault::PeriodTooLong, "fault 12 PeriodTooLong\n"),
+    (
+        PlanFault::BadText,
+        "fault 1 BadText\nthe text is no plan: it isn't TOML, or a key is missing, unknown or of another type\n",
+    ),
+    (
+        PlanFault::OutOfRange,
+        "fault 2 OutOfRange\na value of the plan is out of its range\n",
+    ),
+    (
+        PlanFault::ServiceTaken,
+        "fault 3 ServiceTaken\ntwo services have one number\n",
+    ),
+    (
+        PlanFault::PidTaken,
+        "fault 4 PidTaken\na PID is used twice\n",
+    ),
+    (
+        PlanFault::NoProgram,
+        "fault 5 NoProgram\na program is not in its input\n",
+    ),
+    (
+        PlanFault::NoSdtRow,
+        "fault 6 NoSdtRow\na service is not described in its input\n",
+    ),
+    (
+        PlanFault::CaFound,
+        "fault 7 CaFound\na service is scrambled\n",
+    ),
+    (
+        PlanFault::RateMissing,
+        "fault 8 RateMissing\na stream of a program has no row in the plan\n",
+    ),
+    (
+        PlanFault::StreamUnknown,
+        "fault 9 StreamUnknown\na row of the plan names a stream that is not in its program\n",
+    ),
+    (
+        PlanFault::TooLarge,
+        "fault 10 TooLarge\na table is too large for its section\n",
+    ),
+    (
+        PlanFault::RoundTooLong,
+        "fault 11 RoundTooLong\nthe tables do not fit into their period\n",
+    ),
+    (
+        PlanFault::PeriodTooLong,
+        "fault 12 PeriodTooLong\nthe period of the tables is too long\n",
+    ),
 ];
 
 /// A fault has this status and line.
@@ -205,11 +249,20 @@ fn each_fault_has_its_status_and_line(rt: HostRuntime) -> Result<(), Fail> {
     for (fault, line) in PLAN_FAULTS {
         tells(&rt, alloc, CommandFault::from(fault), 3, line);
     }
-    let file = CommandFault::file(alloc, "a b.ts");
-    tells(&rt, alloc, file, 4, "fault file a b.ts\n");
+    let file = CommandFault::file(alloc, "a b.ts", FileCause::TooLong(188));
+    let lines = "fault file a b.ts\na b.ts: it has more than 188 bytes\n";
+    tells(&rt, alloc, file, 4, lines);
     let memory = CommandFault::from(PlanFault::Memory);
     tells(&rt, alloc, memory, 5, "fault memory\n");
     Ok(())
+}
+
+/// A command ends with status 3, and this is the first line of its fault.
+fn is_refused(rt: &impl Abort, done: &Done, fault: &str) {
+    let (out, err) = done.texts();
+    assert!(rt; err.starts_with(fault), "another fault");
+    assert_eq!(rt; out, "");
+    assert_eq!(rt; done.status, 3);
 }
 
 /// What a plan's text is refused for, over these files besides.
@@ -221,7 +274,7 @@ fn refuses(
 ) -> Result<(), AllocError> {
     files.add("p.toml", text)?;
     let words = ["check", "--plan", "p.toml"];
-    ends(rt, &does(files.alloc, &words, &mut files)?, 3, "", fault);
+    is_refused(rt, &does(files.alloc, &words, &mut files)?, fault);
     Ok(())
 }
 
@@ -291,29 +344,34 @@ fn fails(
     Ok(())
 }
 
+const NO_PLAN: &str = "fault file x.toml\nx.toml: it can't be opened: entity not found\n";
+
+const PLAN_UNREAD: &str = "fault file x.toml\nx.toml: it can't be read: other error\n";
+
+const INPUT_UNOPENED: &str = "fault file x.ts\nx.ts: it can't be opened: other error\n";
+
+const INPUT_UNREAD: &str = "fault file x.ts\nx.ts: it can't be read: other error\n";
+
 #[test]
 fn files_that_fail_are_named(rt: HostRuntime) -> Result<(), Fail> {
     let alloc = rt.alloc();
-    fails(&rt, &CHECK, MemoryFiles::new(alloc)?, "fault file x.toml\n")?;
+    fails(&rt, &CHECK, MemoryFiles::new(alloc)?, NO_PLAN)?;
     let mut unread = files(alloc)?;
     for file in unread.files.iter_mut() {
         for reader in file.readers.iter_mut() {
             reader.fails = true;
         }
     }
-    fails(&rt, &CHECK, unread, "fault file x.toml\n")?;
-    fails(&rt, &CHECK, with_readers(alloc, &[])?, "fault file x.ts\n")?;
+    fails(&rt, &CHECK, unread, PLAN_UNREAD)?;
+    fails(&rt, &CHECK, with_readers(alloc, &[])?, INPUT_UNOPENED)?;
     let mut full = files(alloc)?;
     full.output = None;
-    fails(&rt, &RUN, full, "fault file out.ts\n")?;
+    let unmade = "fault file out.ts\nout.ts: it can't be opened: other error\n";
+    fails(&rt, &RUN, full, unmade)?;
     let words = ["analyse", "--rate", "1504000", "--period", "1", "y.ts"];
-    fails(&rt, &words, files(alloc)?, "fault file y.ts\n")?;
-    fails(
-        &rt,
-        &ANALYSE,
-        with_readers(alloc, &[true])?,
-        "fault file x.ts\n",
-    )?;
+    let unknown = "fault file y.ts\ny.ts: it can't be opened: entity not found\n";
+    fails(&rt, &words, files(alloc)?, unknown)?;
+    fails(&rt, &ANALYSE, with_readers(alloc, &[true])?, INPUT_UNREAD)?;
     Ok(())
 }
 
@@ -322,7 +380,7 @@ fn files_that_fail_are_named(rt: HostRuntime) -> Result<(), Fail> {
 fn an_input_is_opened_twice(rt: HostRuntime) -> Result<(), Fail> {
     let mut once = with_readers(rt.alloc(), &[false])?;
     once.output = None;
-    fails(&rt, &RUN, once, "fault file x.ts\n")?;
+    fails(&rt, &RUN, once, INPUT_UNOPENED)?;
     Ok(())
 }
 
@@ -331,27 +389,59 @@ fn run_to<'a>(name: &'a str) -> [&'a str; 5] {
     ["run", "--plan", "x.toml", "--out", name]
 }
 
-/// What is read isn't overwritten: the plan, and the input. The fault comes in the place of an output that can't be made,
-/// behind an input that can't be opened again. Names are compared as they are given.
+/// What is read isn't overwritten: the plan, and the input, under their names and others. The fault comes in the place of an
+/// output that can't be made, behind an input that can't be opened again.
 #[test]
 fn the_output_is_none_of_the_files_that_are_read(rt: HostRuntime) -> Result<(), Fail> {
     let alloc = rt.alloc();
-    fails(&rt, &run_to("x.toml"), files(alloc)?, "fault file x.toml\n")?;
-    fails(&rt, &run_to("x.ts"), files(alloc)?, "fault file x.ts\n")?;
+    for name in ["x.toml", "./x.toml", "x.ts", "./x.ts"] {
+        let refused = format!(in alloc;
+            "fault file {name}\n{name}: it is the plan's file or an input; the output has to be another file\n"
+        )?;
+        fails(&rt, &run_to(name), files(alloc)?, refused.as_str())?;
+    }
     let once = with_readers(alloc, &[false])?;
-    fails(&rt, &run_to("x.toml"), once, "fault file x.ts\n")?;
-    prints_its_lines(&rt, alloc, &run_to("./x.ts"))?;
+    fails(&rt, &run_to("x.toml"), once, INPUT_UNOPENED)?;
+    Ok(())
+}
+
+/// The multiplex goes to standard output, and the lines of the run to standard error.
+#[test]
+fn standard_output_has_the_multiplex_alone(rt: HostRuntime) -> Result<(), Fail> {
+    let done = does(rt.alloc(), &run_to("-"), &mut files(rt.alloc())?)?;
+    let told = format!(in rt.alloc(); "{LINES}{ENDED}")?;
+    ends(&rt, &done, 0, "", told.as_str());
+    assert_eq!(rt; done.written_len(), Some(1_692));
+    Ok(())
+}
+
+/// A plan's file of a mebibyte is read, and one of a byte more isn't.
+#[test]
+fn a_plan_of_more_than_a_mebibyte_is_refused(rt: HostRuntime) -> Result<(), Fail> {
+    let alloc = rt.alloc();
+    let words = ["check", "--plan", "p.toml"];
+    let blanks = vec![in alloc; b' '; 1_048_577]?;
+    let mut longest = MemoryFiles::new(alloc)?;
+    longest.add("p.toml", blanks.get(1..).unwrap_or(&[]))?;
+    let read = does(alloc, &words, &mut longest)?;
+    is_refused(&rt, &read, "fault 1 BadText\n");
+    let mut longer = MemoryFiles::new(alloc)?;
+    longer.add("p.toml", &blanks)?;
+    let refused = "fault file p.toml\np.toml: it has more than 1048576 bytes\n";
+    fails(&rt, &words, longer, refused)?;
     Ok(())
 }
 
 /// An input that fails while its tables are sought ends the command; one that fails in the run is told behind the lines. The
-/// tables stand before the end of the first reader, which then fails no more.
+/// tables stand before the end of the first reader, which then fails no more. The output of such a run doesn't get its name.
 #[test]
 fn an_input_that_fails_in_the_run_is_told_at_its_end(rt: HostRuntime) -> Result<(), Fail> {
     let alloc = rt.alloc();
     let mut both = with_readers(alloc, &[true, true])?;
     let done = does(alloc, &RUN, &mut both)?;
-    ends(&rt, &done, 4, LINES, "fault file x.ts\n");
+    let told =
+        "fault file x.ts\nx.ts: it can't be read: other error\nend: input 0 failed\npart: the output so far\n";
+    ends(&rt, &done, 4, LINES, told);
     assert_eq!(rt; done.written_len(), Some(1_692));
     let mut early = with_readers(alloc, &[true, true])?;
     if let Some(reader) = early
@@ -361,20 +451,22 @@ fn an_input_that_fails_in_the_run_is_told_at_its_end(rt: HostRuntime) -> Result<
     {
         reader.bytes.truncate(564);
     }
-    fails(&rt, &RUN, early, "fault file x.ts\n")?;
+    fails(&rt, &RUN, early, INPUT_UNREAD)?;
     Ok(())
 }
 
 #[test]
 fn an_output_that_fails_leaves_its_beginning(rt: HostRuntime) -> Result<(), Fail> {
     let alloc = rt.alloc();
+    let told =
+        "fault file out.ts\nout.ts: it can't be written: other error\npart: the output so far\n";
     for room in [0, 100, 1_691] {
         let mut files = files(alloc)?;
         if let Some(output) = &mut files.output {
             output.room = room;
         }
         let done = does(alloc, &RUN, &mut files)?;
-        ends(&rt, &done, 4, "", "fault file out.ts\n");
+        ends(&rt, &done, 4, "", told);
         assert_eq!(rt; done.written_len(), Some(room));
     }
     Ok(())
@@ -399,9 +491,12 @@ fn runs_at_last(rt: &impl Abort, alloc: Global) -> Done {
 fn want_of_memory_is_told(rt: HostRuntime) {
     let first = runs_at_last(&rt, rt.alloc());
     let whole = runs_at_last(&rt, rt.alloc());
-    ends(&rt, &whole, 0, LINES, "");
+    ends(&rt, &whole, 0, LINES, ENDED);
     if first.status != 0 {
-        ends(&rt, &first, 5, "", "fault memory\n");
+        let (out, err) = first.texts();
+        assert_eq!(rt; out, "");
+        assert!(rt; err.starts_with("fault memory\n"), "another fault");
+        assert_eq!(rt; first.status, 5);
     }
     if let (Some(part), Some(whole)) = (&first.written, &whole.written) {
         assert!(rt; whole.starts_with(part), "another output");
@@ -429,81 +524,35 @@ slots {slots} tables {tables} elementary {taken} null 1 faults 0
 }
 
 /// A run over the example's input, cut to so many bytes: its output is a beginning of the whole one.
-fn runs_cut(
-    rt: &impl Abort,
-    alloc: Global,
-    words: &[&str],
-    cut: usize,
-    whole: &[u8],
-) -> Result<(), AllocError> {
-    let done = does(alloc, words, &mut cut_files(alloc, cut)?)?;
+fn runs_cut(rt: &impl Abort, alloc: Global, cut: usize, whole: &[u8]) -> Result<(), AllocError> {
+    let done = does(alloc, &RUN, &mut cut_files(alloc, cut)?)?;
     if cut < 753 {
-        ends(rt, &done, 3, "", "fault 5 NoProgram\n");
+        is_refused(rt, &done, "fault 5 NoProgram\n");
         assert_eq!(rt; done.written_len(), None);
         return Ok(());
     }
-    ends(rt, &done, 0, cut_lines(alloc, cut)?.as_str(), "");
+    ends(rt, &done, 0, cut_lines(alloc, cut)?.as_str(), ENDED);
     let (slots, _, _) = cut_slots(cut);
     let begins = done.written.as_deref() == whole.get(..slots.saturating_mul(188));
     assert!(rt; begins, "another output at {cut}");
     Ok(())
 }
 
-/// Runs over the example's input, cut to each of these lengths.
-fn runs_cuts(
-    rt: &impl Abort,
-    alloc: Global,
-    words: &[&str],
-    cuts: Range<usize>,
-) -> Result<(), Fail> {
-    let whole = does(alloc, words, &mut files(alloc)?)?;
-    let whole = whole.written.ok_or("no output")?;
-    for cut in cuts {
-        runs_cut(rt, alloc, words, cut, &whole)?;
+/// Lengths of the example's input: those round the ends of its packets, and round the fifth sync byte, with which its tables are
+/// found.
+const CUTS: [usize; 21] = [
+    0, 1, 187, 188, 189, 564, 751, 752, 753, 754, 939, 940, 941, 1_127, 1_128, 1_129, 1_250, 1_316,
+    1_317, 1_503, 1_504,
+];
+
+#[test]
+fn an_input_may_end_anywhere(rt: HostRuntime) -> Result<(), Fail> {
+    let alloc = rt.alloc();
+    let whole = runs(alloc)?.written.ok_or("no output")?;
+    for cut in CUTS {
+        runs_cut(&rt, alloc, cut, &whole)?;
     }
     Ok(())
-}
-
-#[test]
-fn an_input_may_end_before_its_tables_are_found(rt: HostRuntime) -> Result<(), Fail> {
-    runs_cuts(&rt, rt.alloc(), &RUN, 0..753)
-}
-
-#[test]
-fn an_input_may_end_early(rt: HostRuntime) -> Result<(), Fail> {
-    runs_cuts(&rt, rt.alloc(), &RUN, 753..1_000)
-}
-
-#[test]
-fn an_input_may_end_midway(rt: HostRuntime) -> Result<(), Fail> {
-    runs_cuts(&rt, rt.alloc(), &RUN, 1_000..1_250)
-}
-
-#[test]
-fn an_input_may_end_late(rt: HostRuntime) -> Result<(), Fail> {
-    runs_cuts(&rt, rt.alloc(), &RUN, 1_250..1_505)
-}
-
-#[test]
-fn an_input_of_a_serial_run_may_end_before_its_tables_are_found(
-    rt: HostRuntime,
-) -> Result<(), Fail> {
-    runs_cuts(&rt, rt.alloc(), &RUN_SERIAL, 0..753)
-}
-
-#[test]
-fn an_input_of_a_serial_run_may_end_early(rt: HostRuntime) -> Result<(), Fail> {
-    runs_cuts(&rt, rt.alloc(), &RUN_SERIAL, 753..1_000)
-}
-
-#[test]
-fn an_input_of_a_serial_run_may_end_midway(rt: HostRuntime) -> Result<(), Fail> {
-    runs_cuts(&rt, rt.alloc(), &RUN_SERIAL, 1_000..1_250)
-}
-
-#[test]
-fn an_input_of_a_serial_run_may_end_late(rt: HostRuntime) -> Result<(), Fail> {
-    runs_cuts(&rt, rt.alloc(), &RUN_SERIAL, 1_250..1_505)
 }
 
 /// The output of the example's run is the slots in their order, with the counters of the input.

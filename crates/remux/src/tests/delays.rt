@@ -5,7 +5,7 @@
 //! time, or has ended, or found a queue full; so no packet is taken before a slot asks for it.
 
 use crate::commands::command;
-use crate::tests::commands::{LINES, ends, files, with_readers};
+use crate::tests::commands::{ENDED, LINES, ends, files, with_readers};
 use crate::tests::devices::TestWriter;
 use crate::tests::memory_files::{MemoryFiles, does};
 use example::{add_packets, eight_packets, input, service, settings};
@@ -17,7 +17,17 @@ const RUN: [&str; 6] = ["run", "--plan", "x.toml", "--out", "out.ts", "--delays"
 /// What is told of the example's run. Packets 3 to 7 are the stream's, and go out in the slots 3, 5, 6, 7 and 8, since slot 4
 /// is of a table: the first without a delay, each other a slot of 27,000 ticks late. Slot 5 asks for packet 6, and then the
 /// packets 4, 5 and 6 wait, of which it sends one; slot 6 asks for packet 7, and three wait again; then the input has ended.
-const TOLD: &str = "stream 0x0200 input 0 pid 0x0101 delay 27000 queue 3\n";
+const TOLD: &str = "stream 0x0200 input 0 pid 0x0101 delay 27000 queue 3
+end: all inputs ended
+";
+
+/// The same of a run whose input fails at its end.
+const TOLD_OF_FAILED: &str = "stream 0x0200 input 0 pid 0x0101 delay 27000 queue 3
+fault file x.ts
+x.ts: it can't be read: other error
+end: input 0 failed
+part: the output so far
+";
 
 #[test]
 fn the_delay_of_a_stream_is_told(rt: HostRuntime) -> Result<(), Fail> {
@@ -96,7 +106,8 @@ fn overfull_files(alloc: Global) -> Result<MemoryFiles, AllocError> {
 
 /// Packet k of the input has 13,500 k + 718 ticks. Packet 3 goes out in slot 3, and packet 3 + j in slot 4 + j for each j
 /// from 1 to 19: its delay is 27,000 (4 + j) + 1,436 - 13,500 (3 + j) - 718 = 68,218 + 13,500 j ticks, more with each slot.
-/// From slot 3 on each slot finds the queue full, with 4 packets.
+/// From slot 3 on each slot finds the queue full, with 4 packets. The last of 14 slots sends packet 12, while 13, 14 and 15 wait
+/// behind it and 16 is held: 17 of 23 packets were read.
 #[test]
 fn an_overfull_plan_is_seen(rt: HostRuntime) -> Result<(), Fail> {
     let alloc = rt.alloc();
@@ -104,17 +115,21 @@ fn an_overfull_plan_is_seen(rt: HostRuntime) -> Result<(), Fail> {
         "input 0 framed 23 malformed 0 unmapped 3 bad 0 losses 0 lost 0 taken 20 sent 20 queued 0
 slots 24 tables 3 elementary 20 null 1 faults 0
 ";
-    let told = "stream 0x0200 input 0 pid 0x0101 delay 324718 queue 4\n";
+    let told = "stream 0x0200 input 0 pid 0x0101 delay 324718 queue 4
+end: all inputs ended
+";
     let whole = does(alloc, &RUN, &mut overfull_files(alloc)?)?;
     ends(&rt, &whole, 0, lines, told);
     let unasked = does(alloc, &RUN[..5], &mut overfull_files(alloc)?)?;
-    ends(&rt, &unasked, 0, lines, "");
+    ends(&rt, &unasked, 0, lines, ENDED);
     assert!(rt; unasked.written == whole.written, "another output");
     let shorter = [
         "run", "--plan", "x.toml", "--out", "out.ts", "--slots", "14", "--delays",
     ];
     let shorter = does(alloc, &shorter, &mut overfull_files(alloc)?)?;
-    let told = "stream 0x0200 input 0 pid 0x0101 delay 189718 queue 4\n";
+    let told = "stream 0x0200 input 0 pid 0x0101 delay 189718 queue 4
+end: the slot limit: input 0 was read to 73 %
+";
     assert_eq!(rt; shorter.texts().1, told);
     Ok(())
 }
@@ -143,6 +158,7 @@ slots 14 tables 4 elementary 9 null 1 faults 0
 ";
     let told = "stream 0x0200 input 0 pid 0x0101 delay 162000 queue 4
 stream 0x0201 input 1 pid 0x0101 delay 162000 queue 4
+end: all inputs ended
 ";
     ends(&rt, &does(alloc, &RUN, &mut files)?, 0, lines, told);
     Ok(())
@@ -153,8 +169,7 @@ stream 0x0201 input 1 pid 0x0101 delay 162000 queue 4
 fn a_failed_input_is_told_behind_the_delays(rt: HostRuntime) -> Result<(), Fail> {
     let alloc = rt.alloc();
     let done = does(alloc, &RUN, &mut with_readers(alloc, &[true, true])?)?;
-    let told = format!(in alloc; "{TOLD}fault file x.ts\n")?;
-    ends(&rt, &done, 4, LINES, told.as_str());
+    ends(&rt, &done, 4, LINES, TOLD_OF_FAILED);
     Ok(())
 }
 
@@ -171,7 +186,11 @@ fn delays_are_told_behind_the_lines_where_they_can_be(rt: HostRuntime) -> Result
     assert_eq!(rt; status, 0);
     let mut err = Vec::new(alloc);
     let (status, _) = command(alloc, &RUN, &mut files(alloc)?, &mut full, &mut err);
-    assert_eq!(rt; err.as_slice(), b"fault file standard output\n".as_slice());
+    let unprinted = "fault file standard output
+standard output: it can't be written: other error
+end: all inputs ended
+";
+    assert_eq!(rt; err.as_slice(), unprinted.as_bytes());
     assert_eq!(rt; status, 4);
     Ok(())
 }

@@ -1,27 +1,30 @@
 //! Files in memory, and whole commands over them.
 
 use crate::commands::command;
-use crate::files::Files;
 use crate::tests::devices::{TestReader, TestWriter};
-use input_files::Sources;
-use reading::ReadSource;
-use serial::WriteSink;
+use files::{FileWriter, Files};
+use input_files::{FileIdentity, FileReader, Sources};
+use messages::FileCause;
 use std::alloc::{AllocError, Global};
-use std::str;
+use std::io::ErrorKind;
+use std::{io, str};
 
 /// A file, with a reader for each time that it can be opened, the last one first.
 #[derive(Drop)]
 pub struct TestFile {
     pub name: &'static str,
     pub readers: Vec<TestReader>,
+    pub length: u64,
 }
 
-/// Files by their names, and the output; none where it can't be made.
+/// Files by their names, and the output; none where it can't be made. A name and the same behind `./` are one file.
 #[derive(Drop)]
 pub struct MemoryFiles {
     pub alloc: Global,
     pub files: Vec<TestFile>,
     pub output: Option<TestWriter>,
+    /// Whether the output was made, and hasn't its name yet.
+    pub is_partial: bool,
 }
 
 impl MemoryFiles {
@@ -31,6 +34,7 @@ impl MemoryFiles {
             alloc,
             files: Vec::new(alloc),
             output: Some(TestWriter::new(Vec::with_capacity(alloc, 4_096)?)),
+            is_partial: false,
         })
     }
 
@@ -40,29 +44,98 @@ impl MemoryFiles {
         for _ in 0..2 {
             readers.push(TestReader::new(bytes.to_vec(self.alloc)?))?;
         }
-        self.files.push(TestFile { name, readers })?;
+        let length = bytes.len() as u64;
+        self.files.push(TestFile {
+            name,
+            readers,
+            length,
+        })?;
         Ok(())
+    }
+
+    /// The place of the file with this name.
+    fn find(&self, name: &str) -> Option<usize> {
+        let name = name.strip_prefix("./").unwrap_or(name);
+        self.files.iter().position(|file| file.name == name)
+    }
+
+    /// The next reader of a file.
+    fn open(&mut self, name: &str) -> Result<FileReader<TestReader>, FileCause> {
+        let Some(place) = self.find(name) else {
+            return Err(FileCause::Open(io::Error::from(ErrorKind::NotFound)));
+        };
+        let Some(file) = self.files.get_mut(place) else {
+            return Err(FileCause::Open(other()));
+        };
+        match file.readers.pop() {
+            Some(reader) => Ok(FileReader::new(
+                self.alloc,
+                reader,
+                Some(identity(place)),
+                Some(file.length),
+            )),
+            None => Err(FileCause::Open(other())),
+        }
+    }
+}
+
+/// The failure of a device of the tests.
+fn other() -> io::Error {
+    io::Error::from(ErrorKind::Other)
+}
+
+/// The file at this place.
+fn identity(place: usize) -> FileIdentity {
+    FileIdentity {
+        device: 1,
+        number: place as u64,
     }
 }
 
 impl Sources for MemoryFiles {
-    type Reader = ReadSource<TestReader>;
+    type Reader = FileReader<TestReader>;
 
-    fn reader(&mut self, name: &str) -> Option<ReadSource<TestReader>> {
-        for file in self.files.iter_mut() {
-            if file.name == name {
-                return file.readers.pop().map(ReadSource::new);
-            }
-        }
-        None
+    type Again = FileReader<TestReader>;
+
+    fn reader(&mut self, name: &str) -> Result<FileReader<TestReader>, FileCause> {
+        self.open(name)
+    }
+
+    fn again(
+        &mut self,
+        name: &str,
+        _first: Option<FileReader<TestReader>>,
+    ) -> Result<FileReader<TestReader>, FileCause> {
+        self.open(name)
     }
 }
 
 impl Files for MemoryFiles {
-    type Writer = WriteSink<TestWriter>;
+    type Writer = FileWriter<TestWriter>;
 
-    fn writer(&mut self, _name: &str) -> Option<WriteSink<TestWriter>> {
-        self.output.take().map(WriteSink::new)
+    fn is_standard_output(&mut self, name: &str) -> bool {
+        name == "-"
+    }
+
+    fn output_identity(&mut self, name: &str) -> Option<FileIdentity> {
+        Some(identity(self.find(name)?))
+    }
+
+    fn writer(&mut self, name: &str) -> Result<FileWriter<TestWriter>, FileCause> {
+        let Some(output) = self.output.take() else {
+            return Err(FileCause::Open(other()));
+        };
+        self.is_partial = name != "-";
+        Ok(FileWriter::new(output))
+    }
+
+    fn complete(&mut self) -> Result<(), FileCause> {
+        self.is_partial = false;
+        Ok(())
+    }
+
+    fn partial(&self) -> Option<&str> {
+        if self.is_partial { Some("part") } else { None }
     }
 }
 

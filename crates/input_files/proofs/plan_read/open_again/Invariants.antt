@@ -1,5 +1,5 @@
 use Rattle.std.proofs.Common.{◌≡◌, length}
-use Rattle.input_files.proofs.plan_files.open_inputs.Given as goal
+use Rattle.input_files.proofs.plan_read.open_again.Given as goal
 
 -- one reader for each input so far
 abbrev pub invariant-loop-input : goal.invariant-loop-input

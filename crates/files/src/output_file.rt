@@ -1,0 +1,10 @@
+//! A file that is written.
+
+use messages::FileCause;
+use serial::Sink;
+
+/// A sink that is a file: it says why it failed.
+pub trait OutputFile: Sink {
+    /// Why it failed last.
+    fn cause(&self) -> FileCause;
+}

@@ -1,0 +1,2 @@
+pub mod FileReading
+pub mod Identity

@@ -1,0 +1,206 @@
+//! The command that makes a multiplex.
+
+ghost use Rattle.std.specs.Prelude.{◌≡◌, length, IfOk};
+ghost use Rattle.input_files.specs.Identity.{IsAmong};
+ghost use Rattle.words.specs.Ranges.{IsAllowedLength};
+
+use crate::commands::end;
+use crate::printing::{print_delays, print_end, print_summary};
+use files::{Files, OutputFile};
+use input_files::{FileIdentity, ReadPlan, is_among, open_again, read_plan, stopped};
+use messages::{CommandFault, FileCause};
+use plan::Plan;
+use reading::Stop;
+use serial::{RunFault, Summary, run_serial_within};
+use std::alloc::Global;
+use std::io::Write;
+use words::{RunLength, most_bytes, most_slots};
+
+/// What a run is asked for.
+#[derive(Clone, Copy)]
+pub(crate) struct Asked<'a> {
+    /// The name of the plan's file.
+    pub plan: &'a str,
+    /// The name of the output.
+    pub out: &'a str,
+    /// How long the run goes on.
+    pub length: RunLength,
+    /// Whether the delays of the streams are printed.
+    pub delays: bool,
+}
+
+/// What a run needs: a plan, what its inputs are read from, and what its output is written to.
+struct Prepared<R, W> {
+    plan: Plan,
+    /// An equal plan, for the names of the inputs.
+    kept: Plan,
+    readers: Vec<R>,
+    writer: W,
+}
+
+/// A run that has ended by itself: its plan, what became of it, and the readers of its inputs.
+#[derive(Drop)]
+struct Ran<R> {
+    plan: Plan,
+    summary: Summary,
+    readers: Vec<R>,
+}
+
+/// A writer to the output, and which file it takes the place of: none of those that are read.
+fn open_output<F: Files>(
+    alloc: Global,
+    files: &mut F,
+    name: &str,
+    read: &[FileIdentity],
+) -> Result<(F::Writer, Option<FileIdentity>), CommandFault>
+    ensures { IfOk result (λ opened. IsAmong opened.1 read.now → ⊥) }
+{
+    let identity = files.output_identity(name);
+    if is_among(identity, read) {
+        return Err(CommandFault::file(alloc, name, FileCause::IsRead));
+    }
+    match files.writer(name) {
+        Ok(writer) => Ok((writer, identity)),
+        Err(cause) => Err(CommandFault::file(alloc, name, cause)),
+    }
+}
+
+/// What a run needs. The output is made last, so that a refused run leaves none.
+fn prepare<F: Files>(
+    alloc: Global,
+    files: &mut F,
+    asked: &Asked,
+) -> Result<Prepared<F::Again, F::Writer>, CommandFault>
+    ensures { IfOk result (λ p. length p.readers.items ≡ length p.plan.request.inputs) }
+{
+    let read = read_plan(alloc, files, asked.plan)?;
+    let identities = read.identities(alloc)?;
+    let ReadPlan { plan, readers, .. } = read;
+    let kept = plan.copy(alloc)?;
+    let readers = open_again(alloc, files, &plan, readers)?;
+    let (writer, _) = open_output(alloc, files, asked.out, &identities)?;
+    Ok(Prepared {
+        plan,
+        kept,
+        readers,
+        writer,
+    })
+}
+
+/// Makes the multiplex of a plan, and prints what became of it.
+pub(crate) fn run<F: Files, O: Write, E: Write>(
+    alloc: Global,
+    files: &mut F,
+    asked: &Asked,
+    out: &mut O,
+    err: &mut E,
+) -> (u8, Option<F::Writer>)
+    requires { IsAllowedLength asked.now.length }
+{
+    let prepared = match prepare(alloc, files, asked) {
+        Ok(prepared) => prepared,
+        Err(fault) => return (end(Err(fault), out, err), None),
+    };
+    let is_standard = files.is_standard_output(asked.out);
+    let (writer, ran) = run_prepared(alloc, files, prepared, asked);
+    let status = match ran {
+        Ok((ran, named)) => {
+            let told = tell_run(&ran, is_standard, asked.delays, out, err);
+            let status = end(told.and(named), out, err);
+            let _ = print_end(&ran.summary, &ran.readers, err);
+            status
+        }
+        Err(fault) => end(Err(fault), out, err),
+    };
+    if let Some(partial) = files.partial() {
+        let _ = writeln!(err, "{partial}: the output so far");
+    }
+    (status, Some(writer))
+}
+
+/// Makes the multiplex of a plan. A run that has ended by itself is answered with what became of its output.
+fn run_prepared<F: Files>(
+    alloc: Global,
+    files: &mut F,
+    prepared: Prepared<F::Again, F::Writer>,
+    asked: &Asked,
+) -> (
+    F::Writer,
+    Result<(Ran<F::Again>, Result<u8, CommandFault>), CommandFault>,
+)
+    requires readers { length prepared.readers.items ≡ length prepared.plan.request.inputs }
+    requires length { IsAllowedLength asked.now.length }
+{
+    let Prepared {
+        plan,
+        kept,
+        readers,
+        writer,
+    } = prepared;
+    let (slots, limit) = (most_slots(asked.length), most_bytes(asked.length));
+    match run_serial_within(alloc, plan, slots, limit, readers, writer) {
+        (writer, Ok((summary, readers))) => {
+            let ran = Ran {
+                plan: kept,
+                summary,
+                readers,
+            };
+            let named = name_output(alloc, files, &ran, asked.out, limit);
+            (writer, Ok((ran, named)))
+        }
+        (writer, Err(RunFault::Write)) => {
+            let fault = CommandFault::file(alloc, asked.out, writer.cause());
+            (writer, Err(fault))
+        }
+        (writer, Err(RunFault::Memory)) => (writer, Err(CommandFault::Memory)),
+    }
+}
+
+/// Gives the output of a run its name, where no input failed; each may have so many bytes.
+fn name_output<F: Files>(
+    alloc: Global,
+    files: &mut F,
+    ran: &Ran<F::Again>,
+    name: &str,
+    limit: u64,
+) -> Result<u8, CommandFault> {
+    let inputs = ran.plan.inputs().iter().zip(ran.summary.inputs.iter());
+    for ((input, summary), reader) in inputs.zip(ran.readers.iter()) {
+        if let Some(stop) = failure_of(summary.report.stopped) {
+            return Err(stopped(alloc, input.file.as_str(), reader, stop, limit));
+        }
+    }
+    match files.complete() {
+        Ok(()) => Ok(0),
+        Err(cause) => Err(CommandFault::file(alloc, name, cause)),
+    }
+}
+
+/// Why an input failed, if it did: the end of the run is no failure.
+fn failure_of(stopped: Option<Stop>) -> Option<Stop> {
+    match stopped {
+        None | Some(Stop::Gate) => None,
+        Some(stop) => Some(stop),
+    }
+}
+
+/// Prints what became of a run: on `err` where `out` has the multiplex. With `delays` how long its streams waited comes behind
+/// it, on `err`.
+fn tell_run<R, O: Write, E: Write>(
+    ran: &Ran<R>,
+    is_standard: bool,
+    delays: bool,
+    out: &mut O,
+    err: &mut E,
+) -> Result<(), CommandFault> {
+    if is_standard {
+        let _ = print_summary(&ran.summary, err);
+    } else {
+        print_summary(&ran.summary, out)?;
+        out.flush()?;
+    }
+    if delays {
+        let _ = print_delays(&ran.plan, &ran.summary, err);
+    }
+    Ok(())
+}

@@ -1,0 +1,7 @@
+//! Why a text is no plan: the line or the key, in words.
+#![tactic(auto)]
+
+mod cause;
+mod plan_keys;
+
+pub use cause::text_cause;

@@ -1,0 +1,187 @@
+#!/usr/bin/env bash
+# Runs the program over real files, in a folder of its own, and looks at what becomes of them: no file is lost, and each failure
+# is put into words. From anywhere: scripts/files.sh. It needs bash and coreutils, and takes a few seconds once the program is
+# built. REMUX names another program than ../remux. The last line counts; the status is 1 where something failed.
+set -u
+top=$(cd -- "$(dirname -- "${BASH_SOURCE[0]}")/.." && pwd)
+program=${REMUX:-$top/remux}
+folder=$(mktemp -d)
+trap 'rm -rf -- "$folder"' EXIT
+cd -- "$folder" || exit 1
+
+passed=0
+failed=0
+
+# is NAME CONDITION..: the condition holds.
+is() {
+    local name=$1
+    shift
+    if "$@"; then
+        passed=$((passed + 1))
+    else
+        failed=$((failed + 1))
+        echo "failed: $name ($*)"
+    fi
+}
+
+# run WORD..: runs the program; its status, standard output and standard error are $status, out and err.
+run() {
+    status=0
+    "$program" "$@" > out 2> err < /dev/null || status=$?
+}
+
+sum() { sha256sum < "$1"; }
+same() { cmp -s -- "$1" "$2"; }
+has() { grep -qF -- "$2" "$1"; }
+absent() { [ ! -e "$1" ] && [ ! -L "$1" ]; }
+
+# The example's plan and streams, under short names.
+sed 's|examples/||' "$top/examples/plan.toml" > plan.toml
+cp "$top/examples/north.ts" "$top/examples/south.ts" .
+cp plan.toml plan.kept
+cp north.ts north.kept
+
+run run --plan plan.toml --out whole.ts
+is 'a run ends well' [ "$status" = 0 ]
+is 'it says why it ended' [ "$(cat err)" = 'end: all inputs ended' ]
+cat out err > totals
+is 'a run leaves no other file' absent whole.ts.part
+
+# What is read is not written, under whatever name.
+ln -s north.ts link.ts
+ln north.ts hard.ts
+ln -s plan.toml link.toml
+for name in north.ts ./north.ts "$folder/north.ts" link.ts hard.ts plan.toml ./plan.toml link.toml; do
+    run run --plan plan.toml --out "$name"
+    is "output $name is refused" [ "$status" = 4 ]
+    is "output $name is named" [ "$(head -n 1 err)" = "fault file $name" ]
+    is "output $name is explained" has err 'the output has to be another file'
+    is "north.ts stands after $name" same north.ts north.kept
+    is "the plan stands after $name" same plan.toml plan.kept
+done
+
+# An old output stands until the new one is whole.
+echo old > old.ts
+chmod 600 old.ts
+run run --plan plan.toml --out old.ts
+is 'an old output is replaced' same old.ts whole.ts
+is 'its permissions stay' [ "$(stat -c %a old.ts)" = 600 ]
+echo old > target.ts
+ln -s target.ts through.ts
+run run --plan plan.toml --out through.ts
+is 'the target of a link is replaced' same target.ts whole.ts
+is 'the link stays' [ -L through.ts ]
+
+echo old > short.ts
+(trap '' XFSZ; ulimit -f 100; "$program" run --plan plan.toml --out short.ts > out 2> err)
+is 'a write that fails ends the run' [ $? = 4 ]
+is 'the file is named' [ "$(head -n 1 err)" = 'fault file short.ts' ]
+is 'the reason is told' has err "it can't be written: "
+is 'the old output stands' [ "$(cat short.ts)" = old ]
+is 'the new one is named' has err 'short.ts.part: the output so far'
+is 'the new one is there' [ -s short.ts.part ]
+run run --plan plan.toml --out short.ts
+is 'the next run ends well' same short.ts whole.ts
+is 'what was left is not touched' [ -s short.ts.part ]
+
+mkfifo stuck
+sed 's|"south.ts"|"stuck"|' plan.toml > stuck.toml
+echo old > killed.ts
+"$program" run --plan stuck.toml --out killed.ts > out 2> err &
+process=$!
+exec 7> stuck
+cat south.ts >&7
+sleep 1
+kill -9 "$process"
+wait "$process" 2> /dev/null
+exec 7>&-
+is 'the old output outlives a run that is killed' [ "$(cat killed.ts)" = old ]
+
+# Standard output takes the multiplex alone.
+for name in - /dev/stdout /dev/fd/1; do
+    "$program" run --plan plan.toml --out "$name" > piped.ts 2> err < /dev/null
+    is "output $name to a file" same piped.ts whole.ts
+    is "output $name: the totals" same err totals
+    "$program" run --plan plan.toml --out "$name" 2> err < /dev/null | cat > piped.ts
+    is "output $name to a pipe" same piped.ts whole.ts
+done
+is 'no file has the name -' absent ./-
+echo before > more.ts
+"$program" run --plan plan.toml --out - >> more.ts 2> err < /dev/null
+is 'what was there is not overwritten' [ "$(head -c 7 more.ts)" = before ]
+"$program" run --plan plan.toml --out - < /dev/null 2> err >> north.ts
+is 'an input is no standard output' same north.ts north.kept
+
+# What can be read only once.
+sed 's|"north.ts"|"-"|' plan.toml > standard.toml
+cat north.ts | "$program" run --plan standard.toml --out standard.ts > out 2> err
+is 'standard input from a pipe' same standard.ts whole.ts
+"$program" run --plan standard.toml --out standard.ts > out 2> err < north.ts
+is 'standard input from a file' same standard.ts whole.ts
+mkfifo pipe
+sed 's|"north.ts"|"pipe"|' plan.toml > pipe.toml
+cat north.ts > pipe &
+run run --plan pipe.toml --out pipe.ts
+is 'an input from a named pipe' same pipe.ts whole.ts
+sed 's|"south.ts"|"-"|' standard.toml > both.toml
+cat north.ts | "$program" run --plan both.toml --out both.ts > out 2> err
+is 'two inputs are not one pipe' [ $? = 4 ]
+is 'that is explained' has err 'it can be read only once, and is asked for twice'
+"$program" check --plan <(cat plan.toml) > out 2> err
+is 'a plan from a pipe' [ $? = 0 ]
+sed 's|"south.ts"|"pipe"|' pipe.toml > twice.toml
+cat north.ts > pipe &
+run check --plan twice.toml
+is 'two inputs are not one named pipe' has err 'pipe: it can be read only once, and is asked for twice'
+sed 's|"north.ts"|"/dev/zero"|' plan.toml > endless.toml
+run check --plan endless.toml
+is 'what is kept is bounded' has err 'its tables are not in its first 67108864 bytes'
+
+# Closed files.
+"$program" run --plan plan.toml --out closed.ts <&- >&- 2>&-
+is 'closed standard files leave the output whole' same closed.ts whole.ts
+"$program" run --plan plan.toml --out - > /dev/null 2> err >&-
+is 'a multiplex for a closed file is not lost in silence' [ $? = 4 ]
+is 'that is told' has err 'Bad file descriptor'
+run run --plan plan.toml --out /dev/full
+is 'a full device is told' has err 'No space left on device'
+
+# Plans that are no plans.
+seq -f 'key%.0f = 1' 200000 > large.toml
+started=$SECONDS
+run check --plan large.toml
+is 'a plan of megabytes is refused' [ "$status" = 4 ]
+is 'at once' [ $((SECONDS - started)) -lt 10 ]
+is 'with a reason' has err 'it has more than 1048576 bytes'
+
+grep -v '^ring' plan.toml > noring.toml
+run check --plan noring.toml
+is 'a missing key is named' has err 'missing field `ring`'
+printf 'rate = 1\nperiod = = 2\n' > syntax.toml
+run check --plan syntax.toml
+is 'a line that is no TOML is named' has err 'line 2: '
+
+# Inputs that are no streams.
+: > empty.ts
+head -c 100000 /dev/zero > zeros.ts
+for ((k = 0; k < 20; k++)); do printf 'G'; head -c 203 /dev/zero; done > long.ts
+for name in empty zeros long; do sed "s|\"north.ts\"|\"$name.ts\"|" plan.toml > $name.toml; done
+run check --plan empty.toml
+is 'the fault of an empty input stays' [ "$(head -n 1 err)" = 'fault 5 NoProgram' ]
+is 'an empty input is told' has err 'empty.ts: it is empty'
+run check --plan zeros.toml
+is 'a file without a sync byte is told' has err 'zeros.ts: it has no sync byte'
+run check --plan long.toml
+is 'packets of 204 bytes are told' has err 'long.ts: it looks like packets of 204 bytes'
+
+# Words.
+run check --plan $'\xff.toml'
+is 'a name that is no text' [ "$status" = 2 ]
+is 'that is told' has err 'UTF-8'
+run run --plan plan.toml --out some.ts --slots 1000
+is 'the slot limit is told' has err 'end: the slot limit: input 0 was read to '
+run check --plan none.toml
+is 'a file that is not there' has err 'none.toml: it can'"'"'t be opened: No such file or directory'
+
+echo "$passed passed, $failed failed"
+[ "$failed" = 0 ]
