@@ -1,9 +1,9 @@
 -- Packets and end marks of lists of arrivals.
-use Rattle.std.proofs.Common.{◌≡◌, ℕ, ◌+◌, Bool, true, false, List, [], ◌∷◌, ◌++◌, length, refl, ap, sym, ◌∙◌, arith}
+use Rattle.std.proofs.Common.{◌≡◌, ℕ, ◌+◌, Bool, true, false, List, [], ◌∷◌, ◌++◌, length, drop, refl, ap, sym, ◌∙◌, arith}
 use Rattle.tspkt.specs.declared.stamped.Stamped.{Stamped}
 use Rattle.port.specs.declared.arrival.Arrival.{Arrival}
 use Rattle.port.specs.declared.arrival.Arrival.TheVariants.{Packet, End}
-use Rattle.port.specs.Arrivals.{packets_of, marks_of, mark_count}
+use Rattle.port.specs.Arrivals.{packets_of, marks_of, mark_count, EndsMarked}
 
 pub packets_of_append : (xs ys : List Arrival) → packets_of (xs ++ ys) ≡ packets_of xs ++ packets_of ys
 packets_of_append [] ys = refl
@@ -48,3 +48,27 @@ marks_left got known all e =
 pub unmarked : (b : Bool) → mark_count b ≡ 0 → b ≡ false
 unmarked true e = absurd (omega (arith, e))
 unmarked false e = refl
+
+nothing_of : (got known : List Arrival) → got ++ known ≡ [] → known ≡ []
+nothing_of [] known e = e
+nothing_of (x ∷ got) known e = absurd (cc)
+
+-- behind a mark that stands behind everything else is nothing
+behind_mark : (got known before : List Arrival) → got ++ known ≡ before ++ End ∷ [] → marks_of before ≡ 0 → marks_of got ≡ 1 → known ≡ []
+behind_mark [] known before e none one = absurd (omega (arith, one))
+behind_mark (x ∷ got) known [] e none one = nothing_of got known (ap (drop 1) e)
+behind_mark (Packet x ∷ got) known (Packet y ∷ before) e none one = behind_mark got known before (ap (drop 1) e) none one
+behind_mark (End ∷ got) known (Packet y ∷ before) e none one = absurd (cc)
+behind_mark (x ∷ got) known (End ∷ before) e none one = absurd (omega (arith, none))
+
+-- a mark that came out of a ring was sent, and nothing is left behind it
+pub mark_came : (b : Bool) (got known all : List Arrival) → got ++ known ≡ all → EndsMarked b all → marks_of got ≡ 1 → (b ≡ true) × (known ≡ [])
+mark_came true got known all e ends one = (refl, behind_mark got known ends.0 (e ∙ ends.1) ends.2 one)
+mark_came false got known all e ends one =
+    let s : marks_of all ≡ marks_of got + marks_of known = ap marks_of (sym e) ∙ marks_of_append got known in
+    absurd (omega (arith, s, ends, one))
+
+-- how many marks there are
+pub marks_are : (b : Bool) (all : List Arrival) → EndsMarked b all → marks_of all ≡ mark_count b
+marks_are true all ends = omega (arith, ap marks_of ends.1, marks_of_mark ends.0, ends.2)
+marks_are false all ends = ends

@@ -1,5 +1,5 @@
 -- What went through a ring: packets, and at most one end mark (profile).
-use Rattle.std.specs.Prelude.{ℕ, ◌+◌, List, [], ◌∷◌, Bool, true, false}
+use Rattle.std.specs.Prelude.{◌≡◌, ℕ, ◌+◌, List, [], ◌∷◌, ◌++◌, Bool, true, false}
 use Rattle.tspkt.specs.declared.stamped.Stamped.{Stamped}
 use Rattle.port.specs.declared.arrival.Arrival.{Arrival}
 use Rattle.port.specs.declared.arrival.Arrival.TheVariants.{Packet, End}
@@ -20,3 +20,8 @@ marks_of (End ∷ rest) = 1 + marks_of rest
 abbrev pub mark_count : Bool → ℕ
 mark_count true = 1
 mark_count false = 0
+
+-- the end mark stands behind all packets; or there is none
+abbrev pub EndsMarked : Bool → List Arrival → Type 0
+EndsMarked true all = (before : List Arrival) × (all ≡ before ++ End ∷ []) × (marks_of before ≡ 0)
+EndsMarked false all = marks_of all ≡ 0

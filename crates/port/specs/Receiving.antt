@@ -12,8 +12,10 @@ IsReceived old (Some (Packet item)) new =
 IsReceived old (Some End) new = (old.is_ended ≡ false) × (new ≡ record old { is_ended = true })
 IsReceived old None new = new ≡ old
 
--- The finished port of the end's ring sent what came out of it, and then so many packets that are still in it.
+-- The finished port of the end's ring sent what came out of it, and then so many packets that are still in it: none where the end
+-- mark came out of it, which the port then sent.
 pub record IsLeft (end : RingEndValue) (finished : FinishedValue) (count : ℕ) : Type 0 where
   pub rest : List Stamped
   pub shown : finished.shown ≡ Some (record { ring = end.ring; sent = end.received ++ rest })
   pub count_is : length rest ≡ count
+  pub marked : end.is_ended ≡ true → (finished.is_ended ≡ true) × (rest ≡ [])

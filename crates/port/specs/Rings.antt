@@ -31,7 +31,7 @@ pub record RingEndValue : Type 0 where
   pub received : List Stamped
   pub is_ended : Bool
 
--- a port that sends no more: what it was, where the ring shows it, and whether the end mark was sent
+-- a port that sends no more: what it was, and whether the end mark was sent
 pub record FinishedValue : Type 0 where
   pub shown : Option PortValue
   pub is_ended : Bool

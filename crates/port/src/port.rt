@@ -3,7 +3,7 @@
 ghost use Rattle.std.specs.Prelude.{◌≡◌, ◌++◌, ◌∷◌, [], true, false, IfSome, MatchResult};
 
 use crate::arrival::Arrival;
-use crate::finished_port::{FinishedPort, finish};
+use crate::finished_port::FinishedPort;
 use crate::nothing_after_end::NothingAfterEnd;
 use rtrb::{Producer, PushError};
 use std::alloc::Global;
@@ -63,7 +63,11 @@ impl Port {
             mut producer,
         } = self;
         match producer.push(Arrival::End) {
-            Ok(()) => Ok(finish(input, producer, true)),
+            Ok(()) => Ok(FinishedPort {
+                input,
+                producer,
+                is_ended: true,
+            }),
             Err(_) => Err(Port { input, producer }),
         }
     }
@@ -73,6 +77,10 @@ impl Port {
         ensures port { IfSome result.shown (λ port. port ≡ self) }
         ensures unmarked { result.is_ended ≡ false }
     {
-        finish(self.input, self.producer, false)
+        FinishedPort {
+            input: self.input,
+            producer: self.producer,
+            is_ended: false,
+        }
     }
 }

@@ -67,22 +67,21 @@ impl RingEnd {
     }
 
     /// How many packets are still in the ring, of the port that was made with this end and sends no more. The end mark isn't
-    /// counted. `None` is answered where the ring shows nothing of the port.
+    /// counted.
     #[tactic(auto, using(crate::proofs::RingLaws::same_id, crate::proofs::RingLaws::same_ring))]
-    pub fn left(&mut self, finished: &mut FinishedPort) -> Option<u64>
+    pub fn left(&mut self, finished: &mut FinishedPort) -> u64
         requires { IfSome finished.old.shown (λ port. port.ring ≡ self.old.ring) }
         ensures end { self.new ≡ self.old }
         ensures port { finished.new ≡ finished.old }
-        ensures left { IfSome result (IsLeft self.old finished.old) }
+        ensures left { IsLeft self.old finished.old result }
     {
         let FinishedPort {
-            token,
+            producer,
             is_ended,
             ..
         } = finished;
-        let token = token.as_mut()?;
-        let items = self.consumer.slots_after(token);
+        let items = self.consumer.slots_beside(producer);
         let marks = if *is_ended && !self.is_ended { 1 } else { 0 };
-        Some((items - marks) as u64)
+        (items - marks) as u64
     }
 }

@@ -29,12 +29,12 @@ fn what_is_offered_comes_out_in_order_and_the_rest_is_left(rt: HostRuntime) -> R
     let Ok(mut finished) = port.end() else {
         return Ok(assert!(rt; false));
     };
-    assert_eq!(rt; end.left(&mut finished), Some(1));
+    assert_eq!(rt; end.left(&mut finished), 1);
     assert_eq!(rt; stamp_of(end.next()), Some(2));
     assert!(rt; matches!(end.next(), Some(Arrival::End)));
     assert!(rt; end.is_ended());
     assert!(rt; end.next().is_none());
-    assert_eq!(rt; end.left(&mut finished), Some(0));
+    assert_eq!(rt; end.left(&mut finished), 0);
     Ok(())
 }
 
@@ -48,10 +48,10 @@ fn a_full_ring_hands_the_port_back_and_a_port_may_finish_unmarked(
         return Ok(assert!(rt; false));
     };
     let mut finished = port.finish();
-    assert_eq!(rt; end.left(&mut finished), Some(1));
+    assert_eq!(rt; end.left(&mut finished), 1);
     assert_eq!(rt; stamp_of(end.next()), Some(7));
     assert!(rt; end.next().is_none());
     assert!(rt; !end.is_ended());
-    assert_eq!(rt; end.left(&mut finished), Some(0));
+    assert_eq!(rt; end.left(&mut finished), 0);
     Ok(())
 }

@@ -19,4 +19,5 @@ mod tests;
 pub use run::{run_serial, run_serial_within};
 pub use run_fault::RunFault;
 pub use sink::{Sink, WriteSink};
+pub use slot_writer::SlotWriter;
 pub use summary::{InputSummary, Summary};

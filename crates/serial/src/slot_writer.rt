@@ -9,7 +9,7 @@ use tspkt::Packet;
 
 /// Packets on their way out: each is analysed, and written through a buffer.
 #[derive(Drop)]
-pub(crate) struct SlotWriter {
+pub struct SlotWriter {
     writer: PacketWriter,
     analyser: Analyser,
     /// The faults of the packet that was analysed last.

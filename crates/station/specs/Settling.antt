@@ -1,5 +1,5 @@
 -- What became of the packets of a port (profile).
-use Rattle.std.specs.Prelude.{◌≡◌, ℕ, List, ◌++◌, length, Some}
+use Rattle.std.specs.Prelude.{◌≡◌, ℕ, List, [], ◌++◌, length, true, Some}
 use Rattle.std.specs.List.{slice_get}
 use Rattle.std.specs.Option.{option_to_list}
 use Rattle.tspkt.specs.declared.stamped.Stamped.{Stamped}
@@ -10,7 +10,7 @@ use Rattle.station.specs.declared.settled.Settled.{Settled}
 use Rattle.station.specs.Stations.{StationValue}
 
 -- The port of an input sent the packets that were taken, and then the one that is held, and then those that are left in the ring,
--- each once; and these are their numbers.
+-- each once; and these are their numbers. None is left where the end mark came, which the port then sent.
 pub record IsSettled (station : StationValue) (port : FinishedValue) (s : Settled) : Type 0 where
   pub shown : PortValue
   pub shown_is : port.shown ≡ Some shown
@@ -21,3 +21,4 @@ pub record IsSettled (station : StationValue) (port : FinishedValue) (s : Settle
   pub taken_count : s.taken ≡ length (taken shown.ring.input station.history.events)
   pub held_count : s.held ≡ length (option_to_list input.held)
   pub left_count : s.left ≡ length left
+  pub marked : input.end.is_ended ≡ true → (port.is_ended ≡ true) × (left ≡ [])

@@ -2,7 +2,9 @@
 
 ghost use Rattle.std.specs.Prelude.{◌≡◌, ◌<◌, ◌≤◌, ◌^◌, ◌-◌, Some, length, map, IfOk, IfSome, option_copied};
 ghost use Rattle.std.specs.List.{slice_get};
-ghost use Rattle.mux.specs.History.{slots, emitted};
+ghost use Rattle.request.specs.declared.stream.Stream.{Stream};
+ghost use Rattle.mux.specs.History.{slots, emitted, is_closed};
+ghost use Rattle.mux.specs.Peaks.{IsPeak};
 ghost use Rattle.mux.specs.Totals.{IsTotals, IsCounts};
 ghost use Rattle.mux.specs.Headline.{IsSound};
 ghost use Rattle.station.specs.Stations.{IsLawfulStation, rings_of};
@@ -13,7 +15,7 @@ ghost use Rattle.station.specs.Settling.{IsSettled};
 use crate::inlet::Inlet;
 use crate::moving::move_in;
 use crate::settled::Settled;
-use mux::{Counts, Mux, Sending, Totals};
+use mux::{Counts, Mux, Peak, Sending, Totals};
 use plan::Plan;
 use port::{FinishedPort, Port, RingEnd, ports};
 use std::alloc::{AllocError, Global};
@@ -131,22 +133,39 @@ impl Station {
         self.mux.counts()
     }
 
-    /// What became of the packets that a port of this station sent, which sends no more. `None` is answered where the ring
-    /// shows nothing of the port.
-    pub fn settle(&mut self, port: FinishedPort) -> Option<Settled>
+    /// The largest delay of a stream's packets that were sent, and the most packets that ever waited in its queue. The stream
+    /// is named by its number.
+    pub fn peak(&self, stream: usize) -> Peak
+        requires { stream < length self.now.history.run.plan.request.streams }
+        ensures { (st : Stream) → slice_get self.now.history.run.plan.request.streams stream ≡ Some st
+            → IsPeak self.now.history.run.plan self.now.history.events st result }
+    {
+        self.mux.peak(stream)
+    }
+
+    /// Whether an input is closed: nothing more is taken of it.
+    pub fn is_closed(&self, input: usize) -> bool
+        requires { input < length self.now.history.run.plan.request.inputs }
+        ensures { result ≡ is_closed input self.now.history.events }
+    {
+        self.inlets[input].is_closed
+    }
+
+    /// What became of the packets that a port of this station sent, which sends no more.
+    pub fn settle(&mut self, port: FinishedPort) -> Settled
         requires { IfSome port.shown (λ p. slice_get (rings_of self.old.inputs) p.ring.input ≡ Some p.ring) }
         ensures same { self.new ≡ self.old }
-        ensures settled { IfSome result (IsSettled self.old port) }
+        ensures settled { IsSettled self.old port result }
     {
         let mut port = port;
         let input = port.input();
-        let inlet = self.inlets.get_mut(input)?;
-        let left = inlet.end.left(&mut port)?;
+        let inlet = &mut self.inlets[input];
+        let left = inlet.end.left(&mut port);
         let held = if inlet.held.is_some() { 1 } else { 0 };
-        Some(Settled {
+        Settled {
             taken: self.mux.totals(input).taken,
             held,
             left,
-        })
+        }
     }
 }

@@ -4,8 +4,9 @@
 //! knows of the multiplex, of files or of what is written.
 #![tactic(auto)]
 
-mod pause;
 mod sender;
+mod waiting;
 mod worker;
 
+pub use waiting::pause;
 pub use worker::Worker;

@@ -3,7 +3,7 @@
 ghost use Rattle.std.specs.Prelude.{◌≡◌, IfSome, MatchBool};
 ghost use Rattle.port.specs.Stops.{StopsOnce};
 
-use crate::pause::pause;
+use crate::waiting::pause;
 use plan::Plan;
 use port::{FinishedPort, Gate, Point, Port};
 use reading::{Look, PacketReader, Report, Source, Stop};

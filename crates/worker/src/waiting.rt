@@ -11,7 +11,7 @@ const SLEEP: u64 = 50;
 
 /// Lets other threads go first, and sleeps where that was done often already, so that a full ring costs no core. It takes how
 /// often the caller waited, and answers that number with one more.
-pub(crate) fn pause(clock: &impl Clock, waited: u32) -> u32 {
+pub fn pause(clock: &impl Clock, waited: u32) -> u32 {
     if waited < YIELDS {
         thread::yield_now();
     } else {

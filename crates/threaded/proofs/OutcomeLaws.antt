@@ -1,0 +1,285 @@
+-- What comes of a run in threads.
+use Rattle.std.proofs.Common.{◌≡◌, ℕ, ◌<◌, ◌≤◌, List, [], length, map, Option, Some, option_map, refl, ap, sym, subst, ◌∙◌, arith, inl, inr, ◌⊎◌}
+use Rattle.std.specs.List.{slice_get, zip}
+use Rattle.std.proofs.lemmas.Option.{slice_get_within, same_Some, slice_get-map}
+use Rattle.std.proofs.lemmas.List.{length-map}
+use Rattle.std.proofs.Math.Nat.{min-eq_left}
+use Rattle.std.proofs.lemmas.Slice.Zip.{length-zip, firsts-zip, seconds-zip}
+use Rattle.std.specs.Io.KnownBytes.{Appends}
+use Rattle.plan.specs.Build.{PlanValue}
+use Rattle.tspkt.specs.Framed.{framed}
+use Rattle.reading.specs.Takeable.{origin_of, takeable}
+use Rattle.mux.specs.declared.event.Event.{Event}
+use Rattle.mux.specs.History.{Run, History, slots, emitted}
+use Rattle.mux.specs.Plans.{IsMultiplexPlan}
+use Rattle.mux.proofs.Emitted.{length-emitted}
+use Rattle.analyse.specs.Faults.{faults}
+use Rattle.port.specs.Rings.{RingId, PortValue}
+use Rattle.worker.specs.declared.worker.Worker.{Worker}
+use Rattle.station.specs.Stations.{StationValue, rings_of}
+use Rattle.station.specs.Opening.{IsOpened, IsFresh}
+use Rattle.station.specs.declared.inlet.Inlet.{Inlet}
+use Rattle.serial.specs.Running.{AreBegun, IsOver}
+use Rattle.serial.proofs.SoundLaws.{sound_nothing}
+use Rattle.serial.proofs.OutcomeLaws.{nothing_sent, finished}
+use Rattle.serial.proofs.FaultBounds.{few_faults}
+use Rattle.serial.proofs.OpeningLaws.{from_map}
+use Rattle.threaded.specs.Crews.{AreUnsent, AreSeated, AreStarted, AreEnded, HaveWorked}
+use Rattle.mux.specs.Totals.{IsCounts}
+use Rattle.mux.specs.Headline.{IsSound}
+use Rattle.serial.specs.Ending.{ArePeaks}
+use Rattle.serial.specs.Sending.{bytes_of, fault_count, HasAnalysed}
+use Rattle.serial.specs.Written.{Sends, SendsBeginning}
+use Rattle.serial.specs.declared.slot_writer.SlotWriter.{SlotWriter}
+use Rattle.serial.specs.declared.summary.Summary.{Summary}
+use Rattle.threaded.specs.Opening.{IsReady}
+use Rattle.threaded.specs.Driving.{output_of, HasAnalysedAll, IsSameRun, BreaksOff, IsDriven}
+use Rattle.threaded.specs.Outcome.{HasRun, HasBegun, RunsThrough, IsCutShort}
+use Rattle.threaded.specs.declared.ended.Ended.{Ended}
+use Rattle.threaded.specs.declared.run_gate.RunGate.{RunGate}
+use Rattle.threaded.proofs.ListLaws.{get_within}
+use Rattle.threaded.proofs.CrewLaws.{served, served_begins}
+
+-- readers, gates and ports of as many inputs
+pub record AreOfInputs {R G : Type 0} (n : ℕ) (readers : List R) (gates : List G) (ports : List PortValue) : Type 0 where
+  pub readers_are : length readers ≡ n
+  pub gates_are : length gates ≡ n
+  pub ports_are : length ports ≡ n
+
+abbrev pub seats_of : {R G : Type 0} → List R → List G → List PortValue → List ((R × G) × PortValue)
+seats_of readers gates ports = zip (zip readers gates) ports
+
+firsts_at : {A B : Type 0} (xs : List A) (ys : List B) (i : ℕ) (p : A × B) → length ys ≡ length xs → slice_get (zip xs ys) i ≡ Some p → slice_get xs i ≡ Some p.0
+firsts_at {A} {B} xs ys i p size at =
+    let first : A × B → A = λ q. q.0 in
+    ap (λ v. slice_get v i) (sym (firsts-zip xs ys size)) ∙ (slice_get-map first (zip xs ys) i ∙ ap (option_map first) at)
+
+seconds_at : {A B : Type 0} (xs : List A) (ys : List B) (i : ℕ) (p : A × B) → length ys ≡ length xs → slice_get (zip xs ys) i ≡ Some p → slice_get ys i ≡ Some p.1
+seconds_at {A} {B} xs ys i p size at =
+    let second : A × B → B = λ q. q.1 in
+    ap (λ v. slice_get v i) (sym (seconds-zip xs ys size)) ∙ (slice_get-map second (zip xs ys) i ∙ ap (option_map second) at)
+
+zip_size : {A B : Type 0} (xs : List A) (ys : List B) (n : ℕ) → length xs ≡ n → length ys ≡ n → length (zip xs ys) ≡ n
+zip_size xs ys n a b = omega (arith, length-zip xs ys, a, b)
+
+-- there is a seat an input
+pub seats_are : {R G : Type 0} (n : ℕ) (readers : List R) (gates : List G) (ports : List PortValue) → AreOfInputs n readers gates ports → length (seats_of readers gates ports) ≡ n
+seats_are n readers gates ports are = zip_size (zip readers gates) ports n (zip_size readers gates n are.readers_are are.gates_are) are.ports_are
+
+pub reader_at : {R G : Type 0} (n : ℕ) (readers : List R) (gates : List G) (ports : List PortValue) (i : ℕ) (seat : (R × G) × PortValue) → AreOfInputs n readers gates ports
+    → slice_get (seats_of readers gates ports) i ≡ Some seat → slice_get readers i ≡ Some seat.0.0
+reader_at n readers gates ports i seat are at =
+    let pairs = zip_size readers gates n are.readers_are are.gates_are in
+    firsts_at readers gates i seat.0 (are.gates_are ∙ sym are.readers_are) (firsts_at (zip readers gates) ports i seat (are.ports_are ∙ sym pairs) at)
+
+pub port_at : {R G : Type 0} (n : ℕ) (readers : List R) (gates : List G) (ports : List PortValue) (i : ℕ) (seat : (R × G) × PortValue) → AreOfInputs n readers gates ports
+    → slice_get (seats_of readers gates ports) i ≡ Some seat → slice_get ports i ≡ Some seat.1
+port_at n readers gates ports i seat are at =
+    let pairs = zip_size readers gates n are.readers_are are.gates_are in
+    seconds_at (zip readers gates) ports i seat (are.ports_are ∙ sym pairs) at
+
+-- the ports of a station that was opened
+pub fresh_at : (p : PlanValue) (slots : ℕ) (station : StationValue) (ports : List PortValue) (i : ℕ) (port : PortValue) → IsOpened p slots station ports → slice_get ports i ≡ Some port
+    → (x : Inlet) × (slice_get station.inputs i ≡ Some x) × IsFresh i port x
+fresh_at p slots station ports i port is at =
+    let inside = slice_get_within ports i port at in
+    let x = get_within station.inputs i (omega (arith, inside, is.ports_are, is.inputs_are)) in
+    (x.0, x.1, is.each i port x.0 at x.1)
+
+pub are_unsent : {R G : Type 0} (p : PlanValue) (slots n : ℕ) (station : StationValue) (readers : List R) (gates : List G) (ports : List PortValue) → IsOpened p slots station ports → AreOfInputs n readers gates ports
+    → AreUnsent (seats_of readers gates ports)
+are_unsent p slots n station readers gates ports is are i seat at =
+    let f = fresh_at p slots station ports i seat.1 is (port_at n readers gates ports i seat are at) in
+    f.2.unsent
+
+-- A run that is ready to be started.
+
+pub are_inputs : {R G : Type 0} (p : PlanValue) (slots : ℕ) (readers : List R) (gates : List G) (opened : StationValue) (seats : List ((R × G) × PortValue)) (ready : IsReady p slots readers gates opened seats)
+    → length readers ≡ length p.request.inputs → length gates ≡ length p.request.inputs → AreOfInputs (length p.request.inputs) readers gates ready.ports
+are_inputs p slots readers gates opened seats ready of_readers of_gates = record { readers_are = of_readers; gates_are = of_gates; ports_are = ready.opened.ports_are }
+
+pub ready_count : {R G : Type 0} (p : PlanValue) (slots : ℕ) (readers : List R) (gates : List G) (opened : StationValue) (seats : List ((R × G) × PortValue)) → IsReady p slots readers gates opened seats
+    → length readers ≡ length p.request.inputs → length gates ≡ length p.request.inputs → length seats ≡ length p.request.inputs
+ready_count p slots readers gates opened seats ready of_readers of_gates =
+    ap length ready.seats_are ∙ seats_are (length p.request.inputs) readers gates ready.ports (are_inputs p slots readers gates opened seats ready of_readers of_gates)
+
+pub ready_unsent : {R G : Type 0} (p : PlanValue) (slots : ℕ) (readers : List R) (gates : List G) (opened : StationValue) (seats : List ((R × G) × PortValue)) → IsReady p slots readers gates opened seats
+    → length readers ≡ length p.request.inputs → length gates ≡ length p.request.inputs → AreUnsent seats
+ready_unsent {R} {G} p slots readers gates opened seats ready of_readers of_gates =
+    let U : List ((R × G) × PortValue) → Type 0 = AreUnsent in
+    subst U (sym ready.seats_are) (are_unsent p slots (length p.request.inputs) opened readers gates ready.ports ready.opened (are_inputs p slots readers gates opened seats ready of_readers of_gates))
+
+-- each port is of a ring of the station
+pub ready_seated : {R G : Type 0} (p : PlanValue) (slots : ℕ) (readers : List R) (gates : List G) (opened : StationValue) (seats : List ((R × G) × PortValue)) → IsReady p slots readers gates opened seats
+    → length readers ≡ length p.request.inputs → length gates ≡ length p.request.inputs → AreSeated opened seats
+ready_seated {R} {G} p slots readers gates opened seats ready of_readers of_gates i seat at =
+    let are = are_inputs p slots readers gates opened seats ready of_readers of_gates in
+    let here = ap (λ (v : List ((R × G) × PortValue)). slice_get v i) (sym ready.seats_are) ∙ at in
+    let f = fresh_at p slots opened ready.ports i seat.1 ready.opened (port_at (length p.request.inputs) readers gates ready.ports i seat are here) in
+    let ring_of : Inlet → RingId = λ x. x.end.ring in
+    let there : slice_get (rings_of opened.inputs) i ≡ Some seat.1.ring = slice_get-map ring_of opened.inputs i ∙ (ap (option_map ring_of) f.1 ∙ ap Some f.2.ring) in
+    let N : ℕ → Type 0 = λ k. slice_get (rings_of opened.inputs) k ≡ Some seat.1.ring in
+    subst N (sym f.2.number) there
+
+-- What was taken of each input begins what can be taken of it.
+pub begun : {R G : Type 0} (remaining : R → Option (List ℕ)) (failures : R → ℕ) (p : PlanValue) (slots limit : ℕ) (opened station : StationValue) (readers : List R) (gates : List G) (ports : List PortValue) (workers : List (Worker R (RunGate G))) (ended : List (Ended R G))
+    → IsOpened p slots opened ports → AreOfInputs (length p.request.inputs) readers gates ports → AreStarted limit p (seats_of readers gates ports) workers → length workers ≡ length p.request.inputs → length ended ≡ length workers
+    → AreEnded remaining failures station workers ended → AreBegun p station.history.events (map remaining readers)
+begun {R} {G} remaining failures p slots limit opened station readers gates ports workers ended is are started all_started all_ended ends i input all at start =
+    let n = length p.request.inputs in
+    let inside : i < n = slice_get_within p.request.inputs i input at in
+    let seat = get_within (seats_of readers gates ports) i (omega (arith, inside, seats_are n readers gates ports are)) in
+    let w = get_within workers i (omega (arith, inside, all_started)) in
+    let e = get_within ended i (omega (arith, inside, all_started, all_ended)) in
+    let r = from_map remaining readers i (Some all) start in
+    let same : r.0 ≡ seat.0.0.0 = same_Some r.0 seat.0.0.0 (sym r.1 ∙ reader_at n readers gates ports i seat.0 are seat.1) in
+    let f = fresh_at p slots opened ports i seat.0.1 is (port_at n readers gates ports i seat.0 are seat.1) in
+    let s = served remaining failures limit p station i input seat.0.0.0 seat.0.1 w.0 e.0 (started.each i seat.0 w.0 seat.1 w.1) f.2.number at (ends i w.0 e.0 w.1 e.1) in
+    served_begins remaining limit p station i input seat.0.0.0 e.0.reader e.0.report all s (ap remaining (sym same) ∙ r.2)
+
+-- a run that took nothing
+pub begun_nothing : (run : Run) (starts : List (Option (List ℕ))) (before : Option (List ℕ)) → IsMultiplexPlan run.plan → run.limit ≤ 1099511627776
+    → HasBegun (record { run = run; events = [] }) starts before before
+begun_nothing run starts before plan few = record {
+  sound = sound_nothing run.plan run.limit plan few;
+  begun = λ i input all at start. (takeable run.plan (origin_of i input) (framed 188 all), refl);
+  written = ([], nothing_sent run.plan [] before [] refl refl);
+}
+
+-- The run's plan and slots are those of its station.
+
+run_is : (p : PlanValue) (slots : ℕ) (opened station : StationValue) (ports : List PortValue) → IsOpened p slots opened ports → IsSameRun opened station → station.history.run ≡ record { plan = p; limit = slots }
+run_is p slots opened station ports is same = same.run ∙ ap (λ (h : History). h.run) is.history
+
+-- nothing was sent when it was opened
+nothing_yet : (p : PlanValue) (slots : ℕ) (opened : StationValue) (ports : List PortValue) (output : SlotWriter) (first : Option (List ℕ)) → IsOpened p slots opened ports → output.writer ≡ []
+    → Sends first first (output_of opened.history) output.writer
+nothing_yet p slots opened ports output first is waiting =
+    nothing_sent opened.history.run.plan opened.history.events first output.writer (ap (λ (h : History). h.events) is.history) waiting
+
+analysed_yet : (p : PlanValue) (slots : ℕ) (opened : StationValue) (ports : List PortValue) (output : SlotWriter) → IsOpened p slots opened ports → HasAnalysed output p.request.rate p.request.watch []
+    → HasAnalysedAll output opened.history
+analysed_yet p slots opened ports output is analysed =
+    let P : History → Type 0 = HasAnalysedAll output in
+    subst P (sym is.history) analysed
+
+-- what was taken of inputs that had their workers
+pub begun_worked : {R G : Type 0} (remaining : R → Option (List ℕ)) (failures : R → ℕ) (p : PlanValue) (slots limit : ℕ) (opened station : StationValue) (readers : List R) (gates : List G) (seats : List ((R × G) × PortValue)) (ended : List (Ended R G))
+    → IsReady p slots readers gates opened seats → length readers ≡ length p.request.inputs → length gates ≡ length p.request.inputs → HaveWorked remaining failures limit p station seats ended
+    → AreBegun p station.history.events (map remaining readers)
+begun_worked {R} {G} remaining failures p slots limit opened station readers gates seats ended ready of_readers of_gates have =
+    let S : List ((R × G) × PortValue) → Type 0 = λ v. AreStarted limit p v have.workers in
+    let are = are_inputs p slots readers gates opened seats ready of_readers of_gates in
+    begun remaining failures p slots limit opened station readers gates ready.ports have.workers ended ready.opened are (subst S ready.seats_are have.started)
+    (have.all ∙ ready_count p slots readers gates opened seats ready of_readers of_gates) have.count have.became
+
+-- some workers weren't started: then nothing was taken
+pub begun_stopped : {R G : Type 0} (remaining : R → Option (List ℕ)) (failures : R → ℕ) (p : PlanValue) (slots limit : ℕ) (opened station : StationValue) (readers : List R) (gates : List G) (seats : List ((R × G) × PortValue))
+    → IsReady p slots readers gates opened seats → length readers ≡ length p.request.inputs → length gates ≡ length p.request.inputs
+    → ((ended : List (Ended R G)) × HaveWorked remaining failures limit p station seats ended) ⊎ (station ≡ opened) → AreBegun p station.history.events (map remaining readers)
+begun_stopped remaining failures p slots limit opened station readers gates seats ready of_readers of_gates (inl have) =
+    begun_worked remaining failures p slots limit opened station readers gates seats have.0 ready of_readers of_gates have.1
+begun_stopped remaining failures p slots limit opened station readers gates seats ready of_readers of_gates (inr same) =
+    let none : station.history.events ≡ [] = ap (λ (s : StationValue). s.history.events) same ∙ ap (λ (h : History). h.events) ready.opened.history in
+    let P : List Event → Type 0 = λ h. AreBegun p h (map remaining readers) in
+    subst P (sym none) (λ i input all at start. (takeable p (origin_of i input) (framed 188 all), refl))
+
+-- as many inputs are told of as the plan has
+pub worked_count : {R G : Type 0} (remaining : R → Option (List ℕ)) (failures : R → ℕ) (p : PlanValue) (slots limit : ℕ) (opened station : StationValue) (readers : List R) (gates : List G) (seats : List ((R × G) × PortValue)) (ended : List (Ended R G))
+    → IsReady p slots readers gates opened seats → length readers ≡ length p.request.inputs → length gates ≡ length p.request.inputs → HaveWorked remaining failures limit p station seats ended
+    → length ended ≡ length p.request.inputs
+worked_count remaining failures p slots limit opened station readers gates seats ended ready of_readers of_gates have =
+    have.count ∙ (have.all ∙ ready_count p slots readers gates opened seats ready of_readers of_gates)
+
+-- a run that failed
+has_begun : (p : PlanValue) (slots : ℕ) (opened station : StationValue) (ports : List PortValue) (output : SlotWriter) (starts : List (Option (List ℕ))) (before after : Option (List ℕ))
+    → IsOpened p slots opened ports → output.writer ≡ [] → BreaksOff opened station output before after → IsSound station.history → AreBegun p station.history.events starts
+    → HasBegun (record { run = record { plan = p; limit = slots }; events = station.history.events }) starts before after
+has_begun p slots opened station ports output starts before after is waiting broken sound taken =
+    let same = run_is p slots opened station ports is broken.same in
+    let S : Run → Type 0 = λ r. IsSound (record { run = r; events = station.history.events }) in
+    let W : Run → Type 0 = λ r. SendsBeginning before after (bytes_of (emitted r.plan station.history.events)) in
+    record {
+      sound = subst S same sound;
+      begun = taken;
+      written = subst W same (broken.begun before (nothing_yet p slots opened ports output before is waiting));
+    }
+
+-- so many faults fit into 64 bits
+faults_exact : (run : Run) (h : List Event) (told : ℕ) → slots h ≤ run.limit → run.limit ≤ 1099511627776 → told ≡ fault_count run.plan.request.rate run.plan.request.watch (emitted run.plan h)
+    → told ≡ length (faults run.plan.request.rate run.plan.request.watch (emitted run.plan h))
+faults_exact run h told within few is =
+    let bound = few_faults run.plan.request.rate run.plan.request.watch (emitted run.plan h) in
+    let count = length-emitted run.plan h in
+    let all = length (faults run.plan.request.rate run.plan.request.watch (emitted run.plan h)) in
+    let fits : all ≤ 18446744073709551615 = omega (arith, bound, count, within, few) in
+    is ∙ min-eq_left fits
+
+-- a run that ended by itself
+has_run : (p : PlanValue) (limit : ℕ) (opened station : StationValue) (ports : List PortValue) (a b : SlotWriter) (starts : List (Option (List ℕ))) (before after : Option (List ℕ)) (s : Summary)
+    → limit ≤ 1099511627776 → IsOpened p limit opened ports → a.writer ≡ [] → HasAnalysed a p.request.rate p.request.watch [] → IsDriven opened station a b before after → IsSound station.history
+    → AreBegun p station.history.events starts
+    → length s.inputs.items ≡ length p.request.inputs → ArePeaks station.history.run.plan station.history.events s.streams.items → IsCounts station.history.events s.counts → s.faults ≡ b.faults
+    → HasRun (record { run = record { plan = p; limit = limit }; events = station.history.events }) starts before after s
+has_run p limit opened station ports a b starts before after s few is waiting analysed driven sound taken count peaks counts told =
+    let same = run_is p limit opened station ports is driven.same in
+    let h = station.history.events in
+    let run : Run = record { plan = p; limit = limit } in
+    let S : Run → Type 0 = λ r. IsSound (record { run = r; events = h }) in
+    let W : Run → Type 0 = λ r. Appends before after (bytes_of (emitted r.plan h)) in
+    let O : Run → Type 0 = λ r. IsOver r h in
+    let K : Run → Type 0 = λ r. ArePeaks r.plan h s.streams.items in
+    let F : Run → Type 0 = λ r. b.faults ≡ fault_count r.plan.request.rate r.plan.request.watch (emitted r.plan h) in
+    let sound_run = subst S same sound in
+    let within = sound_run.run.within in
+    record {
+      sound = sound_run;
+      finished = finished run h within (subst O same driven.over);
+      written = subst W same (driven.written before (nothing_yet p limit opened ports a before is waiting));
+      begun = taken;
+      summary = record {
+        length_is = count;
+        streams = subst K same peaks;
+        counts = counts;
+        faults = faults_exact run h s.faults within few (told ∙ subst F same (driven.analysed (analysed_yet p limit opened ports a is analysed)).faults_are);
+      };
+    }
+
+-- What a run makes that was ready to be started, as it ends.
+
+pub run_failed : {R G : Type 0} (remaining : R → Option (List ℕ)) (failures : R → ℕ) (p : PlanValue) (slots limit : ℕ) (opened : StationValue) (readers : List R) (gates : List G) (seats : List ((R × G) × PortValue)) (output : SlotWriter) (before after : Option (List ℕ))
+    → IsReady p slots readers gates opened seats → length readers ≡ length p.request.inputs → length gates ≡ length p.request.inputs → output.writer ≡ []
+    → IsCutShort remaining failures limit p opened seats output before after
+    → (h : List Event) × HasBegun (record { run = record { plan = p; limit = slots }; events = h }) (map remaining readers) before after
+run_failed remaining failures p slots limit opened readers gates seats output before after ready of_readers of_gates waiting f = (
+  f.station.history.events,
+  has_begun p slots opened f.station ready.ports output (map remaining readers) before after ready.opened waiting f.broken f.sound
+      (begun_stopped remaining failures p slots limit opened f.station readers gates seats ready of_readers of_gates f.stopped),
+)
+
+pub run_ended : {R G : Type 0} (remaining : R → Option (List ℕ)) (failures : R → ℕ) (p : PlanValue) (slots limit : ℕ) (opened : StationValue) (readers : List R) (gates : List G) (seats : List ((R × G) × PortValue)) (output : SlotWriter) (before after : Option (List ℕ)) (s : Summary) (lent : List (R × G))
+    → slots ≤ 1099511627776 → IsReady p slots readers gates opened seats → length readers ≡ length p.request.inputs → length gates ≡ length p.request.inputs → output.writer ≡ []
+    → HasAnalysed output p.request.rate p.request.watch [] → RunsThrough remaining failures limit p opened seats output before after s lent
+    → (h : List Event) × HasRun (record { run = record { plan = p; limit = slots }; events = h }) (map remaining readers) before after s
+run_ended remaining failures p slots limit opened readers gates seats output before after s lent few ready of_readers of_gates waiting analysed e = (
+  e.station.history.events,
+  has_run p slots opened e.station ready.ports output e.left (map remaining readers) before after s few ready.opened waiting analysed e.driven e.sound
+      (begun_worked remaining failures p slots limit opened e.station readers gates seats e.ended ready of_readers of_gates e.worked)
+      (e.reported.length_is ∙ worked_count remaining failures p slots limit opened e.station readers gates seats e.ended ready of_readers of_gates e.worked) e.peaks e.counts e.faults,
+)
+
+-- as many readers and gates come back as there were
+pub lent_count : {R G : Type 0} (remaining : R → Option (List ℕ)) (failures : R → ℕ) (p : PlanValue) (slots limit : ℕ) (opened : StationValue) (readers : List R) (gates : List G) (seats : List ((R × G) × PortValue)) (output : SlotWriter) (before after : Option (List ℕ)) (s : Summary) (lent : List (R × G))
+    → IsReady p slots readers gates opened seats → length readers ≡ length p.request.inputs → length gates ≡ length p.request.inputs
+    → RunsThrough remaining failures limit p opened seats output before after s lent → length lent ≡ length readers
+lent_count {R} {G} remaining failures p slots limit opened readers gates seats output before after s lent ready of_readers of_gates e =
+    let lent_of : Ended R G → R × G = λ x. (x.reader, x.gate) in
+    ap length e.reported.lent_is ∙ (length-map e.ended lent_of ∙ (worked_count remaining failures p slots limit opened e.station readers gates seats e.ended ready of_readers of_gates e.worked ∙ sym of_readers))
+
+-- what is told of as many inputs as there are seats is told of all
+pub told_count : {R G : Type 0} (remaining : R → Option (List ℕ)) (failures : R → ℕ) (limit : ℕ) (p : PlanValue) (opened station : StationValue) (seats : List ((R × G) × PortValue)) (ended : List (Ended R G)) (a b : SlotWriter) (before after : Option (List ℕ))
+    → opened.history.run.plan ≡ p → length seats ≡ length p.request.inputs → HaveWorked remaining failures limit p station seats ended → IsDriven opened station a b before after
+    → length ended ≡ length station.history.run.plan.request.inputs
+told_count remaining failures limit p opened station seats ended a b before after plan_is size have driven =
+    let same : station.history.run.plan ≡ p = ap (λ (r : Run). r.plan) driven.same.run ∙ plan_is in
+    have.count ∙ (have.all ∙ (size ∙ sym (ap (λ (v : PlanValue). length v.request.inputs) same)))

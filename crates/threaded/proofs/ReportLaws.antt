@@ -1,0 +1,44 @@
+-- What is said of a run's inputs, one more at a time.
+use Rattle.std.proofs.Common.{ℕ, List, [], ◌∷◌, ◌++◌, length, ap, sym, subst, ◌∙◌, arith, inl, inr, length-append}
+use Rattle.std.proofs.lemmas.Option.{slice_get_within}
+use Rattle.plan.specs.Build.{PlanValue}
+use Rattle.mux.specs.declared.event.Event.{Event}
+use Rattle.mux.specs.Totals.{IsTotals}
+use Rattle.serial.specs.declared.summary.InputSummary.{InputSummary}
+use Rattle.serial.proofs.OpeningLaws.{push_cases}
+use Rattle.threaded.specs.Ending.{IsLast, AreReported}
+use Rattle.threaded.specs.declared.ended.Ended.{Ended}
+use Rattle.threaded.proofs.ListLaws.{map_push}
+
+pub reported_push : {R G : Type 0} (p : PlanValue) (h : List Event) (ended : List (Ended R G)) (summaries : List InputSummary) (lent : List (R × G)) (e : Ended R G) (s : InputSummary)
+    → AreReported p h ended summaries lent → IsTotals p (length summaries) h s.totals → IsLast h (length summaries) e.report s.report
+    → AreReported p h (ended ++ e ∷ []) (summaries ++ s ∷ []) (lent ++ (e.reader, e.gate) ∷ [])
+reported_push {R} {G} p h ended summaries lent e s are totals last =
+    let lent_of : Ended R G → R × G = λ x. (x.reader, x.gate) in
+    record {
+      length_is = omega (arith, are.length_is, length-append summaries (s ∷ []), length-append ended (e ∷ []));
+      lent_is = ap (λ v. v ++ lent_of e ∷ []) are.lent_is ∙ sym (map_push lent_of ended e);
+      totals = λ i t at.
+          elim (push_cases summaries s i t at) [
+            | inl there ↦ are.totals i t there
+            | inr end ↦
+                (let P : ℕ → Type 0 = λ n. IsTotals p n h t.totals in
+                let Q : InputSummary → Type 0 = λ v. IsTotals p (length summaries) h v.totals in
+                subst P (sym end.0) (subst Q (sym end.1) totals))
+          ];
+      reports = λ i y t aty att.
+          elim (push_cases summaries s i t att) [
+            | inl there ↦ elim (push_cases ended e i y aty) [
+              | inl here ↦ are.reports i y t here there
+              | inr end ↦ absurd (omega (arith, slice_get_within summaries i t there, end.0, are.length_is))
+            ]
+            | inr end ↦ elim (push_cases ended e i y aty) [
+              | inl here ↦ absurd (omega (arith, slice_get_within ended i y here, end.0, are.length_is))
+              | inr ends ↦
+                  (let N : ℕ → Type 0 = λ n. IsLast h n y.report t.report in
+                  let P : InputSummary → Type 0 = λ v. IsLast h (length summaries) y.report v.report in
+                  let Q : Ended R G → Type 0 = λ v. IsLast h (length summaries) v.report s.report in
+                  subst N (sym end.0) (subst P (sym end.1) (subst Q (sym ends.1) last)))
+            ]
+          ];
+    }

@@ -1,0 +1,27 @@
+use Rattle.std.proofs.Common.{◌≡◌, ℕ, List, [], ◌∷◌, ◌++◌, length, ◌∙◌, sym, subst, arith}
+use Rattle.mux.specs.Totals.{IsTotals}
+use Rattle.serial.specs.declared.summary.InputSummary.{InputSummary}
+use Rattle.threaded.specs.Ending.{IsLast, AreReported}
+use Rattle.threaded.proofs.ReportLaws.{reported_push}
+use Rattle.threaded.proofs.ending.end_inputs.Goals as goal
+
+pub loop-input-preserved : goal.loop-input-preserved
+loop-input-preserved g c =
+    let l = c.loop-input in
+    let p = c.args.station.now.history.run.plan in
+    let h = c.args.station.now.history.events in
+    let x = c.in-Some.input in
+    let report = c.last_report-report.result in
+    let summary : InputSummary = record { report = report; totals = c.totals.result } in
+    let place : c.len-number.result ≡ length l.summaries.items = omega (arith, c.len-number.ensures, l.summaries.ok.0) in
+    let P : ℕ → Type 0 = λ n. IsTotals p n h c.totals.result in
+    let N : ℕ → Type 0 = λ n. IsLast h n x.report report in
+    let last : IsLast h c.len-number.result x.report report = record {
+      left = λ opened free. c.last_report-report.ensures.left (c.is_closed.ensures ∙ opened) free;
+      closed = λ shut. c.last_report-report.ensures.closed (c.is_closed.ensures ∙ shut);
+      stopped = c.last_report-report.ensures.stopped;
+    } in
+    let S : List InputSummary → Type 0 = λ v. AreReported p h (l.yielded ++ x ∷ []) v c.push-in-loop-input.new.self.items in
+    let T : List (g.row.R.Denot × g.row.G.Denot) → Type 0 = λ v. AreReported p h (l.yielded ++ x ∷ []) (l.summaries.items ++ summary ∷ []) v in
+    subst S (sym c.in_ok-push.ensures.items) (subst T (sym c.in_ok-push-2.ensures.items)
+    (reported_push p h l.yielded l.summaries.items l.lent.items x summary l.invariant (subst P place c.totals.ensures) (subst N place last)))

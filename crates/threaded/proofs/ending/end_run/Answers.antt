@@ -1,0 +1,10 @@
+use Rattle.threaded.proofs.ending.end_run.Goals as goal
+
+pub returns-clause-inputs : goal.returns-clause-inputs
+returns-clause-inputs g c = c.in_ok-inputs.ensures
+
+pub returns-clause-streams : goal.returns-clause-streams
+returns-clause-streams g c = c.in_ok-streams.ensures
+
+pub returns-clause-counts : goal.returns-clause-counts
+returns-clause-counts g c = c.counts.ensures

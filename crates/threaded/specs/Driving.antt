@@ -1,0 +1,40 @@
+-- How a run goes on, tick by tick (profile).
+use Rattle.std.specs.Prelude.{◌≡◌, ℕ, List, Option}
+use Rattle.std.specs.Io.KnownBytes.{Appends}
+use Rattle.mux.specs.History.{History, emitted}
+use Rattle.serial.specs.Running.{IsOver}
+use Rattle.serial.specs.Written.{Sends, SendsBeginning}
+use Rattle.serial.specs.Sending.{bytes_of, HasAnalysed}
+use Rattle.serial.specs.declared.slot_writer.SlotWriter.{SlotWriter}
+use Rattle.station.specs.Stations.{StationValue, rings_of}
+
+-- the bytes of what the history sent
+abbrev pub output_of : History → List ℕ
+output_of h = bytes_of (emitted h.run.plan h.events)
+
+-- what the history sent was analysed
+abbrev pub HasAnalysedAll : SlotWriter → History → Type 0
+HasAnalysedAll output h = HasAnalysed output h.run.plan.request.rate h.run.plan.request.watch (emitted h.run.plan h.events)
+
+-- it is the same run, and the inputs come through the same rings
+pub record IsSameRun (old new : StationValue) : Type 0 where
+  pub run : new.history.run ≡ old.history.run
+  pub rings : rings_of new.inputs ≡ rings_of old.inputs
+
+-- The run went on: what it sent was analysed, and the sink got of it all but what waits in the buffer.
+pub record GoesOn (old new : StationValue) (a b : SlotWriter) (before after : Option (List ℕ)) : Type 0 where
+  pub same : IsSameRun old new
+  pub analysed : HasAnalysedAll a old.history → HasAnalysedAll b new.history
+  pub written : (first : Option (List ℕ)) → Sends first before (output_of old.history) a.writer → Sends first after (output_of new.history) b.writer
+
+-- The run went on, and failed: the sink got a beginning of what it sent.
+pub record BreaksOff (old new : StationValue) (a : SlotWriter) (before after : Option (List ℕ)) : Type 0 where
+  pub same : IsSameRun old new
+  pub begun : (first : Option (List ℕ)) → Sends first before (output_of old.history) a.writer → SendsBeginning first after (output_of new.history)
+
+-- The run went on to its end: what it sent was analysed, and the sink got all of it.
+pub record IsDriven (old new : StationValue) (a b : SlotWriter) (before after : Option (List ℕ)) : Type 0 where
+  pub same : IsSameRun old new
+  pub over : IsOver new.history.run new.history.events
+  pub analysed : HasAnalysedAll a old.history → HasAnalysedAll b new.history
+  pub written : (first : Option (List ℕ)) → Sends first before (output_of old.history) a.writer → Appends first after (output_of new.history)

@@ -1,0 +1,6 @@
+pub mod Working
+pub mod Crews
+pub mod Opening
+pub mod Driving
+pub mod Ending
+pub mod Outcome

@@ -1,0 +1,84 @@
+//! The workers of a run, from their start to their end.
+
+ghost use Rattle.std.specs.Prelude.{◌≡◌, ◌≤◌, List, ℕ, [], length, map, vec_len, vec_capacity, OnOk};
+ghost use Rattle.tspkt.specs.declared.framer.TheConstants.{MAX_LIMIT};
+ghost use Rattle.threaded.specs.Crews.{AreUnsent, AreStarted, AreOfStation, AreEnded};
+
+use crate::ended::Ended;
+use crate::run_gate::RunGate;
+use crate::work::{WorkHandle, start};
+use plan::Plan;
+use port::{Gate, Port};
+use reading::Source;
+use station::Station;
+use std::alloc::{AllocError, Global};
+use std::sync::atomic::AtomicBool;
+use std::sync::{Arc, Wait};
+use std::thread::Threads;
+use std::time::Clock;
+use worker::Worker;
+
+/// Starts a worker for each input of a plan, in their order, each of at most `limit` bytes. `Err` is want of memory, or that no
+/// thread can be made; the threads that were started then run.
+pub(crate) fn start_all<
+    T: Threads + Wait + Clock + Copy + Send + Drop + 'static,
+    R: Source + Send + Drop + 'static,
+    G: Gate + Send + Drop + 'static,
+>(
+    alloc: Global,
+    rt: T,
+    plan: &Plan,
+    limit: u64,
+    is_over: &Arc<AtomicBool, Global>,
+    seats: Vec<((R, G), Port)>,
+    handles: &mut Vec<WorkHandle<R, G>>,
+) -> Result<(), AllocError>
+    requires limit { limit ≤ MAX_LIMIT }
+    requires count { length seats.items ≤ length plan.now.request.inputs }
+    requires unsent { AreUnsent seats.items }
+    requires none { handles.old.items ≡ [] }
+    requires room { length seats.items ≤ vec_capacity handles.old }
+    ensures started { AreStarted limit plan.now seats.items
+        (map (λ h. h.promise.worker.value) handles.new.items) }
+    ensures all { OnOk result (length handles.new.items ≡ length seats.items) }
+{
+    for ((reader, gate), port) in seats {
+        let gate = RunGate::new(gate, Arc::try_clone(is_over)?);
+        let number = handles.len();
+        let own = plan.copy(alloc)?;
+        let worker = Worker::new(alloc, reader, gate, port, own, number, limit);
+        let handle = start(rt, worker)?;
+        let Ok(()) = handles.push(handle) else {
+            unreachable!()
+        };
+    }
+    Ok(())
+}
+
+/// Joins the threads of the workers, and settles their ports.
+pub(crate) fn join_all<T: Threads, R: Source + Drop, G: Gate + Drop>(
+    rt: &T,
+    station: &mut Station,
+    handles: Vec<WorkHandle<R, G>>,
+    ended: &mut Vec<Ended<R, G>>,
+)
+    requires none { ended.old.items ≡ [] }
+    requires room { vec_len handles ≤ vec_capacity ended.old }
+    requires station { AreOfStation station.old (map (λ h. h.promise.worker.value) handles.items) }
+    ensures same { station.new ≡ station.old }
+    ensures count { length ended.new.items ≡ length handles.items }
+    ensures ended { AreEnded R.remaining R.failures station.old
+        (map (λ h. h.promise.worker.value) handles.items) ended.new.items }
+{
+    for handle in handles {
+        let (report, port, reader, gate) = handle.join(rt);
+        let _ = station.settle(port);
+        let Ok(()) = ended.push(Ended {
+            report,
+            reader,
+            gate: gate.given,
+        }) else {
+            unreachable!()
+        };
+    }
+}

@@ -1,0 +1,22 @@
+//! The run in threads: each input is read in a thread of its own, and the calling thread takes its packets into the multiplex
+//! and writes what goes out.
+//!
+//! A ring an input leads from its worker to the one station, which the calling thread owns and ticks. What is written is what
+//! the run in one thread would write: the packets of a sound history that takes of each input what can be taken of its bytes.
+#![tactic(auto)]
+
+mod crew;
+mod driving;
+mod ended;
+mod ending;
+mod opening;
+mod run;
+mod run_gate;
+mod seats;
+#[cfg(test)]
+mod tests;
+mod turn;
+mod work;
+mod working;
+
+pub use run::run_threads;

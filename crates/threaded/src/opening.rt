@@ -1,0 +1,66 @@
+//! A run before its workers are started.
+
+ghost use Rattle.std.specs.Prelude.{◌≡◌, ◌^◌, ◌≤◌, [], IfOk};
+ghost use Rattle.serial.specs.Sending.{HasAnalysed};
+ghost use Rattle.station.specs.Opening.{IsOpened};
+ghost use Rattle.threaded.specs.Opening.{IsReady};
+
+use crate::seats::seats;
+use plan::Plan;
+use port::{Gate, Port};
+use reading::Source;
+use serial::SlotWriter;
+use station::Station;
+use std::alloc::{AllocError, Global};
+use std::sync::Arc;
+use std::sync::atomic::AtomicBool;
+
+/// A run before its workers are started: the station, what each worker is made of, what the output goes through, and whether the
+/// run is over.
+pub(crate) struct Opening<R: Source + Drop, G: Gate + Drop> {
+    pub station: Station,
+    pub seats: Vec<((R, G), Port)>,
+    pub output: SlotWriter,
+    pub is_over: Arc<AtomicBool, Global>,
+}
+
+/// What the output of a plan goes through.
+fn open_output(alloc: Global, plan: &Plan) -> Result<SlotWriter, AllocError>
+    ensures analysed { IfOk result (λ o. HasAnalysed o plan.now.request.rate plan.now.request.watch []) }
+    ensures waiting { IfOk result (λ o. o.writer ≡ []) }
+{
+    SlotWriter::new(alloc, plan.rate(), plan.request().watch())
+}
+
+/// The station of a plan for at most so many slots, and the port of each input, in their order.
+fn open_station(alloc: Global, plan: &Plan, slots: u64) -> Result<(Station, Vec<Port>), AllocError>
+    requires { slots ≤ 2 ^ 40 }
+    ensures { IfOk result (λ o. IsOpened plan.now slots o.0 o.1.items) }
+{
+    Station::open(alloc, plan.copy(alloc)?, slots)
+}
+
+/// A run of a plan for at most this many slots, with a reader and a gate an input. `Err` is want of memory.
+pub(crate) fn open<R: Source + Drop, G: Gate + Drop>(
+    alloc: Global,
+    plan: &Plan,
+    slots: u64,
+    readers: Vec<R>,
+    gates: Vec<G>,
+) -> Result<Opening<R, G>, AllocError>
+    requires { slots ≤ 2 ^ 40 }
+    ensures ready { IfOk result (λ o. IsReady plan.now slots readers.items gates.items o.station o.seats.items) }
+    ensures analysed { IfOk result (λ o. HasAnalysed o.output plan.now.request.rate plan.now.request.watch []) }
+    ensures waiting { IfOk result (λ o. o.output.writer ≡ []) }
+{
+    let output = open_output(alloc, plan)?;
+    let is_over = Arc::new(alloc, AtomicBool::new(false))?;
+    let (station, ports) = open_station(alloc, plan, slots)?;
+    let seats = seats(alloc, readers, gates, ports)?;
+    Ok(Opening {
+        station,
+        seats,
+        output,
+        is_over,
+    })
+}

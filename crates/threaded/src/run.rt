@@ -1,0 +1,163 @@
+//! A whole run.
+
+ghost use Rattle.std.specs.Prelude.{◌≡◌, ◌^◌, ◌≤◌, List, length, map, Err, IfOk, OnOk, OnErr};
+ghost use Rattle.tspkt.specs.declared.framer.TheConstants.{MAX_LIMIT};
+ghost use Rattle.mux.specs.declared.event.Event.{Event};
+ghost use Rattle.mux.specs.Plans.{IsMultiplexPlan};
+ghost use Rattle.reading.specs.Failures.{FailsOnce};
+ghost use Rattle.threaded.specs.Crews.{AreUnsent, AreSeated};
+ghost use Rattle.threaded.specs.Outcome.{HasRun, HasBegun, RunsThrough, IsCutShort};
+
+use crate::ending::end_run;
+use crate::opening::{Opening, open};
+use crate::working::work_through;
+use plan::Plan;
+use port::Gate;
+use reading::Source;
+use serial::{RunFault, Sink, Summary};
+use std::alloc::Global;
+use std::sync::Wait;
+use std::thread::Threads;
+use std::time::Clock;
+
+/// Runs a plan in threads: reads one reader an input, each in a thread of its own and at most `limit` bytes of each (up to
+/// 140,737,488,355,328), and writes the packet of each slot, at most so many slots (0 to 2^40). It ends where all inputs have
+/// ended and nothing waits, or where it has all its slots.
+///
+/// Each input has a gate, which is asked before each read, after each packet that went into the input's ring, and after each
+/// packet or end mark that found it full. Where it says no the input is read no further and left open, so a run whose gates
+/// say no need not end. The writer comes back, and without a fault the readers and gates too, in their order.
+/// `Memory` is answered where memory or a thread was refused before any write failed, and `Write` where the writer failed; what
+/// was written is then a beginning of the output. A reader that fails ends its input, and the run goes on.
+#[tactic(none)]
+pub fn run_threads<
+    T: Threads + Wait + Clock + Copy + Send + Drop + 'static,
+    R: Source + Send + Drop + 'static,
+    G: Gate + Send + Drop + 'static,
+    W: Sink,
+>(
+    alloc: Global,
+    rt: T,
+    plan: Plan,
+    slots: u64,
+    limit: u64,
+    readers: Vec<R>,
+    gates: Vec<G>,
+    writer: W,
+) -> (W, Result<(Summary, Vec<(R, G)>), RunFault>)
+    requires slots { slots ≤ 2 ^ 40 }
+    requires limit { limit ≤ MAX_LIMIT }
+    requires readers { length readers.items ≡ length plan.request.inputs }
+    requires gates { length gates.items ≡ length plan.request.inputs }
+    ensures runs { IfOk result.1 (λ done. (h : List Event)
+        × HasRun (record { run = record { plan = plan; limit = slots }; events = h })
+        (map R.remaining readers.items) (W.contents writer) (W.contents result.0) done.0) }
+    ensures begins { OnErr result.1 ((h : List Event)
+        × HasBegun (record { run = record { plan = plan; limit = slots }; events = h })
+        (map R.remaining readers.items) (W.contents writer) (W.contents result.0)) }
+    ensures lent { IfOk result.1 (λ done. length done.1.items ≡ length readers.items) }
+    ensures wrote { OnOk result.1 (W.failures result.0 ≡ W.failures writer) }
+    ensures memory { result.1 ≡ Err RunFault.Memory → W.failures result.0 ≡ W.failures writer }
+    ensures write_failed { result.1 ≡ Err RunFault.Write → FailsOnce (W.failures writer) (W.failures result.0) }
+{
+    let mut sink = writer;
+    let result = run_to(alloc, rt, plan, slots, limit, readers, gates, &mut sink);
+    (sink, result)
+}
+
+/// What every plan keeps.
+fn known(plan: &Plan)
+    ensures { IsMultiplexPlan plan.now }
+{
+    let _ = plan.request().rate();
+    let _ = plan.rounds().rate();
+}
+
+/// The same, with the writer lent.
+#[tactic(none)]
+fn run_to<
+    T: Threads + Wait + Clock + Copy + Send + Drop + 'static,
+    R: Source + Send + Drop + 'static,
+    G: Gate + Send + Drop + 'static,
+    W: Sink,
+>(
+    alloc: Global,
+    rt: T,
+    plan: Plan,
+    slots: u64,
+    limit: u64,
+    readers: Vec<R>,
+    gates: Vec<G>,
+    sink: &mut W,
+) -> Result<(Summary, Vec<(R, G)>), RunFault>
+    requires slots { slots ≤ 2 ^ 40 }
+    requires limit { limit ≤ MAX_LIMIT }
+    requires readers { length readers.items ≡ length plan.request.inputs }
+    requires gates { length gates.items ≡ length plan.request.inputs }
+    ensures runs { IfOk result (λ done. (h : List Event)
+        × HasRun (record { run = record { plan = plan; limit = slots }; events = h })
+        (map R.remaining readers.items) (W.contents sink.old) (W.contents sink.new) done.0) }
+    ensures begins { OnErr result ((h : List Event)
+        × HasBegun (record { run = record { plan = plan; limit = slots }; events = h })
+        (map R.remaining readers.items) (W.contents sink.old) (W.contents sink.new)) }
+    ensures lent { IfOk result (λ done. length done.1.items ≡ length readers.items) }
+    ensures wrote { OnOk result (W.failures sink.new ≡ W.failures sink.old) }
+    ensures memory { result ≡ Err RunFault.Memory → W.failures sink.new ≡ W.failures sink.old }
+    ensures write_failed { result ≡ Err RunFault.Write → FailsOnce (W.failures sink.old) (W.failures sink.new) }
+{
+    known(&plan);
+    let opening = open(alloc, &plan, slots, readers, gates)?;
+    run_opened(alloc, rt, &plan, limit, opening, sink)
+}
+
+/// Runs what was opened, to its end.
+#[tactic(none)]
+fn run_opened<
+    T: Threads + Wait + Clock + Copy + Send + Drop + 'static,
+    R: Source + Send + Drop + 'static,
+    G: Gate + Send + Drop + 'static,
+    W: Sink,
+>(
+    alloc: Global,
+    rt: T,
+    plan: &Plan,
+    limit: u64,
+    opening: Opening<R, G>,
+    sink: &mut W,
+) -> Result<(Summary, Vec<(R, G)>), RunFault>
+    requires limit { limit ≤ MAX_LIMIT }
+    requires plan { opening.station.history.run.plan ≡ plan.now }
+    requires count { length opening.seats.items ≡ length plan.now.request.inputs }
+    requires unsent { AreUnsent opening.seats.items }
+    requires seated { AreSeated opening.station opening.seats.items }
+    ensures ended { IfOk result (λ done. RunsThrough R.remaining R.failures limit plan.now
+        opening.station opening.seats.items opening.output (W.contents sink.old) (W.contents sink.new) done.0 done.1.items) }
+    ensures failed { OnErr result (IsCutShort R.remaining R.failures limit plan.now
+        opening.station opening.seats.items opening.output (W.contents sink.old) (W.contents sink.new)) }
+    ensures wrote { OnOk result (W.failures sink.new ≡ W.failures sink.old) }
+    ensures memory { result ≡ Err RunFault.Memory → W.failures sink.new ≡ W.failures sink.old }
+    ensures write_failed { result ≡ Err RunFault.Write → FailsOnce (W.failures sink.old) (W.failures sink.new) }
+{
+    let Opening {
+        mut station,
+        seats,
+        mut output,
+        is_over,
+    } = opening;
+    let worked = work_through(
+        alloc,
+        rt,
+        plan,
+        limit,
+        &is_over,
+        seats,
+        &mut station,
+        &mut output,
+        sink,
+    );
+    // What every station keeps is known with this.
+    let _ = station.slots();
+    let ended = worked?;
+    let streams = plan.streams().len();
+    Ok(end_run(alloc, &station, ended, streams, output.faults())?)
+}
