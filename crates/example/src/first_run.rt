@@ -3,25 +3,16 @@
 ghost use Rattle.std.specs.Prelude.{◌<◌, length};
 
 use crate::example_plan;
+use crate::input_packets::packets;
 use anyhow::{Result, bail};
 use mux::{MAX_SLOTS, Mux, Slot, Taken};
-use std::alloc::{AllocError, Global};
+use std::alloc::Global;
 use tspkt::{Item, Packet, Stamped, frame, time};
 
 /// The rate of the input, in bits a second.
 const RATE: u64 = 1_504_000;
 /// How many slots are sent.
 const SLOTS: usize = 2;
-
-/// Five packets of PID 0x0101 with counters from 0, each of 184 bytes 0xAA.
-fn five_packets(alloc: Global) -> Result<Vec<u8>, AllocError> {
-    let mut bytes = Vec::new(alloc);
-    for counter in 0..5 {
-        bytes.extend_from_slice(&[0x47, 0x01, 0x01, 0x10 + counter])?;
-        bytes.extend_from_slice(&[0xAA; 184])?;
-    }
-    Ok(bytes)
-}
 
 /// Takes the packets of an input, each stamped with the time of its byte 10.
 fn take_all(alloc: Global, mux: &mut Mux, input: usize, bytes: Vec<u8>) -> Result<()>
@@ -47,13 +38,13 @@ fn take_all(alloc: Global, mux: &mut Mux, input: usize, bytes: Vec<u8>) -> Resul
 pub fn first_slots(alloc: Global) -> Result<Vec<Packet>> {
     let plan = example_plan::planned(alloc, example_plan::PLAN, &example_plan::tables(alloc)?)?;
     let mut mux = example_plan::open(alloc, plan, 1, MAX_SLOTS)?;
-    take_all(alloc, &mut mux, 0, five_packets(alloc)?)?;
-    let mut packets = Vec::new(alloc);
+    take_all(alloc, &mut mux, 0, packets(alloc, &[0, 1, 2, 3, 4])?)?;
+    let mut sent = Vec::new(alloc);
     for _ in 0..SLOTS {
         let Slot::Sent(packet) = mux.slot() else {
             bail!("no slot was sent");
         };
-        packets.push(packet)?;
+        sent.push(packet)?;
     }
-    Ok(packets)
+    Ok(sent)
 }

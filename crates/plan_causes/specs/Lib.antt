@@ -1,0 +1,2 @@
+pub mod ServiceNumbers
+pub mod Causes
