@@ -18,7 +18,7 @@ pub struct SlotWriter {
 }
 
 impl SlotWriter {
-    ghost use Rattle.std.specs.Prelude.{◌≡◌, ◌∷◌, ◌++◌, ℕ, List, [], Err, IfOk, OnOk, OnErr};
+    ghost use Rattle.std.specs.Prelude.{◌≡◌, ◌∷◌, ◌++◌, ℕ, List, [], Err, true, IfOk, OnOk, OnErr};
     ghost use Rattle.std.specs.Io.KnownBytes.{Appends};
     ghost use Rattle.reading.specs.Failures.{FailsOnce};
     ghost use Rattle.serial.specs.Written.{Sends, SendsBeginning};
@@ -45,7 +45,9 @@ impl SlotWriter {
         self.faults
     }
 
-    /// Analyses a packet and writes it.
+    /// Analyses a packet and writes it. At want of memory the packet isn't taken: nothing is written, what waits and the count
+    /// of faults are as they were, and the analyser takes no more. At a failed write the packet was analysed, and nothing
+    /// waits.
     pub fn put<W: Sink>(&mut self, packet: &Packet, sink: &mut W) -> Result<(), RunFault>
         ensures analysed { OnOk result ((rate period : ℕ) (slots : List (List ℕ))
             → HasAnalysed self.old rate period slots
@@ -56,6 +58,13 @@ impl SlotWriter {
             (SendsBeginning (W.contents sink.old) (W.contents sink.new) (self.old.writer ++ packet.now)) }
         ensures failures { OnOk result (W.failures sink.new ≡ W.failures sink.old) }
         ensures memory { result ≡ Err RunFault.Memory → sink.new ≡ sink.old }
+        ensures refused { result ≡ Err RunFault.Memory → self.new.analyser.is_refused ≡ true }
+        ensures stays { result ≡ Err RunFault.Memory
+            → (self.new.writer ≡ self.old.writer) × (self.new.faults ≡ self.old.faults) }
+        ensures failed_waiting { result ≡ Err RunFault.Write → self.new.writer ≡ [] }
+        ensures failed_analysed { result ≡ Err RunFault.Write → (rate period : ℕ) (slots : List (List ℕ))
+            → HasAnalysed self.old rate period slots
+            → HasAnalysed self.new rate period (slots ++ packet.now ∷ []) }
         ensures failed { result ≡ Err RunFault.Write
             → FailsOnce (W.failures sink.old) (W.failures sink.new) }
     {
@@ -66,12 +75,14 @@ impl SlotWriter {
         }
     }
 
-    /// Analyses a packet.
+    /// Analyses a packet. At an `Err`, which is want of memory, the analyser takes no more, and no fault is counted.
     fn analyse(&mut self, packet: &Packet) -> Result<(), AllocError>
         ensures analysed { OnOk result ((rate period : ℕ) (slots : List (List ℕ))
             → HasAnalysed self.old rate period slots
             → HasAnalysed self.new rate period (slots ++ packet.now ∷ [])) }
         ensures writer { self.new.writer ≡ self.old.writer }
+        ensures refused { OnErr result (self.new.analyser.is_refused ≡ true) }
+        ensures stays { OnErr result (self.new.faults ≡ self.old.faults) }
     {
         self.told.clear();
         self.analyser.push_packet(packet, &mut self.told)?;
