@@ -1,5 +1,6 @@
 pub mod KnownLaws
 pub mod ItemLaws
+pub mod DecidedLaws
 pub mod StreamLaws
 pub mod PacketLaws
 pub mod FailureLaws

@@ -22,7 +22,7 @@ use Rattle.reading.specs.declared.packet_reader.PacketReader.{PacketReader}
 use Rattle.reading.specs.Counting.{sum_within, with_counts, nothing_counted}
 use Rattle.reading.specs.Takeable.{OriginValue, is_well_formed, is_named, taken_of, takeable, counted_of, CountsItems}
 use Rattle.reading.specs.Items.{ItemsValue, given_up}
-use Rattle.reading.specs.StreamReading.{HasPassed, BeginsPackets, BeginsFramed, ReadsMore, stopped_by}
+use Rattle.reading.specs.StreamReading.{HasPassed, BeginsPackets, BeginsFramed, AreAllDecided, ReadsMore, stopped_by}
 use Rattle.reading.specs.PacketReading.{HasLooked, HasRead, ReadsOn, BeginsTakeable, IsSpent, IsWhole, CountsTold}
 use Rattle.reading.proofs.KnownLaws.{consumes_on, consumes_nothing}
 use Rattle.reading.proofs.ItemLaws.{weight, weight-framed}
@@ -142,7 +142,7 @@ pub failed_read : {R : Type 0} (remaining : R → Option (List ℕ)) (plan : Pla
 failed_read remaining plan x bytes given h spent failed =
     let items = x.stream.items in
     let told = told_failed items.limit items.framer (h.0 ++ items.ahead) bytes (remaining x.stream.source) x.report.stopped failed h.1.passed in
-    all_given remaining plan x bytes given h spent ∙ takeable_same plan x.origin h.0 (framed 188 bytes) (ap packets_of (sym (all_looked x h.0 spent)) ∙ told)
+    all_given remaining plan x bytes given h spent ∙ takeable_same plan x.origin h.0 (framed 188 bytes) (ap packets_of (sym (all_looked x h.0 spent)) ∙ told.packets)
 
 -- the report of an input with a failed read counts what was told of the bytes before it
 pub counts_told : {R : Type 0} (remaining : R → Option (List ℕ)) (plan : PlanValue) (x : PacketReader R) (bytes : List ℕ) (given : List Stamped) → HasRead remaining plan x bytes given → x.report.stopped ≡ Some ReadFailed
@@ -151,10 +151,12 @@ counts_told remaining plan x bytes given h failed =
     let items = x.stream.items in
     let none = h.1.over (subst IsSome (sym failed) refl) in
     let all : h.0 ++ items.ahead ≡ h.0 = ap (λ v. h.0 ++ v) none ∙ append-nil h.0 in
+    let before = told_failed items.limit items.framer (h.0 ++ items.ahead) bytes (remaining x.stream.source) x.report.stopped failed h.1.passed in
     record {
       told = h.0;
       begun = looked_framed remaining plan x bytes given h;
-      packets = ap packets_of (sym all) ∙ told_failed items.limit items.framer (h.0 ++ items.ahead) bytes (remaining x.stream.source) x.report.stopped failed h.1.passed;
+      packets = ap packets_of (sym all) ∙ before.packets;
+      all = subst (AreAllDecided bytes) all before.all;
       counts = h.1.counts;
     }
 

@@ -9,10 +9,12 @@ use Rattle.std.proofs.lemmas.List.{append-nil}
 use Rattle.tspkt.specs.Framed.{FramerState, new_framer, framed, framed_from, seen, packets_of, still_to_tell, TakesPiece}
 use Rattle.tspkt.specs.declared.item.Item.{Item}
 use Rattle.tspkt.proofs.FramingLaws.{begins_framed, whole_framed, packets_framed, packets_of-append}
+use Rattle.tspkt.proofs.DecidedLaws.{fresh_told_all}
+use Rattle.reading.proofs.DecidedLaws.{all_decided}
 use Rattle.reading.specs.declared.stop.Stop.{Stop}
 use Rattle.reading.specs.declared.stop.Stop.TheVariants.{ReadFailed, TooMuch}
 use Rattle.reading.specs.Items.{ItemsValue, new_items, given_up, TakesMore, Finishes, IsFull}
-use Rattle.reading.specs.StreamReading.{StreamState, IsReading, IsOver, HasTold, BeginsPackets, BeginsFramed}
+use Rattle.reading.specs.StreamReading.{StreamState, IsReading, IsAllTold, IsOver, HasTold, BeginsPackets, BeginsFramed}
 
 abbrev pub state : ℕ → Option FramerState → List Item → List ℕ → Option (List ℕ) → Option Stop → StreamState
 state limit framer told bytes left stopped = record { limit = limit; framer = framer; told = told; bytes = bytes; left = left; stopped = stopped }
@@ -79,7 +81,7 @@ some_same x y e = ap (λ (o : Option _). unwrap_or o x) e
 
 left_with : (limit : ℕ) (framer : Option FramerState) (passed ahead : List Item) (bytes piece : List ℕ) (left at_last : Option (List ℕ)) (stopped : Option Stop) (cause : Stop)
     → (cause ≡ TooMuch → limit < length (bytes ++ piece)) → ((cause ≡ TooMuch → ⊥) → length (bytes ++ piece) ≤ limit) → BeginsFramed (bytes ++ piece) (IsAtEnd at_last) passed
-    → (cause ≡ ReadFailed → packets_of passed ≡ packets_of (framed 188 (bytes ++ piece))) → HasTold (state limit framer (passed ++ ahead) bytes left stopped)
+    → (cause ≡ ReadFailed → IsAllTold (bytes ++ piece) passed) → HasTold (state limit framer (passed ++ ahead) bytes left stopped)
     → HasTold (state limit None (passed ++ []) (bytes ++ piece) at_last (Some cause))
 left_with limit framer passed ahead bytes piece left at_last stopped cause full fits framing all_passed h =
     let packets = front_packets bytes passed ahead (told_packets limit framer (passed ++ ahead) bytes left stopped h) in
@@ -91,7 +93,7 @@ left_with limit framer passed ahead bytes piece left at_last stopped cause full 
       ended = λ e. absurd (none-some cause (sym e));
       too_much = λ e. full (some_same cause TooMuch e);
       within = λ other. fits (λ same. other (ap Some same));
-      failed = λ e. ap packets_of (append-nil passed) ∙ all_passed (some_same cause ReadFailed e);
+      failed = λ e. subst (IsAllTold (bytes ++ piece)) (sym (append-nil passed)) (all_passed (some_same cause ReadFailed e));
     } in
     over
 
@@ -107,12 +109,12 @@ left_over items new passed bytes piece left at_last stopped cause gone full fits
 
 -- a stream that is left, with no bytes more
 pub left_now : (items new : ItemsValue) (passed : List Item) (bytes : List ℕ) (left : Option (List ℕ)) (stopped : Option Stop) (cause : Stop)
-    → new ≡ given_up items → cause ≢ TooMuch → (stopped ≡ Some TooMuch → ⊥) → (cause ≡ ReadFailed → packets_of passed ≡ packets_of (framed 188 bytes))
+    → new ≡ given_up items → cause ≢ TooMuch → (stopped ≡ Some TooMuch → ⊥) → (cause ≡ ReadFailed → IsAllTold bytes passed)
     → HasTold (passed_state items passed bytes left stopped) → HasTold (passed_state new passed bytes left (Some cause))
 left_now items new passed bytes left stopped cause gone other few all_passed h =
     let framing = subst (λ v. BeginsFramed v (IsAtEnd left) passed) (sym (append-nil bytes)) (front_framed bytes (IsAtEnd left) passed items.ahead (told_framed items.limit items.framer (passed ++ items.ahead) bytes left stopped h)) in
     let size = told_within items.limit items.framer (passed ++ items.ahead) bytes left stopped h few in
-    let here = left_with items.limit items.framer passed items.ahead bytes [] left left stopped cause (λ e. absurd (other e)) (λ f. omega (arith, size, length-append bytes [])) framing (λ e. all_passed e ∙ ap (λ v. packets_of (framed 188 v)) (sym (append-nil bytes))) h in
+    let here = left_with items.limit items.framer passed items.ahead bytes [] left left stopped cause (λ e. absurd (other e)) (λ f. omega (arith, size, length-append bytes [])) framing (λ e. subst (λ v. IsAllTold v passed) (sym (append-nil bytes)) (all_passed e)) h in
     let P : ItemsValue → Type 0 = λ v. HasTold (passed_state v passed bytes left (Some cause)) in
     let Q : List ℕ → Type 0 = λ v. HasTold (state items.limit None (passed ++ []) v left (Some cause)) in
     subst P (sym gone) (subst Q (append-nil bytes) here)
@@ -135,10 +137,15 @@ fits_bytes limit (Some f) told bytes piece left stopped going h few =
 told_before : (passed ahead : List Item) → ahead ≡ [] → passed ≡ passed ++ ahead
 told_before passed ahead none = sym (append-nil passed) ∙ ap (λ v. passed ++ v) (sym none)
 
--- where no item is ahead, all packets of the bytes so far were taken
-pub all_passed : (limit : ℕ) (framer : Option FramerState) (passed ahead : List Item) (bytes : List ℕ) (left : Option (List ℕ)) (stopped : Option Stop) → ahead ≡ [] → IsSome framer → HasTold (state limit framer (passed ++ ahead) bytes left stopped) → packets_of passed ≡ packets_of (framed 188 bytes)
+-- where no item is ahead, all packets of the bytes so far were taken, and all other items that they decide
+pub all_passed : (limit : ℕ) (framer : Option FramerState) (passed ahead : List Item) (bytes : List ℕ) (left : Option (List ℕ)) (stopped : Option Stop) → ahead ≡ [] → IsSome framer → HasTold (state limit framer (passed ++ ahead) bytes left stopped) → IsAllTold bytes passed
 all_passed limit None passed ahead bytes left stopped none going h = let bad : false ≡ true = going in cc
-all_passed limit (Some f) passed ahead bytes left stopped none going h = ap packets_of (told_before passed ahead none) ∙ packets_framed f (passed ++ ahead) bytes h.stride h.same h.prompt
+all_passed limit (Some f) passed ahead bytes left stopped none going h =
+    let told : IsAllTold bytes (passed ++ ahead) = record {
+      packets = packets_framed f (passed ++ ahead) bytes h.stride h.same h.prompt;
+      all = all_decided f (passed ++ ahead) bytes h.stride h.same h.told_all;
+    } in
+    subst (IsAllTold bytes) (sym (told_before passed ahead none)) told
 
 fed_told : (limit : ℕ) (framer : Option FramerState) (passed ahead : List Item) (new : ItemsValue) (bytes piece : List ℕ) (left at_last : Option (List ℕ)) (stopped : Option Stop)
     → ahead ≡ [] → IsSome framer → TakesMore limit framer piece new → HasTold (state limit framer (passed ++ ahead) bytes left stopped) → HasTold (passed_state new passed (bytes ++ piece) at_last stopped)
@@ -159,6 +166,7 @@ fed_told limit (Some f) passed ahead new bytes piece left at_last stopped none g
           ∙ ap (λ v. framed f.stride v) (sym (append_assoc bytes piece more))
           ∙ ap (λ s. framed s ((bytes ++ piece) ++ more)) (sym takes.stride_is);
       prompt = fed.prompt;
+      told_all = fed.told_all;
       goes_on = h.goes_on;
     } in
     let P : ItemsValue → Type 0 = λ v. HasTold (passed_state v passed (bytes ++ piece) at_last stopped) in
@@ -213,7 +221,7 @@ passed_on items new passed item bytes left stopped first is h =
 
 told_elsewhere : (limit : ℕ) (framer : Option FramerState) (told : List Item) (bytes : List ℕ) (left at_last : Option (List ℕ)) (stopped : Option Stop) → IsSome framer → HasTold (state limit framer told bytes left stopped) → HasTold (state limit framer told bytes at_last stopped)
 told_elsewhere limit None told bytes left at_last stopped going h = let bad : false ≡ true = going in cc
-told_elsewhere limit (Some f) told bytes left at_last stopped going h = record { stride = h.stride; seen_is = h.seen_is; within = h.within; same = h.same; prompt = h.prompt; goes_on = h.goes_on }
+told_elsewhere limit (Some f) told bytes left at_last stopped going h = record { stride = h.stride; seen_is = h.seen_is; within = h.within; same = h.same; prompt = h.prompt; told_all = h.told_all; goes_on = h.goes_on }
 
 -- while a stream is read, what its source has left doesn't matter
 pub passed_elsewhere : (items : ItemsValue) (passed : List Item) (bytes : List ℕ) (left at_last : Option (List ℕ)) (stopped : Option Stop) → IsSome items.framer → HasTold (passed_state items passed bytes left stopped) → HasTold (passed_state items passed bytes at_last stopped)
@@ -232,6 +240,7 @@ fresh_passed limit items left is =
       within = omega arith;
       same = λ more. refl;
       prompt = fresh_prompt limit;
+      told_all = fresh_told_all limit;
       goes_on = refl;
     } in
     let P : ItemsValue → Type 0 = λ v. HasTold (passed_state v [] [] left None) in
@@ -247,7 +256,7 @@ pub told_whole : (limit : ℕ) (framer : Option FramerState) (told : List Item) 
 told_whole limit None told bytes left stopped none goes h = h.ended goes
 told_whole limit (Some f) told bytes left stopped none goes h = absurd (none-some f (sym none))
 
--- of a stream with a failed read all packets before it were told
-pub told_failed : (limit : ℕ) (framer : Option FramerState) (told : List Item) (bytes : List ℕ) (left : Option (List ℕ)) (stopped : Option Stop) → stopped ≡ Some ReadFailed → HasTold (state limit framer told bytes left stopped) → packets_of told ≡ packets_of (framed 188 bytes)
+-- of a stream with a failed read all packets before it were told, and all other items that its bytes decide
+pub told_failed : (limit : ℕ) (framer : Option FramerState) (told : List Item) (bytes : List ℕ) (left : Option (List ℕ)) (stopped : Option Stop) → stopped ≡ Some ReadFailed → HasTold (state limit framer told bytes left stopped) → IsAllTold bytes told
 told_failed limit None told bytes left stopped e h = h.failed e
 told_failed limit (Some f) told bytes left stopped e h = absurd (none-some ReadFailed (sym h.goes_on ∙ e))

@@ -1,7 +1,7 @@
 -- A framer whose items are taken while it goes on (profile).
 use Rattle.std.specs.Prelude.{◌≡◌, ℕ, suc, ◌+◌, ◌-◌, ◌<◌, ◌≤◌, List, [], length, Option, Some, None, IfSome}
 use Rattle.std.specs.List.{AllByRecursion}
-use Rattle.tspkt.specs.Framed.{FramerState, new_framer, seen, still_to_tell, packets_of, TakesPiece}
+use Rattle.tspkt.specs.Framed.{FramerState, new_framer, seen, still_to_tell, packets_of, HasToldAll, TakesPiece}
 use Rattle.tspkt.specs.declared.framer.TheConstants.{MAX_LIMIT}
 use Rattle.tspkt.specs.declared.item.Item.{Item}
 use Rattle.tspkt.specs.declared.item.Item.TheVariants.{Packet, Bad, SyncLoss, Lost}
@@ -36,10 +36,12 @@ pub record AreItems (limit : ℕ) (framer : Option FramerState) (ahead : List It
   pub kind : IfSome framer (IsFramerWithin limit)
   pub placed : AllByRecursion IsPlaced ahead
 
--- the framer took a piece, and these items were told, among them all packets that the bytes so far have
+-- the framer took a piece, and these items were told, among them all packets that the bytes so far have and all other items
+-- that they decide
 pub record FeedsFramer (limit : ℕ) (old : FramerState) (piece : List ℕ) (new : FramerState) (told : List Item) : Type 0 where
   pub takes : TakesPiece old piece [] new told
   pub prompt : packets_of (still_to_tell new []) ≡ []
+  pub told_all : HasToldAll new
   pub room : seen old + length piece ≤ limit
 
 -- a piece was taken; where no framer goes on, nothing is told

@@ -8,7 +8,7 @@ use Rattle.tspkt.specs.declared.stamped.Stamped.{Stamped}
 use Rattle.plan.specs.Build.{PlanValue}
 use Rattle.reading.specs.Failures.{FailsOnce}
 use Rattle.reading.specs.Takeable.{OriginValue, takeable, CountsItems, EndsAtTaken}
-use Rattle.reading.specs.StreamReading.{HasPassed, BeginsFramed}
+use Rattle.reading.specs.StreamReading.{HasPassed, BeginsFramed, AreAllDecided}
 use Rattle.reading.specs.declared.report.Report.{Report}
 use Rattle.reading.specs.declared.stop.Stop.{Stop}
 use Rattle.reading.specs.declared.stop.Stop.TheVariants.{Gate, ReadFailed}
@@ -77,9 +77,10 @@ pub record IsWhole {R : Type 0} (remaining : R → Option (List ℕ)) (plan : Pl
   pub at_end : IsAtEnd (remaining x.stream.source)
 
 -- The report counts what was told of these bytes: items that begin their framing, whatever follows them, with all of their
--- packets.
+-- packets and all other items that they decide.
 pub record CountsTold (plan : PlanValue) (origin : OriginValue) (bytes : List ℕ) (at_end : Type 0) (report : Report) : Type 0 where
   pub told : List Item
   pub begun : BeginsFramed bytes at_end told
   pub packets : packets_of told ≡ packets_of (framed 188 bytes)
+  pub all : AreAllDecided bytes told
   pub counts : CountsItems plan origin told report

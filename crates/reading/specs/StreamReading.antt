@@ -1,7 +1,7 @@
 -- What was read of a stream, and which items it has (profile).
 use Rattle.std.specs.Prelude.{◌≡◌, ℕ, ◌<◌, ◌≤◌, List, [], ◌++◌, length, Option, Some, None, Result, Ok, Err, MatchOption, IsSome, IsErrOf}
 use Rattle.std.specs.Io.KnownBytes.{Consumes, IsAtEnd}
-use Rattle.tspkt.specs.Framed.{FramerState, framed, seen, packets_of, still_to_tell, IsFramedSoFar}
+use Rattle.tspkt.specs.Framed.{FramerState, framed, seen, packets_of, still_to_tell, HasToldAll, IsFramedSoFar}
 use Rattle.tspkt.specs.declared.item.Item.{Item}
 use Rattle.reading.specs.Failures.{FailsOnce}
 use Rattle.reading.specs.declared.stop.Stop.{Stop}
@@ -28,15 +28,26 @@ abbrev pub BeginsFramed : List ℕ → Type 0 → List Item → Type 0
 BeginsFramed bytes at_end items =
     (more : List ℕ) → (at_end → more ≡ []) → (later : List Item) × (items ++ later ≡ framed 188 (bytes ++ more))
 
+-- These items are all that the bytes decide: whichever begin their framing whatever follows them are among them, from the
+-- first on.
+abbrev pub AreAllDecided : List ℕ → List Item → Type 0
+AreAllDecided bytes told = (items : List Item) → BeginsFramed bytes ⊥ items → (later : List Item) × (told ≡ items ++ later)
+
 -- It is still read: what was told is, with what the framer has left to tell, the framing of the bytes so far and of whatever
--- follows them, and no packet of the bytes so far is left to tell.
+-- follows them; no packet of the bytes so far is left to tell, nor any other item that they decide.
 pub record IsReading (s : StreamState) (f : FramerState) : Type 0 where
   pub stride : f.stride ≡ 188
   pub seen_is : seen f ≡ length s.bytes
   pub within : length s.bytes ≤ s.limit
   pub same : IsFramedSoFar f s.told s.bytes
   pub prompt : packets_of (still_to_tell f []) ≡ []
+  pub told_all : HasToldAll f
   pub goes_on : s.stopped ≡ None
+
+-- All packets of these bytes were told, and all items that they decide.
+pub record IsAllTold (bytes : List ℕ) (told : List Item) : Type 0 where
+  pub packets : packets_of told ≡ packets_of (framed 188 bytes)
+  pub all : AreAllDecided bytes told
 
 -- It is read no more: what was told is all of the framing of its bytes where nothing stopped it, and it is at its end then;
 -- else it is a beginning.
@@ -48,8 +59,8 @@ pub record IsOver (s : StreamState) : Type 0 where
   -- it is told as too long exactly where more bytes were read than it may have
   pub too_much : s.stopped ≡ Some TooMuch → s.limit < length s.bytes
   pub within : (s.stopped ≡ Some TooMuch → ⊥) → length s.bytes ≤ s.limit
-  -- a failed read loses no packet of the bytes before it
-  pub failed : s.stopped ≡ Some ReadFailed → packets_of s.told ≡ packets_of (framed 188 s.bytes)
+  -- a failed read loses no packet of the bytes before it, nor any other item that they decide
+  pub failed : s.stopped ≡ Some ReadFailed → IsAllTold s.bytes s.told
 
 abbrev pub HasTold : StreamState → Type 0
 HasTold s = MatchOption s.framer (IsOver s) (IsReading s)

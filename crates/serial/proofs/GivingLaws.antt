@@ -157,7 +157,7 @@ failed_given remaining p x bytes given has failed =
     let none = has.1.over (subst IsSome (sym failed) refl) in
     let all : has.0 ++ items.ahead ≡ has.0 = ap (λ v. has.0 ++ v) none ∙ append-nil has.0 in
     let told = told_failed items.limit items.framer (has.0 ++ items.ahead) bytes (remaining x.stream.source) x.report.stopped failed has.1.passed in
-    sym has.1.given_is ∙ takeable_same p x.origin has.0 (framed 188 bytes) (ap packets_of (sym all) ∙ told)
+    sym has.1.given_is ∙ takeable_same p x.origin has.0 (framed 188 bytes) (ap packets_of (sym all) ∙ told.packets)
 
 same_bytes : (all : List ℕ) (left : Option (List ℕ)) (a b : List ℕ) → Consumes (Some all) left a → Consumes (Some all) left b → a ≡ b
 same_bytes all None a b first second = absurd first

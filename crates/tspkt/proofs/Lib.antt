@@ -6,3 +6,4 @@ pub mod CountedLaws
 pub mod CounterLaws
 pub mod FramingLaws
 pub mod FramedLaws
+pub mod DecidedLaws

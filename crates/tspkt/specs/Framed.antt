@@ -102,6 +102,10 @@ seen f = f.position + length f.kept
 abbrev pub still_to_tell : FramerState → List ℕ → List Item
 still_to_tell f more = framed_from f.stride f.mode f.position (f.kept ++ more)
 
+-- It has told all that is decided: no item is left to tell that comes next whatever follows.
+abbrev pub HasToldAll : FramerState → Type 0
+HasToldAll f = (item : Item) → ((more : List ℕ) → (later : List Item) × (still_to_tell f more ≡ item ∷ later)) → ⊥
+
 -- What was told is, with what is left to tell, the framing of these bytes and of whatever follows them.
 abbrev pub IsFramedSoFar : FramerState → List Item → List ℕ → Type 0
 IsFramedSoFar f told bytes = (more : List ℕ) → told ++ still_to_tell f more ≡ framed f.stride (bytes ++ more)

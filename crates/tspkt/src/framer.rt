@@ -25,8 +25,8 @@ const _: () = prove!(MAX_LIMIT == 8 * 1024 * 1024 * 1024 * 1024 * 16);
 
 /// Finds the packets of a stream that comes in pieces (ISO/IEC 13818-1, 2.4.3.2; ETSI TR 101 290, 5.2.1).
 ///
-/// A packet is told by the feed that brings its last byte or the fifth sync byte, whichever comes later; other items may
-/// come later than the bytes that decide them.
+/// A packet is told by the feed that brings its last byte or the fifth sync byte, whichever comes later; each item is told
+/// by the feed whose bytes decide it.
 #[derive(Drop)]
 pub struct Framer {
     stride: usize,
@@ -57,14 +57,15 @@ impl Model for Framer {
 
 impl Framer {
     ghost use Rattle.std.specs.Prelude.{◌≡◌, List, ℕ, [], ◌+◌, ◌<◌, ◌≤◌, ◌↔◌, ◌++◌, length, vec_len, vec_capacity, OnOk, OnErr, IfErr, Err};
-    ghost use Rattle.tspkt.specs.Stepping.{IsWaiting};
-    ghost use Rattle.tspkt.specs.Framed.{new_framer, seen, still_to_tell, packets_of, framed, TakesPiece, WantsRoom, IsFramedSoFar};
+    ghost use Rattle.tspkt.specs.Stepping.{IsFramer};
+    ghost use Rattle.tspkt.specs.Framed.{new_framer, seen, still_to_tell, packets_of, framed, HasToldAll, TakesPiece, WantsRoom, IsFramedSoFar};
 
     /// A framer that has seen nothing, for a stream of packets of 188 bytes, at most 3,154,116,608 bytes in all.
     pub fn new() -> Framer
         ensures state { result ≡ new_framer 188 LIMIT }
         ensures framed { IsFramedSoFar result [] [] }
         ensures prompt { packets_of (still_to_tell result []) ≡ [] }
+        ensures told_all { HasToldAll result }
     {
         Framer::with_limit(LIMIT)
     }
@@ -76,6 +77,7 @@ impl Framer {
         ensures state { result ≡ new_framer 188 limit }
         ensures framed { IsFramedSoFar result [] [] }
         ensures prompt { packets_of (still_to_tell result []) ≡ [] }
+        ensures told_all { HasToldAll result }
     {
         Framer {
             stride: STRIDE,
@@ -90,7 +92,8 @@ impl Framer {
     /// Takes the next piece of the stream, and tells the packets that it decides, and items before and between them, behind
     /// those of `out`.
     ///
-    /// A packet is told by the feed that brings its last byte or the fifth sync byte, whichever comes later.
+    /// A packet is told by the feed that brings its last byte or the fifth sync byte, whichever comes later, and no item that
+    /// the bytes so far decide is left.
     /// `TooMuch` comes exactly where the stream would pass its limit, `Memory` where there is no memory for the items: only
     /// where more of them are decided than `out` has room for, and never at an empty piece.
     /// Either changes nothing: the framer and what is in `out` are as they were.
@@ -100,6 +103,8 @@ impl Framer {
 
         // If the stream ended here no packet would be left to tell.
         ensures prompt { OnOk result (packets_of (still_to_tell self.new []) ≡ []) }
+
+        ensures told_all { OnOk result (HasToldAll self.new) }
 
         ensures too_much { (result ≡ Err FeedFault.TooMuch) ↔ (self.old.limit < seen self.old + length piece.now) }
         ensures room { result ≡ Err FeedFault.Memory
@@ -117,7 +122,7 @@ impl Framer {
     /// Takes the next piece, and keeps what waits for more.
     fn take_piece(&mut self, piece: &[u8], out: &mut Vec<Item>) -> Result<(), FeedFault>
         ensures ok { OnOk result (TakesPiece self.old piece.now out.old.items self.new out.new.items) }
-        ensures waits { OnOk result (IsWaiting self.new.stride self.new.mode self.new.kept) }
+        ensures waits { OnOk result (IsFramer self.new.stride self.new.limit self.new.position self.new.mode self.new.kept) }
         ensures too_much { (result ≡ Err FeedFault.TooMuch) ↔ (self.old.limit < seen self.old + length piece.now) }
         ensures room { result ≡ Err FeedFault.Memory
             → vec_capacity out.old < vec_len out.old + length self.old.kept + length piece.now }
