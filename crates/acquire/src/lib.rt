@@ -11,8 +11,6 @@ mod program_finder;
 mod section_reader;
 mod sought_table;
 mod table_finder;
-#[cfg(test)]
-mod tests;
 
 pub use acquisition::Acquire;
 pub use finding::find_tables;

@@ -25,8 +25,6 @@ mod stream_watch;
 mod sync_watch;
 mod table_seen;
 mod table_watches;
-#[cfg(test)]
-mod tests;
 mod unread_section;
 mod watched_pids;
 

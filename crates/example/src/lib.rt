@@ -1,15 +1,12 @@
 //! An example: a plan, the tables and packets of its input, and the stored first run over them.
 //!
-//! A slot and a packet of an input take 27,000 ticks; tables go out in the slots 0, 2 and 4, 100, 102 and 104, and so on. The
-//! tests here go through the multiplex by hand, with numbers worked out on paper.
+//! A slot and a packet of an input take 27,000 ticks; tables go out in the slots 0, 2 and 4, 100, 102 and 104, and so on.
 #![tactic(auto)]
 
 mod example_plan;
 mod first_run;
 mod input_packets;
 mod plan_text;
-#[cfg(test)]
-mod tests;
 
 pub use example_plan::{PLAN, add_section, open, planned, tables};
 pub use first_run::first_slots;

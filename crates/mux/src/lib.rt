@@ -30,8 +30,6 @@ mod sending;
 mod slot;
 mod slot_clock;
 mod taken;
-#[cfg(test)]
-mod tests;
 mod totals;
 
 pub use content::Content;

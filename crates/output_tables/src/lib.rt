@@ -15,8 +15,6 @@ mod output_sections;
 mod row_group;
 mod table_packets;
 mod table_set;
-#[cfg(test)]
-mod tests;
 mod too_large;
 
 pub use counts::{fast_count, slow_count};

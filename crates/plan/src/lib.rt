@@ -5,8 +5,6 @@ mod multiplex_plan;
 mod planned_stream;
 mod rhythm;
 mod stream_map;
-#[cfg(test)]
-mod tests;
 
 pub use multiplex_plan::Plan;
 pub use planned_stream::PlannedStream;

@@ -13,8 +13,6 @@ mod row_lack;
 mod service_numbers;
 mod stream_tests;
 mod table_causes;
-#[cfg(test)]
-mod tests;
 
 pub use ca_place::CaPlace;
 pub use causes::cause_of;

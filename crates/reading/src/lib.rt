@@ -14,8 +14,6 @@ mod report;
 mod source;
 mod stop;
 mod stream_reader;
-#[cfg(test)]
-mod tests;
 
 pub use look::Look;
 pub use origin::Origin;

@@ -25,8 +25,6 @@ mod stream_parts;
 mod stream_row;
 mod streams;
 mod taken;
-#[cfg(test)]
-mod tests;
 mod text;
 
 pub use input::Input;

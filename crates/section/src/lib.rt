@@ -5,13 +5,9 @@ mod assembler;
 mod assembly;
 mod collected;
 mod packets;
-#[cfg(test)]
-mod plain;
 mod reading;
 mod register;
 mod table;
-#[cfg(test)]
-mod tests;
 mod told;
 
 pub use assembler::Assembler;

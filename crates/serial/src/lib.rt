@@ -13,8 +13,6 @@ mod serial_run;
 mod sink;
 mod slot_writer;
 mod summary;
-#[cfg(test)]
-mod tests;
 
 pub use run::{run_serial, run_serial_within};
 pub use run_fault::RunFault;

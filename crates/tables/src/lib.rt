@@ -22,8 +22,6 @@ mod service_list_entry;
 mod table_fault;
 mod table_run;
 mod table_section;
-#[cfg(test)]
-mod tests;
 mod write_fault;
 
 pub use ca_descriptor::has_ca_descriptor;

@@ -13,8 +13,6 @@ mod opening;
 mod run;
 mod run_gate;
 mod seats;
-#[cfg(test)]
-mod tests;
 mod turn;
 mod work;
 mod working;

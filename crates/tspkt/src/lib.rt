@@ -19,8 +19,6 @@ mod packet;
 mod position_clock;
 mod stamped;
 mod stepping;
-#[cfg(test)]
-mod tests;
 mod window;
 
 pub use counters::follows;
