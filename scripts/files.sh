@@ -161,6 +161,20 @@ printf 'rate = 1\nperiod = = 2\n' > syntax.toml
 run check --plan syntax.toml
 is 'a line that is no TOML is named' has err 'line 2: '
 
+# Plans that don't fit their inputs.
+sed '0,/^program = 1$/s//program = 9/' plan.toml > program.toml
+run check --plan program.toml
+is 'a plan that asks for no program stays at fault' [ "$(head -n 1 err)" = 'fault 5 NoProgram' ]
+is 'its status stays' [ "$status" = 3 ]
+is 'its service is named' has err "service 101 (input 0, program 9): the input's PAT has no such program"
+sed 's|^pid = 260$|pid = 261|' plan.toml > row.toml
+run check --plan row.toml
+is 'a stream without a row is named' has err 'service 103 (input 1, program 2): its PMT names PID 0x0104 '
+sed 's|^period = 250$|period = 1|' plan.toml > period.toml
+run run --plan period.toml --out period.ts
+is 'a period that is too short is told' has err 'period is 1, at least '
+is 'it leaves no output' absent period.ts
+
 # Inputs that are no streams.
 : > empty.ts
 head -c 100000 /dev/zero > zeros.ts

@@ -8,6 +8,7 @@ mod file_writer;
 mod files;
 mod new_file;
 mod output_file;
+mod output_opening;
 mod output_place;
 mod system_files;
 
@@ -15,5 +16,6 @@ pub use file_writer::FileWriter;
 pub use files::Files;
 pub use new_file::partial_name;
 pub use output_file::OutputFile;
+pub use output_opening::open_output;
 pub use output_place::OutputPlace;
 pub use system_files::SystemFiles;

@@ -1,6 +1,9 @@
 //! A plan from its file and the files of its inputs.
 
-ghost use Rattle.std.specs.Prelude.{◌≡◌, ◌≤◌, ◌++◌, [], Ok, false, length, IfOk, OnOk};
+ghost use Rattle.std.specs.Prelude.{◌≡◌, ◌≤◌, ◌++◌, [], Ok, Some, true, false, length, map, is_some, IfOk, IfSome, OnOk};
+ghost use Rattle.acquire.specs.Seen.{findings_of};
+ghost use Rattle.plan.specs.Build.{build_fault_of};
+ghost use Rattle.plan_causes.specs.Causes.{IsCauseOf, fault_of};
 
 use crate::file_identity::FileIdentity;
 use crate::input_file::InputFile;
@@ -9,6 +12,7 @@ use crate::sources::Sources;
 use acquire::{Acquire, Found};
 use messages::{CommandFault, FileCause};
 use plan::Plan;
+use plan_causes::{PlanCause, cause_of};
 use reading::{INPUT_LIMIT, Source, Stop, StreamReader};
 use request::{PlanFault, Request};
 use selection::seek;
@@ -181,8 +185,22 @@ fn is_no_stream(found: &Found, shape: StreamShape) -> bool {
         && shape != StreamShape::Packets(188)
 }
 
-/// The fault of a plan. Where a program isn't there, and an input has none of those that are sought in it, it says what that
-/// input looks like, if that is no stream of packets.
+/// A cause of this fault of a plan, by what was found in its inputs. There is one wherever they give the plan this fault, and
+/// none of want of memory.
+fn cause_in(fault: PlanFault, request: &Request, found: &[Found]) -> Option<PlanCause>
+    ensures cause { IfSome result (IsCauseOf request.now (map findings_of found.now)) }
+    ensures fault { IfSome result (λ cause. fault_of cause ≡ fault) }
+    ensures some { build_fault_of request.now (map findings_of found.now) ≡ Some fault
+        → is_some result ≡ true }
+{
+    match cause_of(request, found) {
+        Some(cause) if cause.fault() == fault => Some(cause),
+        _ => None,
+    }
+}
+
+/// The fault of a plan, with its cause in words. Where a program isn't there, and an input has none of those that are sought in
+/// it, that is what the input looks like, if it is no stream of packets; else it is where the plan is at fault.
 fn plan_fault<R: InputFile>(
     alloc: Global,
     fault: PlanFault,
@@ -199,13 +217,16 @@ fn plan_fault<R: InputFile>(
             return Ok(CommandFault::PlanCause(fault, cause));
         }
     }
-    Ok(CommandFault::from(fault))
+    match cause_in(fault, request, found) {
+        Some(cause) => Ok(CommandFault::PlanCause(fault, format!(in alloc; "{cause}")?)),
+        None => Ok(CommandFault::from(fault)),
+    }
 }
 
 /// The plan in the file with this name, made by what is found in its inputs, each of which is read from its beginning.
 ///
 /// The first fault ends it: of the plan's file, which may have 1,048,576 bytes; of its text; of the inputs in their order; and
-/// of the plan.
+/// of the plan, without its cause where there is no memory for its words.
 pub fn read_plan<F: Sources>(
     alloc: Global,
     files: &mut F,
@@ -225,6 +246,8 @@ pub fn read_plan<F: Sources>(
             plan_file: identity,
             readers,
         }),
-        Err(fault) => Err(plan_fault(alloc, fault, &request, &found, &readers)?),
+        Err(fault) => Err(plan_fault(alloc, fault, &request, &found, &readers).unwrap_or(
+            CommandFault::from(fault),
+        )),
     }
 }

@@ -4,12 +4,7 @@
 //! packets of one input go in, and two slots of the multiplex come out.
 #![tactic(auto)]
 
-mod commands;
-mod printing;
-mod run_command;
-#[cfg(test)]
-mod tests;
-
+use commands::command;
 use files::SystemFiles;
 use messages::CommandFault;
 use std::fs::OpenOptions;
@@ -71,6 +66,6 @@ fn main(rt: HostRuntime) -> ExitCode {
         return ExitCode::from(no_memory(&mut err));
     };
     let mut files = SystemFiles::new(rt.alloc(), &rt, rt.stdout());
-    let (status, _) = commands::command(rt.alloc(), &words, &mut files, &mut out, &mut err);
+    let (status, _) = command(rt.alloc(), &words, &mut files, &mut out, &mut err);
     ExitCode::from(status)
 }

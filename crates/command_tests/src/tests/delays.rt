@@ -4,10 +4,10 @@
 //! example's input, its tables counted, just as many for s = k. A slot goes out as soon as each input gave a packet of a later
 //! time, or has ended, or found a queue full; so no packet is taken before a slot asks for it.
 
-use crate::commands::command;
-use crate::tests::commands::{ENDED, LINES, ends, files, with_readers};
 use crate::tests::devices::TestWriter;
 use crate::tests::memory_files::{MemoryFiles, does};
+use crate::tests::whole_commands::{ENDED, LINES, ends, files, with_readers};
+use commands::command;
 use example::{add_packets, eight_packets, input, service, settings};
 use std::alloc::{AllocError, Global};
 use std::test::Fail;

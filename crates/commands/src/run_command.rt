@@ -1,14 +1,13 @@
 //! The command that makes a multiplex.
 
 ghost use Rattle.std.specs.Prelude.{◌≡◌, length, IfOk};
-ghost use Rattle.input_files.specs.Identity.{IsAmong};
 ghost use Rattle.words.specs.Ranges.{IsAllowedLength};
 
 use crate::commands::end;
 use crate::printing::{print_delays, print_end, print_summary};
-use files::{Files, OutputFile};
-use input_files::{FileIdentity, ReadPlan, is_among, open_again, read_plan, stopped};
-use messages::{CommandFault, FileCause};
+use files::{Files, OutputFile, open_output};
+use input_files::{ReadPlan, open_again, read_plan, stopped};
+use messages::CommandFault;
 use plan::Plan;
 use reading::Stop;
 use serial::{RunFault, Summary, run_serial_within};
@@ -44,25 +43,6 @@ struct Ran<R> {
     plan: Plan,
     summary: Summary,
     readers: Vec<R>,
-}
-
-/// A writer to the output, and which file it takes the place of: none of those that are read.
-fn open_output<F: Files>(
-    alloc: Global,
-    files: &mut F,
-    name: &str,
-    read: &[FileIdentity],
-) -> Result<(F::Writer, Option<FileIdentity>), CommandFault>
-    ensures { IfOk result (λ opened. IsAmong opened.1 read.now → ⊥) }
-{
-    let identity = files.output_identity(name);
-    if is_among(identity, read) {
-        return Err(CommandFault::file(alloc, name, FileCause::IsRead));
-    }
-    match files.writer(name) {
-        Ok(writer) => Ok((writer, identity)),
-        Err(cause) => Err(CommandFault::file(alloc, name, cause)),
-    }
 }
 
 /// What a run needs. The output is made last, so that a refused run leaves none.

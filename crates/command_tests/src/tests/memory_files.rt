@@ -1,7 +1,7 @@
 //! Files in memory, and whole commands over them.
 
-use crate::commands::command;
 use crate::tests::devices::{TestReader, TestWriter};
+use commands::command;
 use files::{FileWriter, Files};
 use input_files::{FileIdentity, FileReader, Sources};
 use messages::FileCause;

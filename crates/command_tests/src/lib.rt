@@ -1,0 +1,6 @@
+//! Tests of whole commands and of serial runs, over files in memory. They stand in a crate of their own, so that the crates
+//! below are proved once.
+#![tactic(auto)]
+
+#[cfg(test)]
+mod tests;

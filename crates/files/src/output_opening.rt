@@ -1,0 +1,32 @@
+//! The opening of an output.
+
+ghost use Rattle.std.specs.Prelude.{IfOk};
+ghost use Rattle.input_files.specs.Identity.{IsAmong};
+
+use crate::files::Files;
+use input_files::{FileIdentity, is_among};
+use messages::{CommandFault, FileCause};
+use std::alloc::Global;
+
+/// A writer to the output with this name, and which file it takes the place of, where that is known: none of those that are
+/// read, whatever its name is.
+///
+/// An output that is one of them is refused as `FileCause::IsRead`, before a file is made; one that can't be made is refused with
+/// its cause. Want of memory is `CommandFault::Memory`.
+pub fn open_output<F: Files>(
+    alloc: Global,
+    files: &mut F,
+    name: &str,
+    read: &[FileIdentity],
+) -> Result<(F::Writer, Option<FileIdentity>), CommandFault>
+    ensures { IfOk result (λ opened. IsAmong opened.1 read.now → ⊥) }
+{
+    let identity = files.output_identity(name);
+    if is_among(identity, read) {
+        return Err(CommandFault::file(alloc, name, FileCause::IsRead));
+    }
+    match files.writer(name) {
+        Ok(writer) => Ok((writer, identity)),
+        Err(cause) => Err(CommandFault::file(alloc, name, cause)),
+    }
+}
