@@ -91,24 +91,35 @@ few plan o given is =
     let parts : length given ≤ length all = omega (arith, length-append given is.1, ap length is.3) in
     omega (arith, most, parts, size)
 
--- the next packet of an input may be taken
+-- The next packet that can be taken of an input is one that the plan names, and it comes in order.
+pub record IsNextInOrder (p : PlanValue) (h : List Event) (i : ℕ) (item : Stamped) : Type 0 where
+  pub mapped : is_mapped p i item ≡ true
+  pub later : last_stamp i h ≤ item.stamp
+
+pub next_in_order : (p : PlanValue) (h : List Event) (i : ℕ) (o : OriginValue) (item : Stamped) (bytes : List ℕ) (later : List Stamped) → o.number ≡ i → 0 < o.rate
+    → (taken i h ++ item ∷ []) ++ later ≡ takeable p o (framed 188 bytes) → IsNextInOrder p h i item
+next_in_order p h i o item bytes later number rate is =
+    let split : taken i h ++ item ∷ later ≡ takeable p o (framed 188 bytes) = sym (append_assoc (taken i h) (item ∷ []) later) ∙ is in
+    let named_here : is_named p o item.packet ≡ true =
+    (let P : List Stamped → Type 0 = AreNamed p o in named_at p o (taken i h) later item (subst P (sym split) (named p o (framed 188 bytes)))) in
+    let order : last_of 0 (taken i h) ≤ item.stamp =
+    (let P : List Stamped → Type 0 = ComeFrom 0 in come_at 0 (taken i h) later item (subst P (sym split) (come_in_order p o bytes rate))) in
+    let last = last_taken i h in
+    record {
+      mapped = (let P : ℕ → Type 0 = λ n. is_mapped p n item ≡ true in subst P number (some_planned p o.number item (planned_stream p.request.streams o.number (pid_of item.packet)) refl named_here));
+      later = omega (arith, last, order);
+    }
+
+-- and may be taken
 pub may_be_taken : (p : PlanValue) (h : List Event) (i : ℕ) (o : OriginValue) (item : Stamped) → o.number ≡ i → 0 < o.rate → is_closed i h ≡ false → IsInside p o (taken i h ++ item ∷ [])
     → MayBeTaken p h i item
 may_be_taken p h i o item number rate opened is =
-    let all = takeable p o (framed 188 is.0) in
-    let split : taken i h ++ item ∷ is.1 ≡ all = sym (append_assoc (taken i h) (item ∷ []) is.1) ∙ is.3 in
-    let named_here : is_named p o item.packet ≡ true =
-    (let P : List Stamped → Type 0 = AreNamed p o in named_at p o (taken i h) is.1 item (subst P (sym split) (named p o (framed 188 is.0)))) in
-    let mapped : is_mapped p i item ≡ true =
-    (let P : ℕ → Type 0 = λ n. is_mapped p n item ≡ true in subst P number (some_planned p o.number item (planned_stream p.request.streams o.number (pid_of item.packet)) refl named_here)) in
-    let order : last_of 0 (taken i h) ≤ item.stamp =
-    (let P : List Stamped → Type 0 = ComeFrom 0 in come_at 0 (taken i h) is.1 item (subst P (sym split) (come_in_order p o is.0 rate))) in
-    let last = last_taken i h in
-    let later : last_stamp i h ≤ item.stamp = omega (arith, last, order) in
+    let next = next_in_order p h i o item is.0 is.1 number rate is.3 in
+    let later : last_stamp i h ≤ item.stamp = next.later in
     let forward : ltb item.stamp (last_stamp i h) ≡ false = grind (arith, nat_tests) in
     elim (cases_Bool (is_queue_full p h i item)) [
-      | inl e ↦ inr (is_refused_full p h i item opened mapped forward e)
-      | inr e ↦ inl (is_unrefused p h i item opened mapped forward e)
+      | inl e ↦ inr (is_refused_full p h i item opened next.mapped forward e)
+      | inr e ↦ inl (is_unrefused p h i item opened next.mapped forward e)
     ]
 
 -- Events of one input are nothing to another.

@@ -137,7 +137,7 @@ held_front remaining p i all (Some more) x given e g =
     let later = held_begins remaining p x.reader b.0 given b.2 more in
     (later.0, sym (later.1 ∙ ap (λ v. takeable p x.reader.origin (framed 188 v)) (sym parts)))
 
-consumed_all : (all : List ℕ) (rest : Option (List ℕ)) (bytes : List ℕ) → Consumes (Some all) rest bytes → IsAtEnd rest → bytes ≡ all
+pub consumed_all : (all : List ℕ) (rest : Option (List ℕ)) (bytes : List ℕ) → Consumes (Some all) rest bytes → IsAtEnd rest → bytes ≡ all
 consumed_all all None bytes used end = absurd used
 consumed_all all (Some more) bytes used end = sym (used ∙ ap (λ v. bytes ++ v) end ∙ append-nil bytes)
 
@@ -159,7 +159,7 @@ failed_given remaining p x bytes given has failed =
     let told = told_failed items.limit items.framer (has.0 ++ items.ahead) bytes (remaining x.stream.source) x.report.stopped failed has.1.passed in
     sym has.1.given_is ∙ takeable_same p x.origin has.0 (framed 188 bytes) (ap packets_of (sym all) ∙ told.packets)
 
-same_bytes : (all : List ℕ) (left : Option (List ℕ)) (a b : List ℕ) → Consumes (Some all) left a → Consumes (Some all) left b → a ≡ b
+pub same_bytes : (all : List ℕ) (left : Option (List ℕ)) (a b : List ℕ) → Consumes (Some all) left a → Consumes (Some all) left b → a ≡ b
 same_bytes all None a b first second = absurd first
 same_bytes all (Some more) a b first second = append_cancel_right a b more (sym first ∙ second)
 

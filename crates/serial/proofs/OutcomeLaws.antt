@@ -194,7 +194,7 @@ last_counts p o items x report last has =
     ]
 
 -- what begins the framing of the bytes that were read begins that of all bytes
-framed_all : (start rest : Option (List ℕ)) (bytes all : List ℕ) (looked : List Item) → start ≡ Some all → Consumes start rest bytes → BeginsFramed bytes (IsAtEnd rest) looked
+pub framed_all : (start rest : Option (List ℕ)) (bytes all : List ℕ) (looked : List Item) → start ≡ Some all → Consumes start rest bytes → BeginsFramed bytes (IsAtEnd rest) looked
     → (later : List Item) × (looked ++ later ≡ framed 188 all)
 framed_all None rest bytes all looked e used begins = cc
 framed_all (Some first) None bytes all looked e used begins = absurd used

@@ -39,7 +39,7 @@ only_what_was_taken h period sound =
     }
 
 -- nothing is told of an input's stop but the end of the run
-untold : (inputs : List InputSummary) (cause : Stop) → (cause ≡ Gate → ⊥) → AreUnfailed inputs → (i : ℕ) → slice_get (stops_of inputs) i ≡ Some (Some cause) → ⊥
+pub untold : (inputs : List InputSummary) (cause : Stop) → (cause ≡ Gate → ⊥) → AreUnfailed inputs → (i : ℕ) → slice_get (stops_of inputs) i ≡ Some (Some cause) → ⊥
 untold inputs cause other unfailed i at =
     let stop : InputSummary → Option Stop = λ s. s.report.stopped in
     let l = from_map stop inputs i (Some cause) at in

@@ -1,5 +1,5 @@
 -- Lists of workers, one more at a time, and what they served.
-use Rattle.std.proofs.Common.{◌≡◌, ℕ, List, [], ◌∷◌, ◌++◌, length, drop, map, Option, Some, None, option_map, IfSome, ap, sym, subst, ◌∙◌, arith, inl, inr, length-append}
+use Rattle.std.proofs.Common.{◌≡◌, ℕ, List, [], ◌∷◌, ◌++◌, length, drop, map, Bool, true, false, Option, Some, None, option_map, IfSome, ap, sym, subst, ◌∙◌, arith, inl, inr, length-append}
 use Rattle.std.specs.List.{slice_get}
 use Rattle.std.specs.Option.{option_to_list}
 use Rattle.std.specs.Io.KnownBytes.{Consumes}
@@ -12,6 +12,7 @@ use Rattle.plan.specs.Build.{PlanValue}
 use Rattle.mux.specs.History.{taken}
 use Rattle.reading.specs.Takeable.{origin_of, takeable}
 use Rattle.reading.specs.declared.report.Report.{Report}
+use Rattle.reading.specs.declared.stop.Stop.TheVariants.{Gate}
 use Rattle.port.specs.Rings.{RingId, PortValue, FinishedValue}
 use Rattle.worker.specs.Working.{HasSentOf}
 use Rattle.worker.specs.declared.worker.Worker.{Worker}
@@ -108,35 +109,42 @@ of_work remaining failures rings w report finished left work at =
     some_so None port is here = tt
     some_so (Some v) port is here = (let P : PortValue → Type 0 = λ p. slice_get rings p.ring.input ≡ Some p.ring in subst P (sym is) here)
 
--- What the worker of an input sent, and what became of that: it was taken, or is held, or is left in the ring.
+-- What the worker of an input sent, and what became of that: it was taken, or is held, or is left in the ring. Nothing is left where
+-- the end mark came, and there is none where a gate stopped the worker.
 pub record IsServed {R : Type 0} (remaining : R → Option (List ℕ)) (limit : ℕ) (p : PlanValue) (station : StationValue) (i : ℕ) (input : InputValue) (reader left : R) (report : Report) : Type 0 where
   pub sent : List Stamped
-  pub has : HasSentOf limit p (origin_of i input) (remaining reader) (remaining left) report sent
+  pub is_ended : Bool
+  pub has : HasSentOf limit p (origin_of i input) (remaining reader) (remaining left) report is_ended sent
+  pub unmarked : report.stopped ≡ Some Gate → is_ended ≡ false
   pub inlet : Inlet
   pub inlet_is : slice_get station.inputs i ≡ Some inlet
   pub rest : List Stamped
   pub sent_is : sent ≡ (taken i station.history.events ++ option_to_list inlet.held) ++ rest
+  pub marked : inlet.end.is_ended ≡ true → (is_ended ≡ true) × (rest ≡ [])
 
 pub served : {R G : Type 0} (remaining : R → Option (List ℕ)) (failures : R → ℕ) (limit : ℕ) (p : PlanValue) (station : StationValue) (i : ℕ) (input : InputValue) (reader : R) (port : PortValue) (w : Worker R (RunGate G)) (e : Ended R G)
     → IsStarted limit p i reader port w → port.ring.input ≡ i → slice_get p.request.inputs i ≡ Some input → IsEnded remaining failures station w e
     → IsServed remaining limit p station i input reader e.reader e.report
 served {R} {G} remaining failures limit p station i input reader port w e started own at ended =
     let worked = ended.work.sent input ((λ k. slice_get (started.plan_is k).request.inputs (started.number_is k)) ∙ at) in
-    let T : (ℕ × PlanValue × ℕ × R) → Type 0 = λ v. HasSentOf v.0 v.1 (origin_of v.2 input) (remaining v.3) (remaining e.reader) e.report worked.0 in
+    let T : (ℕ × PlanValue × ℕ × R) → Type 0 = λ v. HasSentOf v.0 v.1 (origin_of v.2 input) (remaining v.3) (remaining e.reader) e.report ended.finished.is_ended worked.0 in
     let S : Option PortValue → Type 0 = λ o. IfSome o (λ v. v ≡ record { ring = w.port.ring; sent = worked.0 }) in
     let shown = subst S ended.settles.shown_is worked.2 in
     let number : ended.settles.shown.ring.input ≡ i = ap (λ (v : PortValue). v.ring.input) shown ∙ (ap (λ (v : PortValue). v.ring.input) started.port_is ∙ own) in
     let events = station.history.events in
     record {
       sent = worked.0;
+      is_ended = ended.finished.is_ended;
+      unmarked = ended.work.unmarked;
       has = subst T (λ k. (started.limit_is k, started.plan_is k, started.number_is k, started.source_is k)) worked.1;
       inlet = ended.settles.input;
       inlet_is = ap (λ n. slice_get station.inputs n) (sym number) ∙ ended.settles.input_is;
       rest = ended.settles.left;
+      marked = ended.settles.marked;
       sent_is = sym (ap (λ (v : PortValue). v.sent) shown) ∙ (ended.settles.sent ∙ ap (λ n. (taken n events ++ option_to_list ended.settles.input.held) ++ ended.settles.left) number);
     }
 
-consumed : (start rest : Option (List ℕ)) (bytes all : List ℕ) → start ≡ Some all → Consumes start rest bytes → (more : List ℕ) × (all ≡ bytes ++ more)
+pub consumed : (start rest : Option (List ℕ)) (bytes all : List ℕ) → start ≡ Some all → Consumes start rest bytes → (more : List ℕ) × (all ≡ bytes ++ more)
 consumed None rest bytes all e used = cc
 consumed (Some first) None bytes all e used = absurd used
 consumed (Some first) (Some more) bytes all e used = (more, sym (same_Some first all e) ∙ used)

@@ -3,5 +3,10 @@ pub mod ListLaws
 pub mod DrivingLaws
 pub mod CrewLaws
 pub mod ReportLaws
+pub mod InputsLaws
 pub mod OutcomeLaws
 pub mod InputLaws
+pub mod FaithfulLaws
+pub mod GivenLaws
+pub mod SummaryLaws
+pub mod OutputLaws

@@ -6,6 +6,7 @@ use Rattle.std.proofs.lemmas.List.{length-map}
 use Rattle.std.proofs.Math.Nat.{min-eq_left}
 use Rattle.std.proofs.lemmas.Slice.Zip.{length-zip, firsts-zip, seconds-zip}
 use Rattle.std.specs.Io.KnownBytes.{Appends}
+use Rattle.request.specs.Request.{InputValue}
 use Rattle.plan.specs.Build.{PlanValue}
 use Rattle.tspkt.specs.Framed.{framed}
 use Rattle.reading.specs.Takeable.{origin_of, takeable}
@@ -34,11 +35,15 @@ use Rattle.serial.specs.declared.slot_writer.SlotWriter.{SlotWriter}
 use Rattle.serial.specs.declared.summary.Summary.{Summary}
 use Rattle.threaded.specs.Opening.{IsReady}
 use Rattle.threaded.specs.Driving.{output_of, HasAnalysedAll, IsSameRun, BreaksOff, IsDriven}
+use Rattle.reading.specs.Failures.{FailsOnce}
+use Rattle.reading.specs.declared.stop.Stop.TheVariants.{ReadFailed}
+use Rattle.serial.specs.Outcome.{FailuresAreTold}
 use Rattle.threaded.specs.Outcome.{HasRun, HasBegun, RunsThrough, IsCutShort}
 use Rattle.threaded.specs.declared.ended.Ended.{Ended}
 use Rattle.threaded.specs.declared.run_gate.RunGate.{RunGate}
 use Rattle.threaded.proofs.ListLaws.{get_within}
 use Rattle.threaded.proofs.CrewLaws.{served, served_begins}
+use Rattle.threaded.proofs.InputsLaws.{IsServedAt, IsServedRun, IsToldOfInputs, told_of_inputs, all_failures_told}
 
 -- readers, gates and ports of as many inputs
 pub record AreOfInputs {R G : Type 0} (n : ℕ) (readers : List R) (gates : List G) (ports : List PortValue) : Type 0 where
@@ -121,21 +126,37 @@ ready_seated {R} {G} p slots readers gates opened seats ready of_readers of_gate
     let N : ℕ → Type 0 = λ k. slice_get (rings_of opened.inputs) k ≡ Some seat.1.ring in
     subst N (sym f.2.number) there
 
--- What was taken of each input begins what can be taken of it.
-pub begun : {R G : Type 0} (remaining : R → Option (List ℕ)) (failures : R → ℕ) (p : PlanValue) (slots limit : ℕ) (opened station : StationValue) (readers : List R) (gates : List G) (ports : List PortValue) (workers : List (Worker R (RunGate G))) (ended : List (Ended R G))
+served_at : {R G : Type 0} (remaining : R → Option (List ℕ)) (failures : R → ℕ) (p : PlanValue) (slots limit : ℕ) (opened station : StationValue) (readers : List R) (gates : List G) (ports : List PortValue) (workers : List (Worker R (RunGate G))) (ended : List (Ended R G))
     → IsOpened p slots opened ports → AreOfInputs (length p.request.inputs) readers gates ports → AreStarted limit p (seats_of readers gates ports) workers → length workers ≡ length p.request.inputs → length ended ≡ length workers
-    → AreEnded remaining failures station workers ended → AreBegun p station.history.events (map remaining readers)
-begun {R} {G} remaining failures p slots limit opened station readers gates ports workers ended is are started all_started all_ended ends i input all at start =
+    → AreEnded remaining failures station workers ended → (i : ℕ) (input : InputValue) → slice_get p.request.inputs i ≡ Some input → IsServedAt remaining failures limit p station readers ended i input
+served_at {R} {G} remaining failures p slots limit opened station readers gates ports workers ended is are started all_started all_ended ends i input at =
     let n = length p.request.inputs in
     let inside : i < n = slice_get_within p.request.inputs i input at in
     let seat = get_within (seats_of readers gates ports) i (omega (arith, inside, seats_are n readers gates ports are)) in
     let w = get_within workers i (omega (arith, inside, all_started)) in
     let e = get_within ended i (omega (arith, inside, all_started, all_ended)) in
-    let r = from_map remaining readers i (Some all) start in
-    let same : r.0 ≡ seat.0.0.0 = same_Some r.0 seat.0.0.0 (sym r.1 ∙ reader_at n readers gates ports i seat.0 are seat.1) in
     let f = fresh_at p slots opened ports i seat.0.1 is (port_at n readers gates ports i seat.0 are seat.1) in
-    let s = served remaining failures limit p station i input seat.0.0.0 seat.0.1 w.0 e.0 (started.each i seat.0 w.0 seat.1 w.1) f.2.number at (ends i w.0 e.0 w.1 e.1) in
-    served_begins remaining limit p station i input seat.0.0.0 e.0.reader e.0.report all s (ap remaining (sym same) ∙ r.2)
+    let start = started.each i seat.0 w.0 seat.1 w.1 in
+    let end = ends i w.0 e.0 w.1 e.1 in
+    let source : failures w.0.source ≡ failures seat.0.0.0 = ap failures start.source_is in
+    record {
+      reader = seat.0.0.0;
+      reader_is = reader_at n readers gates ports i seat.0 are seat.1;
+      end = e.0;
+      end_is = e.1;
+      served = served remaining failures limit p station i input seat.0.0.0 seat.0.1 w.0 e.0 start f.2.number at end;
+      failed = λ stopped. subst (λ v. FailsOnce v (failures e.0.reader)) source (end.work.failed stopped);
+      unfailed = λ other. end.work.unfailed other ∙ source;
+    }
+
+-- What was taken of each input begins what can be taken of it.
+begun : {R G : Type 0} (remaining : R → Option (List ℕ)) (failures : R → ℕ) (limit : ℕ) (p : PlanValue) (station : StationValue) (readers : List R) (ended : List (Ended R G))
+    → ((i : ℕ) (input : InputValue) → slice_get p.request.inputs i ≡ Some input → IsServedAt remaining failures limit p station readers ended i input) → AreBegun p station.history.events (map remaining readers)
+begun remaining failures limit p station readers ended each i input all at start =
+    let x = each i input at in
+    let r = from_map remaining readers i (Some all) start in
+    let same : r.0 ≡ x.reader = same_Some r.0 x.reader (sym r.1 ∙ x.reader_is) in
+    served_begins remaining limit p station i input x.reader x.end.reader x.end.report all x.served (ap remaining (sym same) ∙ r.2)
 
 -- a run that took nothing
 pub begun_nothing : (run : Run) (starts : List (Option (List ℕ))) (before : Option (List ℕ)) → IsMultiplexPlan run.plan → run.limit ≤ 1099511627776
@@ -163,15 +184,22 @@ analysed_yet p slots opened ports output is analysed =
     let P : History → Type 0 = HasAnalysedAll output in
     subst P (sym is.history) analysed
 
--- what was taken of inputs that had their workers
-pub begun_worked : {R G : Type 0} (remaining : R → Option (List ℕ)) (failures : R → ℕ) (p : PlanValue) (slots limit : ℕ) (opened station : StationValue) (readers : List R) (gates : List G) (seats : List ((R × G) × PortValue)) (ended : List (Ended R G))
+-- what the workers of the inputs served
+pub all_served : {R G : Type 0} (remaining : R → Option (List ℕ)) (failures : R → ℕ) (p : PlanValue) (slots limit : ℕ) (opened station : StationValue) (readers : List R) (gates : List G) (seats : List ((R × G) × PortValue)) (ended : List (Ended R G))
     → IsReady p slots readers gates opened seats → length readers ≡ length p.request.inputs → length gates ≡ length p.request.inputs → HaveWorked remaining failures limit p station seats ended
-    → AreBegun p station.history.events (map remaining readers)
-begun_worked {R} {G} remaining failures p slots limit opened station readers gates seats ended ready of_readers of_gates have =
+    → (i : ℕ) (input : InputValue) → slice_get p.request.inputs i ≡ Some input → IsServedAt remaining failures limit p station readers ended i input
+all_served {R} {G} remaining failures p slots limit opened station readers gates seats ended ready of_readers of_gates have =
     let S : List ((R × G) × PortValue) → Type 0 = λ v. AreStarted limit p v have.workers in
     let are = are_inputs p slots readers gates opened seats ready of_readers of_gates in
-    begun remaining failures p slots limit opened station readers gates ready.ports have.workers ended ready.opened are (subst S ready.seats_are have.started)
+    served_at remaining failures p slots limit opened station readers gates ready.ports have.workers ended ready.opened are (subst S ready.seats_are have.started)
     (have.all ∙ ready_count p slots readers gates opened seats ready of_readers of_gates) have.count have.became
+
+-- what was taken of inputs that had their workers
+begun_worked : {R G : Type 0} (remaining : R → Option (List ℕ)) (failures : R → ℕ) (p : PlanValue) (slots limit : ℕ) (opened station : StationValue) (readers : List R) (gates : List G) (seats : List ((R × G) × PortValue)) (ended : List (Ended R G))
+    → IsReady p slots readers gates opened seats → length readers ≡ length p.request.inputs → length gates ≡ length p.request.inputs → HaveWorked remaining failures limit p station seats ended
+    → AreBegun p station.history.events (map remaining readers)
+begun_worked remaining failures p slots limit opened station readers gates seats ended ready of_readers of_gates have =
+    begun remaining failures limit p station readers ended (all_served remaining failures p slots limit opened station readers gates seats ended ready of_readers of_gates have)
 
 -- some workers weren't started: then nothing was taken
 pub begun_stopped : {R G : Type 0} (remaining : R → Option (List ℕ)) (failures : R → ℕ) (p : PlanValue) (slots limit : ℕ) (opened station : StationValue) (readers : List R) (gates : List G) (seats : List ((R × G) × PortValue))
@@ -216,15 +244,15 @@ faults_exact run h told within few is =
     is ∙ min-eq_left fits
 
 -- a run that ended by itself
-has_run : (p : PlanValue) (limit : ℕ) (opened station : StationValue) (ports : List PortValue) (a b : SlotWriter) (starts : List (Option (List ℕ))) (before after : Option (List ℕ)) (s : Summary)
-    → limit ≤ 1099511627776 → IsOpened p limit opened ports → a.writer ≡ [] → HasAnalysed a p.request.rate p.request.watch [] → IsDriven opened station a b before after → IsSound station.history
-    → AreBegun p station.history.events starts
+has_run : (p : PlanValue) (slots limit : ℕ) (opened station : StationValue) (ports : List PortValue) (a b : SlotWriter) (starts lefts : List (Option (List ℕ))) (before after : Option (List ℕ)) (s : Summary)
+    → slots ≤ 1099511627776 → IsOpened p slots opened ports → a.writer ≡ [] → HasAnalysed a p.request.rate p.request.watch [] → IsDriven opened station a b before after → IsSound station.history
+    → AreBegun p station.history.events starts → IsToldOfInputs limit p station.history.events starts lefts s.inputs.items
     → length s.inputs.items ≡ length p.request.inputs → ArePeaks station.history.run.plan station.history.events s.streams.items → IsCounts station.history.events s.counts → s.faults ≡ b.faults
-    → HasRun (record { run = record { plan = p; limit = limit }; events = station.history.events }) starts before after s
-has_run p limit opened station ports a b starts before after s few is waiting analysed driven sound taken count peaks counts told =
-    let same = run_is p limit opened station ports is driven.same in
+    → HasRun (record { run = record { plan = p; limit = slots }; events = station.history.events }) limit starts lefts before after s
+has_run p slots limit opened station ports a b starts lefts before after s few is waiting analysed driven sound taken told_inputs count peaks counts told =
+    let same = run_is p slots opened station ports is driven.same in
     let h = station.history.events in
-    let run : Run = record { plan = p; limit = limit } in
+    let run : Run = record { plan = p; limit = slots } in
     let S : Run → Type 0 = λ r. IsSound (record { run = r; events = h }) in
     let W : Run → Type 0 = λ r. Appends before after (bytes_of (emitted r.plan h)) in
     let O : Run → Type 0 = λ r. IsOver r h in
@@ -235,14 +263,17 @@ has_run p limit opened station ports a b starts before after s few is waiting an
     record {
       sound = sound_run;
       finished = finished run h within (subst O same driven.over);
-      written = subst W same (driven.written before (nothing_yet p limit opened ports a before is waiting));
+      written = subst W same (driven.written before (nothing_yet p slots opened ports a before is waiting));
       begun = taken;
+      faithful = told_inputs.faithful;
       summary = record {
         length_is = count;
+        inputs = told_inputs.summaries;
         streams = subst K same peaks;
         counts = counts;
-        faults = faults_exact run h s.faults within few (told ∙ subst F same (driven.analysed (analysed_yet p limit opened ports a is analysed)).faults_are);
+        faults = faults_exact run h s.faults within few (told ∙ subst F same (driven.analysed (analysed_yet p slots opened ports a is analysed)).faults_are);
       };
+      read = told_inputs.read;
     }
 
 -- What a run makes that was ready to be started, as it ends.
@@ -257,16 +288,39 @@ run_failed remaining failures p slots limit opened readers gates seats output be
       (begun_stopped remaining failures p slots limit opened f.station readers gates seats ready of_readers of_gates f.stopped),
 )
 
+served_run : {R G : Type 0} (remaining : R → Option (List ℕ)) (failures : R → ℕ) (p : PlanValue) (slots limit : ℕ) (opened : StationValue) (readers : List R) (gates : List G) (seats : List ((R × G) × PortValue)) (output : SlotWriter) (before after : Option (List ℕ)) (s : Summary) (lent : List (R × G))
+    → IsReady p slots readers gates opened seats → length readers ≡ length p.request.inputs → length gates ≡ length p.request.inputs → (e : RunsThrough remaining failures limit p opened seats output before after s lent)
+    → IsServedRun remaining failures limit p e.station readers e.ended s.inputs.items lent
+served_run remaining failures p slots limit opened readers gates seats output before after s lent ready of_readers of_gates e = record {
+  each = all_served remaining failures p slots limit opened e.station readers gates seats e.ended ready of_readers of_gates e.worked;
+  plan_is = ap (λ (r : Run). r.plan) (run_is p slots opened e.station ready.ports ready.opened e.driven.same);
+  sound = e.sound;
+  kept = e.lawful;
+  had_memory = e.had_memory;
+  reported = e.reported;
+  count = worked_count remaining failures p slots limit opened e.station readers gates seats e.ended ready of_readers of_gates e.worked;
+}
+
 pub run_ended : {R G : Type 0} (remaining : R → Option (List ℕ)) (failures : R → ℕ) (p : PlanValue) (slots limit : ℕ) (opened : StationValue) (readers : List R) (gates : List G) (seats : List ((R × G) × PortValue)) (output : SlotWriter) (before after : Option (List ℕ)) (s : Summary) (lent : List (R × G))
     → slots ≤ 1099511627776 → IsReady p slots readers gates opened seats → length readers ≡ length p.request.inputs → length gates ≡ length p.request.inputs → output.writer ≡ []
     → HasAnalysed output p.request.rate p.request.watch [] → RunsThrough remaining failures limit p opened seats output before after s lent
-    → (h : List Event) × HasRun (record { run = record { plan = p; limit = slots }; events = h }) (map remaining readers) before after s
-run_ended remaining failures p slots limit opened readers gates seats output before after s lent few ready of_readers of_gates waiting analysed e = (
-  e.station.history.events,
-  has_run p slots opened e.station ready.ports output e.left (map remaining readers) before after s few ready.opened waiting analysed e.driven e.sound
-      (begun_worked remaining failures p slots limit opened e.station readers gates seats e.ended ready of_readers of_gates e.worked)
-      (e.reported.length_is ∙ worked_count remaining failures p slots limit opened e.station readers gates seats e.ended ready of_readers of_gates e.worked) e.peaks e.counts e.faults,
-)
+    → (h : List Event) × HasRun (record { run = record { plan = p; limit = slots }; events = h }) limit (map remaining readers) (map (λ l. remaining l.0) lent) before after s
+run_ended {R} {G} remaining failures p slots limit opened readers gates seats output before after s lent few ready of_readers of_gates waiting analysed e =
+    let each = all_served remaining failures p slots limit opened e.station readers gates seats e.ended ready of_readers of_gates e.worked in
+    let count = worked_count remaining failures p slots limit opened e.station readers gates seats e.ended ready of_readers of_gates e.worked in (
+      e.station.history.events,
+      has_run p slots limit opened e.station ready.ports output e.left (map remaining readers) (map (λ l. remaining l.0) lent) before after s few ready.opened waiting analysed e.driven e.sound
+          (begun remaining failures limit p e.station readers e.ended each)
+          (told_of_inputs remaining failures limit p e.station readers e.ended s.inputs.items lent (served_run remaining failures p slots limit opened readers gates seats output before after s lent ready of_readers of_gates e))
+          (e.reported.length_is ∙ count) e.peaks e.counts e.faults,
+    )
+
+-- a failed read is told of an input exactly where its reader failed
+pub failures_told : {R G : Type 0} (remaining : R → Option (List ℕ)) (failures : R → ℕ) (p : PlanValue) (slots limit : ℕ) (opened : StationValue) (readers : List R) (gates : List G) (seats : List ((R × G) × PortValue)) (output : SlotWriter) (before after : Option (List ℕ)) (s : Summary) (lent : List (R × G))
+    → IsReady p slots readers gates opened seats → length readers ≡ length p.request.inputs → length gates ≡ length p.request.inputs → RunsThrough remaining failures limit p opened seats output before after s lent
+    → FailuresAreTold failures readers (map (λ l. l.0) lent) s.inputs.items
+failures_told remaining failures p slots limit opened readers gates seats output before after s lent ready of_readers of_gates e =
+    all_failures_told remaining failures limit p e.station readers e.ended s.inputs.items lent (served_run remaining failures p slots limit opened readers gates seats output before after s lent ready of_readers of_gates e)
 
 -- as many readers and gates come back as there were
 pub lent_count : {R G : Type 0} (remaining : R → Option (List ℕ)) (failures : R → ℕ) (p : PlanValue) (slots limit : ℕ) (opened : StationValue) (readers : List R) (gates : List G) (seats : List ((R × G) × PortValue)) (output : SlotWriter) (before after : Option (List ℕ)) (s : Summary) (lent : List (R × G))

@@ -8,6 +8,7 @@ use Rattle.station.specs.Settling.{IsSettled}
 use Rattle.station.specs.declared.settled.Settled.{Settled}
 use Rattle.worker.specs.declared.worker.Worker.{Worker}
 use Rattle.threaded.specs.Working.{IsWorkOf}
+use Rattle.reading.specs.declared.stop.Stop.TheVariants.{Memory}
 use Rattle.threaded.specs.declared.ended.Ended.{Ended}
 use Rattle.threaded.specs.declared.run_gate.RunGate.{RunGate}
 
@@ -53,6 +54,10 @@ abbrev pub AreSeated : {R G : Type 0} → StationValue → List ((R × G) × Por
 AreSeated {R} {G} station seats =
     (i : ℕ) (seat : (R × G) × PortValue) → slice_get seats i ≡ Some seat
     → slice_get (rings_of station.inputs) seat.1.ring.input ≡ Some seat.1.ring
+
+-- no worker wanted memory
+abbrev pub HadMemory : {R G : Type 0} → List (Ended R G) → Type 0
+HadMemory {R} {G} ended = (i : ℕ) (e : Ended R G) → slice_get ended i ≡ Some e → e.report.stopped ≡ Some Memory → ⊥
 
 -- The input at each seat had a worker, and this became of them.
 pub record HaveWorked {R G : Type 0} (remaining : R → Option (List ℕ)) (failures : R → ℕ) (limit : ℕ) (plan : PlanValue) (station : StationValue) (seats : List ((R × G) × PortValue)) (ended : List (Ended R G)) : Type 0 where

@@ -1,14 +1,23 @@
 -- What is said of inputs at a run's end (profile).
-use Rattle.std.specs.Prelude.{◌≡◌, ℕ, List, length, map, Some, None, IsSome, true, false}
+use Rattle.std.specs.Prelude.{◌≡◌, ℕ, List, length, map, Bool, Option, Some, None, IsSome, true, false}
 use Rattle.std.specs.List.{slice_get}
 use Rattle.plan.specs.Build.{PlanValue}
 use Rattle.mux.specs.declared.event.Event.{Event}
 use Rattle.mux.specs.History.{is_closed}
 use Rattle.mux.specs.Totals.{IsTotals}
 use Rattle.reading.specs.declared.report.Report.{Report}
-use Rattle.reading.specs.declared.stop.Stop.TheVariants.{Gate}
+use Rattle.reading.specs.declared.stop.Stop.{Stop}
+use Rattle.reading.specs.declared.stop.Stop.TheVariants.{Gate, ReadFailed, TooMuch, Memory}
 use Rattle.serial.specs.declared.summary.InputSummary.{InputSummary}
 use Rattle.threaded.specs.declared.ended.Ended.{Ended}
+
+-- it was stopped for want of memory
+abbrev pub wants_memory : Option Stop → Bool
+wants_memory None = false
+wants_memory (Some Gate) = false
+wants_memory (Some ReadFailed) = false
+wants_memory (Some TooMuch) = false
+wants_memory (Some Memory) = true
 
 -- The worker's report; where its input ended and wasn't closed, the run left it.
 pub record IsLast (h : List Event) (i : ℕ) (worker report : Report) : Type 0 where

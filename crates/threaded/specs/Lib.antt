@@ -4,3 +4,4 @@ pub mod Opening
 pub mod Driving
 pub mod Ending
 pub mod Outcome
+pub mod EqualOutput

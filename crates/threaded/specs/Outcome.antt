@@ -1,35 +1,74 @@
 -- What comes of a run in threads (profile).
-use Rattle.std.specs.Prelude.{◌≡◌, ◌⊎◌, ℕ, List, length, Option}
+use Rattle.std.specs.Prelude.{◌≡◌, ◌⊎◌, ℕ, ◌<◌, List, [], ◌++◌, length, true, false, Option, Some, None}
+use Rattle.std.specs.List.{slice_get}
 use Rattle.std.specs.Io.KnownBytes.{Appends}
+use Rattle.tspkt.specs.Framed.{framed}
+use Rattle.tspkt.specs.declared.item.Item.{Item}
+use Rattle.tspkt.specs.declared.stamped.Stamped.{Stamped}
+use Rattle.request.specs.Request.{InputValue}
 use Rattle.analyse.specs.Faults.{faults}
 use Rattle.plan.specs.Build.{PlanValue}
 use Rattle.mux.specs.declared.event.Event.{Event}
-use Rattle.mux.specs.History.{History, emitted}
-use Rattle.mux.specs.Totals.{IsCounts}
+use Rattle.mux.specs.History.{History, taken, is_closed, emitted}
+use Rattle.mux.specs.Totals.{IsTotals, IsCounts}
 use Rattle.mux.specs.Headline.{IsSound}
 use Rattle.mux.specs.Faithful.{IsFinished}
+use Rattle.reading.specs.Takeable.{takeable, origin_of, CountsItems}
+use Rattle.reading.specs.declared.stop.Stop.TheVariants.{Gate, Memory, TooMuch}
+use Rattle.serial.specs.Feeding.{AreKnown}
+use Rattle.serial.specs.Giving.{TakesWhatIsGiven}
 use Rattle.serial.specs.Running.{AreBegun}
+use Rattle.serial.specs.Outcome.{HasEnded, AreReadOn, stops_of}
 use Rattle.serial.specs.Ending.{ArePeaks}
 use Rattle.serial.specs.Written.{SendsBeginning}
 use Rattle.serial.specs.Sending.{bytes_of}
 use Rattle.serial.specs.declared.slot_writer.SlotWriter.{SlotWriter}
+use Rattle.serial.specs.declared.summary.InputSummary.{InputSummary}
 use Rattle.serial.specs.declared.summary.Summary.{Summary}
 use Rattle.port.specs.Rings.{PortValue}
-use Rattle.station.specs.Stations.{StationValue}
-use Rattle.threaded.specs.Crews.{HaveWorked}
+use Rattle.station.specs.Stations.{StationValue, IsLawfulStation}
+use Rattle.threaded.specs.Crews.{HaveWorked, HadMemory}
 use Rattle.threaded.specs.Driving.{IsDriven, BreaksOff}
 use Rattle.threaded.specs.Ending.{AreReported}
 use Rattle.threaded.specs.declared.ended.Ended.{Ended}
 
+-- The report counts a beginning of the framing of these bytes, and what can be taken of that beginning was taken, but for packets
+-- on their way. Of a closed input none is.
+pub record IsCounted (p : PlanValue) (h : List Event) (i : ℕ) (input : InputValue) (all : List ℕ) (s : InputSummary) : Type 0 where
+  pub looked : List Item
+  pub later : List Item
+  pub framing : looked ++ later ≡ framed 188 all
+  pub counts : CountsItems p (origin_of i input) looked s.report
+  pub on_their_way : List Stamped
+  pub taken_is : takeable p (origin_of i input) looked ≡ taken i h ++ on_their_way
+  pub closed : is_closed i h ≡ true → on_their_way ≡ []
+
+-- What is said of an input whose source had these bytes to give at first, where they are known. It may have so many.
+pub record IsInputSummary (limit : ℕ) (p : PlanValue) (h : List Event) (i : ℕ) (input : InputValue) (start : Option (List ℕ)) (s : InputSummary) : Type 0 where
+  pub totals : IsTotals p i h s.totals
+  -- an input that nothing stopped ended, and was closed; one that the run left before its end wasn't closed
+  pub closed : s.report.stopped ≡ None → is_closed i h ≡ true
+  pub ended : s.report.stopped ≡ None → (all : List ℕ) → start ≡ Some all → HasEnded limit p h i input all s
+  -- whatever stopped it, its report is one of its bytes
+  pub counted : (all : List ℕ) → start ≡ Some all → IsCounted p h i input all s
+  pub left : s.report.stopped ≡ Some Gate → is_closed i h ≡ false
+  -- no input was given up for want of memory
+  pub unrefused : s.report.stopped ≡ Some Memory → ⊥
+  pub too_much : s.report.stopped ≡ Some TooMuch → (all : List ℕ) → start ≡ Some all → limit < length all
+
 -- What is said of a run is so.
-pub record IsSummary (p : PlanValue) (h : List Event) (s : Summary) : Type 0 where
+pub record IsSummary (limit : ℕ) (p : PlanValue) (h : List Event) (starts : List (Option (List ℕ))) (s : Summary) : Type 0 where
   pub length_is : length s.inputs.items ≡ length p.request.inputs
+  pub inputs : (i : ℕ) (input : InputValue) (start : Option (List ℕ)) (x : InputSummary)
+      → slice_get p.request.inputs i ≡ Some input → slice_get starts i ≡ Some start → slice_get s.inputs.items i ≡ Some x
+      → IsInputSummary limit p h i input start x
   pub streams : ArePeaks p h s.streams.items
   pub counts : IsCounts h s.counts
   pub faults : s.faults ≡ length (faults p.request.rate p.request.watch (emitted p h))
 
--- What a run of these sources makes, where it ends by itself: a history.
-pub record HasRun (h : History) (starts : List (Option (List ℕ))) (before after : Option (List ℕ)) (s : Summary) : Type 0 where
+-- What a run of these sources makes, each of at most so many bytes, where it ends by itself: a history. It leaves them with
+-- these bytes to give.
+pub record HasRun (h : History) (limit : ℕ) (starts lefts : List (Option (List ℕ))) (before after : Option (List ℕ)) (s : Summary) : Type 0 where
   -- it is lawful, and sound
   pub sound : IsSound h
   -- it has all slots of the run, or with fewer nothing is left to send
@@ -38,7 +77,11 @@ pub record HasRun (h : History) (starts : List (Option (List ℕ))) (before afte
   pub written : Appends before after (bytes_of (emitted h.run.plan h.events))
   -- what was taken of each input begins what can be taken of its bytes
   pub begun : AreBegun h.run.plan h.events starts
-  pub summary : IsSummary h.run.plan h.events s
+  -- it takes what the inputs give, each input's packets in their order
+  pub faithful : AreKnown starts → TakesWhatIsGiven h.run.plan starts lefts (stops_of s.inputs.items) h.events
+  pub summary : IsSummary limit h.run.plan h.events starts s
+  -- the sources come back in their order, read on
+  pub read : AreReadOn limit h.run.plan h.events starts lefts s.inputs.items
 
 -- What a run of these sources makes, where it doesn't end by itself: a beginning of the packets of a sound history was written.
 pub record HasBegun (h : History) (starts : List (Option (List ℕ))) (before after : Option (List ℕ)) : Type 0 where
@@ -52,8 +95,10 @@ pub record RunsThrough {R G : Type 0} (remaining : R → Option (List ℕ)) (fai
   pub left : SlotWriter
   pub ended : List (Ended R G)
   pub worked : HaveWorked remaining failures limit p station seats ended
+  pub had_memory : HadMemory ended
   pub driven : IsDriven opened station output left before after
   pub sound : IsSound station.history
+  pub lawful : IsLawfulStation station.history station.inputs
   pub reported : AreReported station.history.run.plan station.history.events ended s.inputs.items lent
   pub peaks : ArePeaks station.history.run.plan station.history.events s.streams.items
   pub counts : IsCounts station.history.events s.counts

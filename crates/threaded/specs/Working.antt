@@ -1,11 +1,11 @@
 -- What the thread of a worker hands on (profile).
-use Rattle.std.specs.Prelude.{◌≡◌, ℕ, List, Option, Some}
+use Rattle.std.specs.Prelude.{◌≡◌, ℕ, List, Option, Some, false}
 use Rattle.std.specs.List.{slice_get}
 use Rattle.request.specs.Request.{InputValue}
 use Rattle.reading.specs.Failures.{FailsOnce}
 use Rattle.reading.specs.Takeable.{origin_of}
 use Rattle.reading.specs.declared.report.Report.{Report}
-use Rattle.reading.specs.declared.stop.Stop.TheVariants.{ReadFailed}
+use Rattle.reading.specs.declared.stop.Stop.TheVariants.{Gate, ReadFailed}
 use Rattle.port.specs.Rings.{FinishedValue}
 use Rattle.worker.specs.Working.{HasWorked}
 use Rattle.worker.specs.declared.worker.Worker.{Worker}
@@ -15,3 +15,6 @@ pub record IsWorkOf {R G : Type 0} (remaining : R → Option (List ℕ)) (failur
   pub sent : (input : InputValue) → slice_get worker.plan.request.inputs worker.number ≡ Some input
       → HasWorked worker.limit worker.plan (origin_of worker.number input) (remaining worker.source) (remaining left) worker.port.ring report finished
   pub failed : report.stopped ≡ Some ReadFailed → FailsOnce (failures worker.source) (failures left)
+  pub unfailed : (report.stopped ≡ Some ReadFailed → ⊥) → failures left ≡ failures worker.source
+  -- where the gate stopped it no end mark was sent
+  pub unmarked : report.stopped ≡ Some Gate → finished.is_ended ≡ false

@@ -1,9 +1,10 @@
 //! What is said of a run at its end.
 
 ghost use Rattle.std.specs.Prelude.{◌≡◌, length, true, false, None, Some, IsSome, IfOk};
+ghost use Rattle.std.specs.List.{list_any};
 ghost use Rattle.mux.specs.Totals.{IsCounts};
 ghost use Rattle.serial.specs.Ending.{ArePeaks};
-ghost use Rattle.threaded.specs.Ending.{AreReported};
+ghost use Rattle.threaded.specs.Ending.{AreReported, wants_memory};
 
 use crate::ended::Ended;
 use mux::Peak;
@@ -12,11 +13,18 @@ use serial::{InputSummary, Summary};
 use station::Station;
 use std::alloc::{AllocError, Global};
 
-/// Whether a worker of a run wanted memory.
-pub(crate) fn wanted_memory<R: Drop, G: Drop>(ended: &Vec<Ended<R, G>>) -> bool {
-    ended
-        .iter()
-        .any(|input| matches!(input.report.stopped, Some(Stop::Memory)))
+/// Whether a worker was stopped for want of memory.
+fn wants_memory(report: &Report) -> bool
+    ensures { result ≡ wants_memory report.now.stopped }
+{
+    matches!(report.stopped, Some(Stop::Memory))
+}
+
+/// Whether one of these workers was.
+pub(crate) fn wanted_memory<R: Drop, G: Drop>(ended: &[Ended<R, G>]) -> bool
+    ensures { result ≡ list_any (λ e. wants_memory e.report.stopped) ended.now }
+{
+    ended.iter().any(|input| wants_memory(&input.report))
 }
 
 /// What is told of an input at the end of a run: its worker's report. An input that ended and wasn't closed is left by the run.

@@ -9,6 +9,7 @@ mod crew;
 mod driving;
 mod ended;
 mod ending;
+pub mod laws;
 mod opening;
 mod run;
 mod run_gate;

@@ -5,6 +5,7 @@ ghost use Rattle.tspkt.specs.declared.framer.TheConstants.{MAX_LIMIT};
 ghost use Rattle.mux.specs.declared.event.Event.{Event};
 ghost use Rattle.mux.specs.Plans.{IsMultiplexPlan};
 ghost use Rattle.reading.specs.Failures.{FailsOnce};
+ghost use Rattle.serial.specs.Outcome.{FailuresAreTold};
 ghost use Rattle.threaded.specs.Crews.{AreUnsent, AreSeated};
 ghost use Rattle.threaded.specs.Outcome.{HasRun, HasBegun, RunsThrough, IsCutShort};
 
@@ -50,12 +51,15 @@ pub fn run_threads<
     requires readers { length readers.items ≡ length plan.request.inputs }
     requires gates { length gates.items ≡ length plan.request.inputs }
     ensures runs { IfOk result.1 (λ done. (h : List Event)
-        × HasRun (record { run = record { plan = plan; limit = slots }; events = h })
-        (map R.remaining readers.items) (W.contents writer) (W.contents result.0) done.0) }
+        × HasRun (record { run = record { plan = plan; limit = slots }; events = h }) limit
+        (map R.remaining readers.items) (map (λ lent. R.remaining lent.0) done.1.items)
+        (W.contents writer) (W.contents result.0) done.0) }
     ensures begins { OnErr result.1 ((h : List Event)
         × HasBegun (record { run = record { plan = plan; limit = slots }; events = h })
         (map R.remaining readers.items) (W.contents writer) (W.contents result.0)) }
     ensures lent { IfOk result.1 (λ done. length done.1.items ≡ length readers.items) }
+    ensures read_failed { IfOk result.1 (λ done.
+        FailuresAreTold R.failures readers.items (map (λ lent. lent.0) done.1.items) done.0.inputs.items) }
     ensures wrote { OnOk result.1 (W.failures result.0 ≡ W.failures writer) }
     ensures memory { result.1 ≡ Err RunFault.Memory → W.failures result.0 ≡ W.failures writer }
     ensures write_failed { result.1 ≡ Err RunFault.Write → FailsOnce (W.failures writer) (W.failures result.0) }
@@ -95,12 +99,15 @@ fn run_to<
     requires readers { length readers.items ≡ length plan.request.inputs }
     requires gates { length gates.items ≡ length plan.request.inputs }
     ensures runs { IfOk result (λ done. (h : List Event)
-        × HasRun (record { run = record { plan = plan; limit = slots }; events = h })
-        (map R.remaining readers.items) (W.contents sink.old) (W.contents sink.new) done.0) }
+        × HasRun (record { run = record { plan = plan; limit = slots }; events = h }) limit
+        (map R.remaining readers.items) (map (λ lent. R.remaining lent.0) done.1.items)
+        (W.contents sink.old) (W.contents sink.new) done.0) }
     ensures begins { OnErr result ((h : List Event)
         × HasBegun (record { run = record { plan = plan; limit = slots }; events = h })
         (map R.remaining readers.items) (W.contents sink.old) (W.contents sink.new)) }
     ensures lent { IfOk result (λ done. length done.1.items ≡ length readers.items) }
+    ensures read_failed { IfOk result (λ done.
+        FailuresAreTold R.failures readers.items (map (λ lent. lent.0) done.1.items) done.0.inputs.items) }
     ensures wrote { OnOk result (W.failures sink.new ≡ W.failures sink.old) }
     ensures memory { result ≡ Err RunFault.Memory → W.failures sink.new ≡ W.failures sink.old }
     ensures write_failed { result ≡ Err RunFault.Write → FailsOnce (W.failures sink.old) (W.failures sink.new) }

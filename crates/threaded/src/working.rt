@@ -3,7 +3,7 @@
 ghost use Rattle.std.specs.Prelude.{◌≡◌, ◌⊎◌, ◌≤◌, List, [], length, vec_capacity, map, Err, IfOk, OnOk, OnErr};
 ghost use Rattle.tspkt.specs.declared.framer.TheConstants.{MAX_LIMIT};
 ghost use Rattle.reading.specs.Failures.{FailsOnce};
-ghost use Rattle.threaded.specs.Crews.{AreUnsent, AreSeated, AreStarted, HaveWorked};
+ghost use Rattle.threaded.specs.Crews.{AreUnsent, AreSeated, AreStarted, HaveWorked, HadMemory};
 ghost use Rattle.threaded.specs.Driving.{IsDriven, BreaksOff};
 ghost use Rattle.threaded.specs.declared.ended.Ended.{Ended as EndedInput};
 
@@ -48,6 +48,7 @@ pub(crate) fn work_through<
     requires seated { AreSeated station.old seats.items }
     ensures worked { IfOk result (λ ended.
         HaveWorked R.remaining R.failures limit plan.now station.new seats.items ended.items) }
+    ensures had_memory { IfOk result (λ ended. HadMemory ended.items) }
     ensures stopped { OnErr result (((ended : List (EndedInput R G))
         × HaveWorked R.remaining R.failures limit plan.now station.new seats.items ended)
         ⊎ (station.new ≡ station.old)) }
@@ -77,7 +78,7 @@ pub(crate) fn work_through<
     is_over.store(true, Ordering::SeqCst);
     join_all(&rt, station, handles, &mut ended);
     driven?;
-    if wanted_memory(&ended) {
+    if wanted_memory(ended.as_slice()) {
         return Err(RunFault::Memory);
     }
     Ok(ended)

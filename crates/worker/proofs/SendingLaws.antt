@@ -1,11 +1,24 @@
 -- Sending, step by step.
-use Rattle.std.proofs.Common.{◌≡◌, ℕ, List, [], ◌++◌, Option, None, Some, ap, ◌∙◌, sym, subst, refl}
+use Rattle.std.proofs.Common.{◌≡◌, ℕ, ◌+◌, ◌≤◌, List, [], ◌∷◌, ◌++◌, length, Option, None, Some, true, false, ap, ◌∙◌, sym, subst, refl, inl, inr, arith, length-append}
+use Rattle.std.specs.Prelude.{IsSome, sum_by}
+use Rattle.std.proofs.lemmas.Bool.{cases_Bool}
+use Rattle.std.proofs.lemmas.List.{append-nil}
+use Rattle.std.proofs.lemmas.List.Sums.{sum_by-cons}
+use Rattle.std.proofs.lemmas.Option.{none-some}
 use Rattle.std.specs.Option.{option_to_list}
 use Rattle.std.specs.Io.KnownBytes.{Consumes}
 use Rattle.reading.specs.PacketReading.{HasRead, ReadsOn, GoesOn, TellsFailures}
 use Rattle.reading.specs.declared.packet_reader.PacketReader.{PacketReader}
 use Rattle.reading.proofs.KnownLaws.{consumes_on}
-use Rattle.reading.proofs.PacketLaws.{reads_nothing, reads_told}
+use Rattle.reading.proofs.PacketLaws.{reads_nothing, reads_told, takeable_same, unstopped_reading}
+use Rattle.reading.proofs.StreamLaws.{told_failed}
+use Rattle.reading.specs.Counting.{nothing_counted}
+use Rattle.reading.specs.Takeable.{OriginValue, takeable, counted_of, is_well_formed, is_named}
+use Rattle.reading.specs.declared.report.Report.{Report}
+use Rattle.reading.specs.declared.stop.Stop.TheVariants.{ReadFailed}
+use Rattle.tspkt.specs.Framed.{framed, packets_of}
+use Rattle.tspkt.specs.declared.item.Item.{Item}
+use Rattle.tspkt.specs.declared.item.Item.TheVariants.{Packet, Bad, SyncLoss, Lost}
 use Rattle.port.specs.Rings.{PortValue}
 use Rattle.plan.specs.Build.{PlanValue}
 use Rattle.tspkt.specs.declared.stamped.Stamped.{Stamped}
@@ -77,3 +90,70 @@ sends_released {R} remaining failures a x port item is held sent reads =
       origin = ap (λ (r : PacketReader R). r.origin) is;
       limit = ap (λ (r : PacketReader R). r.stream.items.limit) is;
     }
+
+-- Where a read failed, nothing is found behind what was given of the bytes before.
+
+-- what it gave, and what it holds, is what can be taken of them
+failed_given : {R : Type 0} (remaining : R → Option (List ℕ)) (plan : PlanValue) (x : PacketReader R) (bytes : List ℕ) (given : List Stamped) → HasRead remaining plan x bytes given → x.report.stopped ≡ Some ReadFailed
+    → given ++ option_to_list x.held ≡ takeable plan x.origin (framed 188 bytes)
+failed_given remaining plan x bytes given has failed =
+    let items = x.stream.items in
+    let none = has.1.over (subst IsSome (sym failed) refl) in
+    let all : has.0 ++ items.ahead ≡ has.0 = ap (λ v. has.0 ++ v) none ∙ append-nil has.0 in
+    let told = told_failed items.limit items.framer (has.0 ++ items.ahead) bytes (remaining x.stream.source) x.report.stopped failed has.1.passed in
+    sym has.1.given_is ∙ takeable_same plan x.origin has.0 (framed 188 bytes) (ap packets_of (sym all) ∙ told.packets)
+
+none_of : (o : Option Stamped) → length (option_to_list o) ≡ 0 → o ≡ None
+none_of None e = refl
+none_of (Some x) e = absurd (omega (arith, e))
+
+pub none_behind : {R : Type 0} (remaining : R → Option (List ℕ)) (plan : PlanValue) (a b : PacketReader R) (bytes : List ℕ) (given : List Stamped) → HasRead remaining plan a bytes given → HasRead remaining plan b bytes given
+    → a.held ≡ None → b.origin ≡ a.origin → a.report.stopped ≡ Some ReadFailed → b.report.stopped ≡ Some ReadFailed → b.held ≡ None
+none_behind remaining plan a b bytes given first second unheld origin failed still =
+    let x = failed_given remaining plan a bytes given first failed in
+    let y = failed_given remaining plan b bytes given second still ∙ ap (λ o. takeable plan o (framed 188 bytes)) origin in
+    let none = ap (λ (o : Option Stamped). length (option_to_list o)) unheld in
+    none_of b.held (omega (arith, ap length (y ∙ sym x), length-append given (option_to_list b.held), length-append given (option_to_list a.held), none))
+
+-- where a packet is found behind what was sent, no read failed
+pub unfailed_found : {R G : Type 0} (remaining : R → Option (List ℕ)) (a : Sender R G) (x : PacketReader R) (start : Option (List ℕ)) → HasSent remaining start a → a.reader.held ≡ None
+    → ((bytes : List ℕ) (given : List Stamped) → HasRead remaining a.plan a.reader bytes given → HasRead remaining a.plan x bytes given) → x.origin ≡ a.reader.origin
+    → x.report.stopped ≡ a.reader.report.stopped → IsSome x.held → x.report.stopped ≡ Some ReadFailed → ⊥
+unfailed_found remaining a x start sent unheld found origin same holds failed =
+    let none = none_behind remaining a.plan a.reader x sent.0 a.port.sent sent.2 (found sent.0 a.port.sent sent.2) unheld origin (sym same ∙ failed) failed in
+    let P : Option Stamped → Type 0 = IsSome in
+    let bad : false ≡ true = subst P none holds in
+    cc
+
+-- nor where more is to be read
+pub unfailed_reading : {R G : Type 0} (remaining : R → Option (List ℕ)) (a : Sender R G) (x : PacketReader R) (start : Option (List ℕ)) → HasSent remaining start a
+    → ((bytes : List ℕ) (given : List Stamped) → HasRead remaining a.plan a.reader bytes given → HasRead remaining a.plan x bytes given)
+    → IsSome x.stream.items.framer → x.report.stopped ≡ Some ReadFailed → ⊥
+unfailed_reading remaining a x start sent found reading failed =
+    let none = unstopped_reading remaining a.plan x sent.0 a.port.sent (found sent.0 a.port.sent sent.2) reading in
+    none-some ReadFailed (sym none ∙ failed)
+
+-- A reader of which nothing was read holds nothing.
+
+one_more : (plan : PlanValue) (o : OriginValue) (place : ℕ) (bytes : List ℕ) (items : List Item) → length (takeable plan o (Packet place bytes ∷ items)) ≤ 1 + length (takeable plan o items)
+one_more plan o place bytes items = elim (cases_Bool (is_well_formed bytes)) [
+  | inl e ↦ elim (cases_Bool (is_named plan o bytes)) [ inl f ↦ rw (e, f) (omega arith) | inr f ↦ rw (e, f) (omega arith) ]
+  | inr e ↦ rw e (omega arith)
+]
+
+-- as many packets are counted as can be taken, at least
+abbrev framed_count : PlanValue → OriginValue → Item → ℕ
+framed_count plan o item = (counted_of plan o item).framed
+
+few_taken : (plan : PlanValue) (o : OriginValue) (items : List Item) → length (takeable plan o items) ≤ sum_by (framed_count plan o) items
+few_taken plan o [] = omega arith
+few_taken plan o (Packet place bytes ∷ items) = omega (arith, few_taken plan o items, one_more plan o place bytes items, sum_by-cons (framed_count plan o) (Packet place bytes) items)
+few_taken plan o (Bad place ∷ items) = omega (arith, few_taken plan o items, sum_by-cons (framed_count plan o) (Bad place) items)
+few_taken plan o (SyncLoss place ∷ items) = omega (arith, few_taken plan o items, sum_by-cons (framed_count plan o) (SyncLoss place) items)
+few_taken plan o (Lost count ∷ items) = omega (arith, few_taken plan o items, sum_by-cons (framed_count plan o) (Lost count) items)
+
+pub fresh_unheld : {R : Type 0} (remaining : R → Option (List ℕ)) (plan : PlanValue) (x : PacketReader R) → HasRead remaining plan x [] [] → x.report ≡ nothing_counted → x.held ≡ None
+fresh_unheld remaining plan x has fresh =
+    let few = few_taken plan x.origin has.0 in
+    let none : x.report.framed ≡ 0 = ap (λ (r : Report). r.framed) fresh in
+    none_of x.held (omega (arith, few, ap length has.1.given_is, has.1.counts.framed, none))

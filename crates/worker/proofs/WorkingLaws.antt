@@ -1,6 +1,8 @@
 -- What a worker has done.
-use Rattle.std.proofs.Common.{◌≡◌, ℕ, ◌<◌, List, [], ◌∷◌, ◌++◌, length, Bool, false, Option, None, Some, IfSome, MatchBool, ap, ◌∙◌, sym, subst, refl, ◌⊎◌, inl, inr, arith}
+use Rattle.std.proofs.Common.{◌≡◌, ℕ, ◌<◌, List, [], ◌∷◌, ◌++◌, length, Bool, true, false, Option, None, Some, IfSome, MatchBool, ap, ◌∙◌, sym, subst, refl, ◌⊎◌, inl, inr, arith}
 use Rattle.std.specs.Option.{option_to_list}
+use Rattle.std.proofs.lemmas.Bool.{false≢true}
+use Rattle.std.proofs.lemmas.Option.{none-some}
 use Rattle.std.specs.Io.KnownBytes.{Consumes}
 use Rattle.tspkt.specs.Framed.{framed}
 use Rattle.tspkt.specs.declared.item.Item.{Item}
@@ -14,23 +16,64 @@ use Rattle.reading.specs.declared.report.Report.{Report}
 use Rattle.reading.specs.declared.stop.Stop.{Stop}
 use Rattle.reading.specs.declared.stop.Stop.TheVariants.{Gate, ReadFailed, TooMuch, Memory}
 use Rattle.reading.specs.declared.packet_reader.PacketReader.{PacketReader}
-use Rattle.reading.proofs.PacketLaws.{given_begins, looked_framed, whole_read, failed_read, too_much, counted_stopped}
+use Rattle.reading.proofs.PacketLaws.{given_begins, looked_framed, whole_read, failed_read, counts_told, too_much, within_read, counted_stopped}
 use Rattle.port.specs.Rings.{PortValue, FinishedValue}
 use Rattle.port.specs.Stops.{StopsOnce}
 use Rattle.worker.specs.declared.sender.Sender.{Sender}
-use Rattle.worker.specs.Sending.{SendsOn, IsLastCause}
+use Rattle.worker.specs.Sending.{HasSent, SendsOn, first_cause}
 use Rattle.worker.specs.Working.{HasSentOf, HasWorked}
 
 -- a cause that is neither the gate's nor want of memory is the reading's own
-pub own_cause : (stop reading cause : Option Stop) (is_ended : Bool) → IsLastCause stop reading is_ended cause → IfSome stop (λ s. (s ≡ Gate) ⊎ (s ≡ Memory))
-    → (cause ≡ Some Gate → ⊥) → (cause ≡ Some Memory → ⊥) → (stop ≡ None) × (cause ≡ reading)
-own_cause (Some s) reading cause is_ended is own gate memory =
+pub own_cause : (stop reading cause : Option Stop) (is_ended : Bool) → cause ≡ first_cause reading stop is_ended → IfSome stop (λ s. (s ≡ Gate) ⊎ (s ≡ Memory))
+    → (cause ≡ Some Gate → ⊥) → (cause ≡ Some Memory → ⊥) → cause ≡ reading
+own_cause stop (Some reading) cause is_ended is own gate memory = is
+own_cause (Some s) None cause is_ended is own gate memory =
     elim own [
       | inl e ↦ absurd (gate (is ∙ ap Some e))
       | inr e ↦ absurd (memory (is ∙ ap Some e))
     ]
-own_cause None reading cause is_ended (inl e) own gate memory = (refl, e)
-own_cause None reading cause is_ended (inr e) own gate memory = absurd (gate e.1)
+own_cause None None cause true is own gate memory = is
+own_cause None None cause false is own gate memory = absurd (gate is)
+
+-- where no cause is told there was none, and the end mark was sent
+pub no_cause : (stop reading : Option Stop) (is_ended : Bool) → None ≡ first_cause reading stop is_ended → (reading ≡ None) × (stop ≡ None)
+no_cause stop (Some reading) is_ended is = absurd (none-some reading is)
+no_cause (Some s) None is_ended is = absurd (none-some s is)
+no_cause None None true is = (refl, refl)
+no_cause None None false is = absurd (none-some Gate is)
+
+-- what stopped the sending came before any failed read, and left no end mark where it is the gate
+pub record IsOwnStop (stop reading : Option Stop) (is_ended : Bool) : Type 0 where
+  pub own : IfSome stop (λ s. (s ≡ Gate) ⊎ (s ≡ Memory))
+  pub refused : stop ≡ Some Memory → reading ≡ None
+  pub unfailed : stop ≡ Some Gate → reading ≡ Some ReadFailed → ⊥
+  pub unmarked : stop ≡ Some Gate → is_ended ≡ false
+
+-- where a failed read is told, nothing stopped the sending
+pub unstopped_failed : (stop reading : Option Stop) (is_ended : Bool) → IsOwnStop stop reading is_ended → reading ≡ Some ReadFailed → stop ≡ None
+unstopped_failed None reading is_ended is failed = refl
+unstopped_failed (Some s) reading is_ended is failed =
+    elim is.own [
+      | inl e ↦ absurd (is.unfailed (ap Some e) failed)
+      | inr e ↦ absurd (none-some ReadFailed (sym (is.refused (ap Some e)) ∙ failed))
+    ]
+
+-- behind the end mark nothing is held, unless there was no memory to read with
+pub none_held : {R : Type 0} (x : PacketReader R) (stop cause : Option Stop) (is_ended : Bool) → IsOwnStop stop x.report.stopped is_ended → cause ≡ first_cause x.report.stopped stop is_ended
+    → (stop ≡ None → IsSpent x ⊎ (x.report.stopped ≡ Some Memory)) → is_ended ≡ true → (cause ≡ Some Memory → ⊥) → x.held ≡ None
+none_held x None cause is_ended is told over ended memory =
+    let P : Option Stop → Type 0 = λ r. cause ≡ first_cause r None is_ended in
+    elim (over refl) [
+      | inl spent ↦ spent.held
+      | inr e ↦ absurd (memory (subst P e told))
+    ]
+none_held x (Some s) cause is_ended is told over ended memory =
+    elim is.own [
+      | inl e ↦ absurd (false≢true (sym (is.unmarked (ap Some e)) ∙ ended))
+      | inr e ↦
+          (let P : Option Stop → Type 0 = λ r. cause ≡ first_cause r (Some s) is_ended in
+          absurd (memory (subst P (is.refused (ap Some e)) told ∙ ap Some e)))
+    ]
 
 pub spent_of : {R : Type 0} (x : PacketReader R) (cause : Option Stop) → cause ≡ x.report.stopped → (cause ≡ Some Memory → ⊥) → IsSpent x ⊎ (x.report.stopped ≡ Some Memory) → IsSpent x
 spent_of x cause same memory (inl spent) = spent
@@ -44,32 +87,42 @@ counts_of plan o items old report is counts =
 -- what a reader gave was sent, and this is told of it
 pub sent_of : {R : Type 0} (remaining : R → Option (List ℕ)) (most : ℕ) (plan : PlanValue) (x : PacketReader R) (start : Option (List ℕ)) (bytes : List ℕ) (sent : List Stamped) (stop : Option Stop) (is_ended : Bool) (report : Report)
     → Consumes start (remaining x.stream.source) bytes → HasRead remaining plan x bytes sent → x.stream.items.limit ≡ most
-    → IsLastCause stop x.report.stopped is_ended report.stopped → IfSome stop (λ s. (s ≡ Gate) ⊎ (s ≡ Memory))
+    → report.stopped ≡ first_cause x.report.stopped stop is_ended → IsOwnStop stop x.report.stopped is_ended
     → (stop ≡ None → IsSpent x ⊎ (x.report.stopped ≡ Some Memory)) → report ≡ record x.report { stopped = report.stopped }
-    → HasSentOf most plan x.origin start (remaining x.stream.source) report sent
-sent_of remaining most plan x start bytes sent stop is_ended report read has limit cause own over counts = record {
+    → HasSentOf most plan x.origin start (remaining x.stream.source) report is_ended sent
+sent_of remaining most plan x start bytes sent stop is_ended report read has limit cause is over counts = record {
   bytes = bytes;
   read = read;
   begins = given_begins remaining plan x bytes sent has;
   whole = λ e.
-      let u = own_cause stop x.report.stopped report.stopped is_ended cause own (λ b. let bad = sym e ∙ b in cc) (λ b. let bad = sym e ∙ b in cc) in
-      let spent = spent_of x report.stopped u.1 (λ b. let bad = sym e ∙ b in cc) (over u.0) in
-      let w = whole_read remaining plan x bytes sent has spent (sym u.1 ∙ e) in
+      let u = no_cause stop x.report.stopped is_ended (sym e ∙ cause) in
+      let spent = spent_of x None (sym u.0) (λ b. none-some Memory b) (over u.1) in
+      let w = whole_read remaining plan x bytes sent has spent u.0 in
       record { sent_is = w.given_is; counts = counts_of plan x.origin (framed 188 bytes) x.report report counts w.counts; at_end = w.at_end };
   failed = λ e.
-      let u = own_cause stop x.report.stopped report.stopped is_ended cause own (λ b. let bad = sym e ∙ b in cc) (λ b. let bad = sym e ∙ b in cc) in
-      let spent = spent_of x report.stopped u.1 (λ b. let bad = sym e ∙ b in cc) (over u.0) in
-      failed_read remaining plan x bytes sent has spent (sym u.1 ∙ e);
+      let same = own_cause stop x.report.stopped report.stopped is_ended cause is.own (λ b. let bad = sym e ∙ b in cc) (λ b. let bad = sym e ∙ b in cc) in
+      let u = unstopped_failed stop x.report.stopped is_ended is (sym same ∙ e) in
+      let spent = spent_of x report.stopped same (λ b. let bad = sym e ∙ b in cc) (over u) in
+      failed_read remaining plan x bytes sent has spent (sym same ∙ e);
+  told = λ e.
+      let same = own_cause stop x.report.stopped report.stopped is_ended cause is.own (λ b. let bad = sym e ∙ b in cc) (λ b. let bad = sym e ∙ b in cc) in
+      let told = counts_told remaining plan x bytes sent has (sym same ∙ e) in
+      record { told = told.told; begun = told.begun; packets = told.packets; all = told.all; counts = counts_of plan x.origin told.told x.report report counts told.counts };
   too_much = λ e.
-      let u = own_cause stop x.report.stopped report.stopped is_ended cause own (λ b. let bad = sym e ∙ b in cc) (λ b. let bad = sym e ∙ b in cc) in
-      let much = too_much remaining plan x bytes sent has (sym u.1 ∙ e) in
+      let same = own_cause stop x.report.stopped report.stopped is_ended cause is.own (λ b. let bad = sym e ∙ b in cc) (λ b. let bad = sym e ∙ b in cc) in
+      let much = too_much remaining plan x bytes sent has (sym same ∙ e) in
       omega (arith, much, limit);
+  within = λ other.
+      let P : Option Stop → Type 0 = λ r. report.stopped ≡ first_cause r stop is_ended in
+      let fits = within_read remaining plan x bytes sent has (λ e. other (subst P e cause)) in
+      omega (arith, fits, limit);
   counted = record {
     looked = has.0;
     framing = looked_framed remaining plan x bytes sent has;
     counts = counts_of plan x.origin has.0 x.report report counts has.1.counts;
     held = x.held;
     sent_is = has.1.given_is;
+    over = none_held x stop report.stopped is_ended is cause over;
   };
 }
 
@@ -77,21 +130,27 @@ if_some_so : {X : Type 0} (o : Option X) (P Q : X → Type 0) → ((x : X) → P
 if_some_so None P Q f h = h
 if_some_so (Some x) P Q f h = f x h
 
--- what a worker did, from what its sending did
-pub worked : {R G : Type 0} (remaining : R → Option (List ℕ)) (failures : R → ℕ) (most : ℕ) (a b : Sender R G) (plan : PlanValue) (origin : OriginValue) (source left : R) (stop : Option Stop) (report : Report) (finished : FinishedValue)
-    → a.plan ≡ plan → a.reader.origin ≡ origin → a.reader.stream.source ≡ source → a.reader.stream.items.limit ≡ most → HasRead remaining a.plan a.reader [] [] → a.port.sent ≡ []
-    → SendsOn remaining failures a b → left ≡ b.reader.stream.source → (stop ≡ None → IsSpent b.reader ⊎ (b.reader.report.stopped ≡ Some Memory)) → IfSome stop (λ s. (s ≡ Gate) ⊎ (s ≡ Memory))
-    → report ≡ record b.reader.report { stopped = report.stopped } → IsLastCause stop b.reader.report.stopped finished.is_ended report.stopped → IfSome finished.shown (λ port. port ≡ b.port)
-    → HasWorked most plan origin (remaining source) (remaining left) a.port.ring report finished
-worked {R} {G} remaining failures most a b plan origin source left stop report finished plan_is origin_is source_is limit fresh unsent on left_is over own counts cause shown =
+-- nothing was sent of a reader of which nothing was read
+pub fresh_sent : {R G : Type 0} (remaining : R → Option (List ℕ)) (a : Sender R G) (source : R) → a.reader.stream.source ≡ source → HasRead remaining a.plan a.reader [] [] → a.port.sent ≡ [] → HasSent remaining (remaining source) a
+fresh_sent {R} remaining a source source_is fresh unsent =
     let start = remaining source in
     let C : R → Type 0 = λ v. Consumes start (remaining v) [] in
     let H : List Stamped → Type 0 = HasRead remaining a.plan a.reader [] in
-    let r = on.sent start ([], subst C (sym source_is) (consumes_nothing start), subst H (sym unsent) fresh) in
+    ([], subst C (sym source_is) (consumes_nothing start), subst H (sym unsent) fresh)
+
+-- what a worker did, from what its sending did
+pub worked : {R G : Type 0} (remaining : R → Option (List ℕ)) (failures : R → ℕ) (most : ℕ) (a b : Sender R G) (plan : PlanValue) (origin : OriginValue) (source left : R) (stop : Option Stop) (report : Report) (finished : FinishedValue)
+    → a.plan ≡ plan → a.reader.origin ≡ origin → a.reader.stream.source ≡ source → a.reader.stream.items.limit ≡ most → HasRead remaining a.plan a.reader [] [] → a.port.sent ≡ []
+    → SendsOn remaining failures a b → left ≡ b.reader.stream.source → (stop ≡ None → IsSpent b.reader ⊎ (b.reader.report.stopped ≡ Some Memory)) → IsOwnStop stop b.reader.report.stopped finished.is_ended
+    → report ≡ record b.reader.report { stopped = report.stopped } → report.stopped ≡ first_cause b.reader.report.stopped stop finished.is_ended → IfSome finished.shown (λ port. port ≡ b.port)
+    → HasWorked most plan origin (remaining source) (remaining left) a.port.ring report finished
+worked {R} {G} remaining failures most a b plan origin source left stop report finished plan_is origin_is source_is limit fresh unsent on left_is over own counts cause shown =
+    let start = remaining source in
+    let r = on.sent start (fresh_sent remaining a source source_is fresh unsent) in
     let s = sent_of remaining most b.plan b.reader start r.0 b.port.sent stop finished.is_ended report r.1 r.2 (on.limit ∙ limit) cause own over counts in
-    let P : PlanValue → Type 0 = λ v. HasSentOf most v b.reader.origin start (remaining b.reader.stream.source) report b.port.sent in
-    let O : OriginValue → Type 0 = λ v. HasSentOf most plan v start (remaining b.reader.stream.source) report b.port.sent in
-    let L : R → Type 0 = λ v. HasSentOf most plan origin start (remaining v) report b.port.sent in (
+    let P : PlanValue → Type 0 = λ v. HasSentOf most v b.reader.origin start (remaining b.reader.stream.source) report finished.is_ended b.port.sent in
+    let O : OriginValue → Type 0 = λ v. HasSentOf most plan v start (remaining b.reader.stream.source) report finished.is_ended b.port.sent in
+    let L : R → Type 0 = λ v. HasSentOf most plan origin start (remaining v) report finished.is_ended b.port.sent in (
       b.port.sent,
       subst L (sym left_is) (subst O (on.origin ∙ origin_is) (subst P (on.plan ∙ plan_is) s)),
       if_some_so finished.shown (λ port. port ≡ b.port) (λ port. port ≡ record { ring = a.port.ring; sent = b.port.sent })
@@ -101,23 +160,39 @@ worked {R} {G} remaining failures most a b plan origin source left stop report f
 -- a failed read is told only where the source failed
 pub told_failed : {R G : Type 0} (remaining : R → Option (List ℕ)) (failures : R → ℕ) (a b : Sender R G) (source left : R) (stop : Option Stop) (is_ended : Bool) (cause : Option Stop)
     → a.reader.stream.source ≡ source → TellsFailures failures (failures source) a.reader → SendsOn remaining failures a b → left ≡ b.reader.stream.source → IfSome stop (λ s. (s ≡ Gate) ⊎ (s ≡ Memory))
-    → IsLastCause stop b.reader.report.stopped is_ended cause → cause ≡ Some ReadFailed → FailsOnce (failures source) (failures left)
-told_failed remaining failures a b source left stop is_ended cause source_is tells on left_is own last e =
-    let u = own_cause stop b.reader.report.stopped cause is_ended last own (λ g. let bad = sym e ∙ g in cc) (λ g. let bad = sym e ∙ g in cc) in
+    → cause ≡ first_cause b.reader.report.stopped stop is_ended → cause ≡ Some ReadFailed → FailsOnce (failures source) (failures left)
+told_failed remaining failures a b source left stop is_ended cause source_is tells on left_is own first e =
+    let same = own_cause stop b.reader.report.stopped cause is_ended first own (λ g. let bad = sym e ∙ g in cc) (λ g. let bad = sym e ∙ g in cc) in
     let t = on.told (failures source) tells in
-    subst (λ v. FailsOnce (failures source) (failures v)) (sym left_is) (t.told (sym u.1 ∙ e))
+    subst (λ v. FailsOnce (failures source) (failures v)) (sym left_is) (t.told (sym same ∙ e))
+
+-- and wherever it failed
+pub told_unfailed : {R G : Type 0} (remaining : R → Option (List ℕ)) (failures : R → ℕ) (a b : Sender R G) (source left : R) (stop : Option Stop) (is_ended : Bool) (cause : Option Stop)
+    → TellsFailures failures (failures source) a.reader → SendsOn remaining failures a b → left ≡ b.reader.stream.source
+    → cause ≡ first_cause b.reader.report.stopped stop is_ended → (cause ≡ Some ReadFailed → ⊥) → failures left ≡ failures source
+told_unfailed remaining failures a b source left stop is_ended cause tells on left_is first other =
+    let P : Option Stop → Type 0 = λ r. cause ≡ first_cause r stop is_ended in
+    let t = on.told (failures source) tells in
+    ap failures left_is ∙ t.untold (λ e. other (subst P e first))
 
 -- the gate is told only where it said no: before the sending ended, or before the end mark was sent
-pub told_gate : (stop reading cause : Option Stop) (is_ended : Bool) (before between after : ℕ) → IsLastCause stop reading is_ended cause → IfSome stop (λ s. (s ≡ Gate) ⊎ (s ≡ Memory))
+pub told_gate : (stop reading cause : Option Stop) (is_ended : Bool) (before between after : ℕ) → cause ≡ first_cause reading stop is_ended → IfSome stop (λ s. (s ≡ Gate) ⊎ (s ≡ Memory))
     → (reading ≡ Some Gate → ⊥) → (stop ≡ Some Gate → StopsOnce before between) → (stop ≡ Some Gate → after ≡ between)
     → ((stop ≡ Some Gate → ⊥) → between ≡ before) → ((stop ≡ Some Gate → ⊥) → MatchBool is_ended (after ≡ between) (StopsOnce between after)) → cause ≡ Some Gate → StopsOnce before after
-told_gate (Some s) reading cause is_ended before between after last own unleft stopped same gate rest e =
-    let is : s ≡ Gate = (let both : Some s ≡ Some Gate = sym last ∙ e in cc) in
-    subst (λ n. StopsOnce before n) (sym (same (ap Some is))) (stopped (ap Some is))
-told_gate None reading cause is_ended before between after (inl e') own unleft stopped same gate rest e = absurd (unleft (sym e' ∙ e))
-told_gate None reading cause is_ended before between after (inr e') own unleft stopped same gate rest e =
-    let M : Bool → Type 0 = λ b. MatchBool b (after ≡ between) (StopsOnce between after) in
-    subst (λ n. StopsOnce n after) (gate (λ b. cc)) (subst M e'.2 (rest (λ b. cc)))
+told_gate stop (Some reading) cause is_ended before between after first own unleft stopped same gate rest e = absurd (unleft (sym first ∙ e))
+told_gate (Some s) None cause is_ended before between after first own unleft stopped same gate rest e =
+    let is : Some s ≡ Some Gate = sym first ∙ e in
+    subst (λ n. StopsOnce before n) (sym (same is)) (stopped is)
+told_gate None None cause true before between after first own unleft stopped same gate rest e = absurd (none-some Gate (sym first ∙ e))
+told_gate None None cause false before between after first own unleft stopped same gate rest e =
+    subst (λ n. StopsOnce n after) (gate (λ b. none-some Gate b)) (rest (λ b. none-some Gate b))
+
+-- and then there is no end mark
+pub told_left : (stop reading cause : Option Stop) (is_ended : Bool) → cause ≡ first_cause reading stop is_ended → (reading ≡ Some Gate → ⊥) → (stop ≡ Some Gate → is_ended ≡ false) → cause ≡ Some Gate → is_ended ≡ false
+told_left stop (Some reading) cause is_ended first unleft unmarked e = absurd (unleft (sym first ∙ e))
+told_left (Some s) None cause is_ended first unleft unmarked e = unmarked (sym first ∙ e)
+told_left None None cause true first unleft unmarked e = absurd (none-some Gate (sym first ∙ e))
+told_left None None cause false first unleft unmarked e = refl
 
 -- and where no mark was sent
 pub told_unmarked : (stop : Option Stop) (is_ended : Bool) (before between after : ℕ) → IfSome stop (λ s. (s ≡ Gate) ⊎ (s ≡ Memory)) → (stop ≡ Some Gate → StopsOnce before between) → (stop ≡ Some Gate → after ≡ between)

@@ -1,5 +1,5 @@
 -- How an input's packets go into its ring, step by step (profile).
-use Rattle.std.specs.Prelude.{◌≡◌, ◌⊎◌, ℕ, List, Bool, false, Option, Some, None}
+use Rattle.std.specs.Prelude.{◌≡◌, ℕ, List, Bool, true, false, Option, Some, None}
 use Rattle.std.specs.Io.KnownBytes.{Consumes}
 use Rattle.reading.specs.PacketReading.{HasRead, TellsFailures}
 use Rattle.reading.specs.declared.stop.Stop.{Stop}
@@ -22,9 +22,10 @@ pub record SendsOn {R G : Type 0} (remaining : R → Option (List ℕ)) (failure
   pub origin : new.reader.origin ≡ old.reader.origin
   pub limit : new.reader.stream.items.limit ≡ old.reader.stream.items.limit
 
--- What is told of a worker: what stopped its sending, or else its reading, or else the gate, where it said no before the end mark
--- was sent.
-abbrev pub IsLastCause : Option Stop → Option Stop → Bool → Option Stop → Type 0
-IsLastCause (Some stop) reading is_ended cause = cause ≡ Some stop
-IsLastCause None reading is_ended cause =
-    (cause ≡ reading) ⊎ ((reading ≡ None) × (cause ≡ Some Gate) × (is_ended ≡ false))
+-- What is told of a worker is what stopped it first: what stopped its reading, or else its sending, or else the gate, where it
+-- said no before the end mark was sent.
+abbrev pub first_cause : Option Stop → Option Stop → Bool → Option Stop
+first_cause (Some cause) sending is_ended = Some cause
+first_cause None (Some cause) is_ended = Some cause
+first_cause None None true = None
+first_cause None None false = Some Gate

@@ -1,5 +1,5 @@
 -- What a worker has done at its end (profile).
-use Rattle.std.specs.Prelude.{◌≡◌, ℕ, ◌<◌, List, ◌++◌, length, Option, Some, None, IfSome}
+use Rattle.std.specs.Prelude.{◌≡◌, ℕ, ◌<◌, ◌≤◌, List, ◌++◌, length, Bool, true, Option, Some, None, IfSome}
 use Rattle.std.specs.Option.{option_to_list}
 use Rattle.std.specs.Io.KnownBytes.{Consumes, IsAtEnd}
 use Rattle.tspkt.specs.Framed.{framed}
@@ -7,10 +7,10 @@ use Rattle.tspkt.specs.declared.item.Item.{Item}
 use Rattle.tspkt.specs.declared.stamped.Stamped.{Stamped}
 use Rattle.plan.specs.Build.{PlanValue}
 use Rattle.reading.specs.Takeable.{OriginValue, takeable, CountsItems}
-use Rattle.reading.specs.PacketReading.{BeginsTakeable}
+use Rattle.reading.specs.PacketReading.{BeginsTakeable, CountsTold}
 use Rattle.reading.specs.StreamReading.{BeginsFramed}
 use Rattle.reading.specs.declared.report.Report.{Report}
-use Rattle.reading.specs.declared.stop.Stop.TheVariants.{ReadFailed, TooMuch}
+use Rattle.reading.specs.declared.stop.Stop.TheVariants.{ReadFailed, TooMuch, Memory}
 use Rattle.port.specs.Rings.{RingId, FinishedValue}
 
 -- The input ended by itself: all that can be taken of its bytes was sent, and the report counts all of their framing.
@@ -19,16 +19,19 @@ pub record IsSentWhole (plan : PlanValue) (origin : OriginValue) (bytes : List �
   pub counts : CountsItems plan origin (framed 188 bytes) report
   pub at_end : IsAtEnd left
 
--- The report counts a beginning of the framing, of which all was sent that can be taken, but for at most one packet.
-pub record IsCounted (plan : PlanValue) (origin : OriginValue) (bytes : List ℕ) (left : Option (List ℕ)) (report : Report) (sent : List Stamped) : Type 0 where
+-- The report counts a beginning of the framing, of which all was sent that can be taken, but for at most one packet: none where
+-- the end mark was sent, and there was memory to read with.
+pub record IsCounted (plan : PlanValue) (origin : OriginValue) (bytes : List ℕ) (left : Option (List ℕ)) (report : Report) (is_ended : Bool) (sent : List Stamped) : Type 0 where
   pub looked : List Item
   pub framing : BeginsFramed bytes (IsAtEnd left) looked
   pub counts : CountsItems plan origin looked report
   pub held : Option Stamped
   pub sent_is : takeable plan origin looked ≡ sent ++ option_to_list held
+  pub over : is_ended ≡ true → (report.stopped ≡ Some Memory → ⊥) → held ≡ None
 
--- Of a source that had these bytes to give at first and has those left, and may have so many, the worker sent these packets.
-pub record HasSentOf (limit : ℕ) (plan : PlanValue) (origin : OriginValue) (start left : Option (List ℕ)) (report : Report) (sent : List Stamped) : Type 0 where
+-- Of a source that had these bytes to give at first and has those left, and may have so many, the worker sent these packets, and
+-- then the end mark or not.
+pub record HasSentOf (limit : ℕ) (plan : PlanValue) (origin : OriginValue) (start left : Option (List ℕ)) (report : Report) (is_ended : Bool) (sent : List Stamped) : Type 0 where
   pub bytes : List ℕ
   pub read : Consumes start left bytes
   -- they begin what can be taken of the bytes that were read, whatever follows these
@@ -37,11 +40,15 @@ pub record HasSentOf (limit : ℕ) (plan : PlanValue) (origin : OriginValue) (st
   pub whole : report.stopped ≡ None → IsSentWhole plan origin bytes left report sent
   -- at a failed read they are all of it too
   pub failed : report.stopped ≡ Some ReadFailed → sent ≡ takeable plan origin (framed 188 bytes)
+  -- and the report counts what was told of the bytes before it
+  pub told : report.stopped ≡ Some ReadFailed → CountsTold plan origin bytes (IsAtEnd left) report
+  -- it is told as too long exactly where more bytes than it may have were read
   pub too_much : report.stopped ≡ Some TooMuch → limit < length bytes
-  pub counted : IsCounted plan origin bytes left report sent
+  pub within : (report.stopped ≡ Some TooMuch → ⊥) → length bytes ≤ limit
+  pub counted : IsCounted plan origin bytes left report is_ended sent
 
 -- What its port sent, as far as the ring shows it, is what it read.
 abbrev pub HasWorked : ℕ → PlanValue → OriginValue → Option (List ℕ) → Option (List ℕ) → RingId → Report → FinishedValue → Type 0
 HasWorked limit plan origin start left ring report finished =
-    (sent : List Stamped) × HasSentOf limit plan origin start left report sent
+    (sent : List Stamped) × HasSentOf limit plan origin start left report finished.is_ended sent
     × IfSome finished.shown (λ port. port ≡ record { ring = ring; sent = sent })

@@ -2,6 +2,7 @@
 
 ghost use Rattle.std.specs.Prelude.{◌≡◌, IfSome, MatchBool};
 ghost use Rattle.port.specs.Stops.{StopsOnce};
+ghost use Rattle.worker.specs.Sending.{first_cause};
 
 use crate::waiting::pause;
 use plan::Plan;
@@ -24,19 +25,23 @@ pub(crate) struct Sender<R, G> {
 }
 
 impl<R: Source + Drop, G: Gate + Drop> Sender<R, G> {
-    ghost use Rattle.std.specs.Prelude.{◌≡◌, ◌<◌, ◌⊎◌, ℕ, length, true, false, None, Some, IfSome, IsSome, MatchBool};
+    ghost use Rattle.std.specs.Prelude.{◌≡◌, ◌<◌, ◌⊎◌, ℕ, List, Option, length, true, false, None, Some, IfSome, IsSome, MatchBool};
     ghost use Rattle.reading.specs.PacketReading.{IsSpent};
-    ghost use Rattle.reading.specs.declared.stop.Stop.TheVariants.{Gate, Memory};
+    ghost use Rattle.reading.specs.declared.stop.Stop.TheVariants.{Gate, Memory, ReadFailed};
     ghost use Rattle.port.specs.Stops.{StopsOnce};
-    ghost use Rattle.worker.specs.Sending.{SendsOn, IsLastCause};
+    ghost use Rattle.worker.specs.Sending.{HasSent, SendsOn, first_cause};
 
     /// Sends all packets of the input that the plan names, and answers what stopped it, if anything did beside the input: the
     /// gate, or want of memory to read with.
     pub fn send<T: Wait + Clock>(&mut self, alloc: Global, rt: &T) -> Option<Stop>
+        requires { self.old.reader.held ≡ None }
         ensures sent { SendsOn R.remaining R.failures self.old self.new }
         ensures over { result ≡ None
             → IsSpent self.new.reader ⊎ (self.new.reader.report.stopped ≡ Some Memory) }
         ensures causes { IfSome result (λ stop. (stop ≡ Gate) ⊎ (stop ≡ Memory)) }
+        ensures refused { result ≡ Some Memory → self.new ≡ self.old }
+        ensures unfailed { result ≡ Some Gate → (start : Option (List ℕ)) → HasSent R.remaining start self.old
+            → self.new.reader.report.stopped ≡ Some ReadFailed → ⊥ }
         ensures stopped { result ≡ Some Gate → StopsOnce (G.stops self.old.gate) (G.stops self.new.gate) }
         ensures gate { (result ≡ Some Gate → ⊥) → G.stops self.new.gate ≡ G.stops self.old.gate }
     {
@@ -50,14 +55,18 @@ impl<R: Source + Drop, G: Gate + Drop> Sender<R, G> {
         }
     }
 
-    /// The same, in pieces of at most the length of `piece`. False is answered where the gate said no.
+    /// The same, in pieces of at most the length of `piece`. False is answered where the gate said no, which it isn't asked
+    /// behind a failed read.
     fn send_all<T: Wait + Clock>(&mut self, rt: &T, piece: &mut [u8]) -> bool
-        requires { 0 < length piece.old }
+        requires piece { 0 < length piece.old }
+        requires held { self.old.reader.held ≡ None }
         ensures sent { SendsOn R.remaining R.failures self.old self.new }
         ensures gate { MatchBool result (G.stops self.new.gate ≡ G.stops self.old.gate)
             (StopsOnce (G.stops self.old.gate) (G.stops self.new.gate)) }
         ensures over { result ≡ true
             → IsSpent self.new.reader ⊎ (self.new.reader.report.stopped ≡ Some Memory) }
+        ensures unfailed { result ≡ false → (start : Option (List ℕ)) → HasSent R.remaining start self.old
+            → self.new.reader.report.stopped ≡ Some ReadFailed → ⊥ }
     {
         for _ in rt.forever() {
             match self.reader.look(&self.plan) {
@@ -84,6 +93,8 @@ impl<R: Source + Drop, G: Gate + Drop> Sender<R, G> {
     fn send_held<T: Wait + Clock>(&mut self, rt: &T) -> bool
         requires { IsSome self.old.reader.held }
         ensures sent { SendsOn R.remaining R.failures self.old self.new }
+        ensures stopped { self.new.reader.report.stopped ≡ self.old.reader.report.stopped }
+        ensures released { result ≡ true → self.new.reader.held ≡ None }
         ensures gate { MatchBool result (G.stops self.new.gate ≡ G.stops self.old.gate)
             (StopsOnce (G.stops self.old.gate) (G.stops self.new.gate)) }
     {
@@ -108,7 +119,7 @@ impl<R: Source + Drop, G: Gate + Drop> Sender<R, G> {
         ensures source { result.2 ≡ self.reader.stream.source }
         ensures port { IfSome result.1.shown (λ port. port ≡ self.port) }
         ensures counts { result.0 ≡ record self.reader.report { stopped = result.0.stopped } }
-        ensures cause { IsLastCause stop self.reader.report.stopped result.1.is_ended result.0.stopped }
+        ensures cause { result.0.stopped ≡ first_cause self.reader.report.stopped stop result.1.is_ended }
         ensures stopped { stop ≡ Some Gate
             → (G.stops result.3 ≡ G.stops self.gate) × (result.1.is_ended ≡ false) }
         ensures gate { (stop ≡ Some Gate → ⊥) → MatchBool result.1.is_ended
@@ -120,19 +131,27 @@ impl<R: Source + Drop, G: Gate + Drop> Sender<R, G> {
             port,
             ..
         } = self;
-        let mut report = reader.report();
-        if stop.is_some() {
-            report.stopped = stop;
-        }
         let finished = if matches!(stop, Some(Stop::Gate)) {
             port.finish()
         } else {
             end(rt, port, &mut gate)
         };
-        if report.stopped.is_none() && !finished.is_ended() {
-            report.stopped = Some(Stop::Gate);
-        }
+        let report = reader.report();
+        let stopped = cause(report.stopped, stop, finished.is_ended());
+        let report = Report { stopped, ..report };
         (report, finished, reader.into_source(), gate)
+    }
+}
+
+/// What stopped a worker first: what stopped its reading, or else its sending, or else the gate, where no end mark was sent.
+fn cause(reading: Option<Stop>, sending: Option<Stop>, is_ended: bool) -> Option<Stop>
+    ensures { result ≡ first_cause reading sending is_ended }
+{
+    match (reading, sending) {
+        (Some(stop), _) => Some(stop),
+        (None, Some(stop)) => Some(stop),
+        (None, None) if is_ended => None,
+        (None, None) => Some(Stop::Gate),
     }
 }
 

@@ -75,6 +75,9 @@ impl<R: Source + Drop, G: Gate + Drop> Worker<R, G> {
         ensures failed { result.0.stopped ≡ Some Stop.ReadFailed
             → FailsOnce (R.failures self.source) (R.failures result.2) }
         ensures gate { result.0.stopped ≡ Some Stop.Gate → StopsOnce (G.stops self.gate) (G.stops result.3) }
+        ensures left { result.0.stopped ≡ Some Stop.Gate → result.1.is_ended ≡ false }
+        ensures unfailed { (result.0.stopped ≡ Some Stop.ReadFailed → ⊥)
+            → R.failures result.2 ≡ R.failures self.source }
         ensures marked { result.1.is_ended ≡ false → StopsOnce (G.stops self.gate) (G.stops result.3) }
     {
         let Worker {

@@ -29,3 +29,6 @@ returns-clause-memory g c = c.run_to-result.ensures.memory
 
 pub returns-clause-write_failed : goal.returns-clause-write_failed
 returns-clause-write_failed g c = c.run_to-result.ensures.write_failed
+
+pub returns-clause-read_failed : goal.returns-clause-read_failed
+returns-clause-read_failed g c = c.run_to-result.ensures.read_failed

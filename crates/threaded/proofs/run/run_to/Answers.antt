@@ -4,7 +4,7 @@ use Rattle.std.proofs.lemmas.Result.{IfOk-weaker, err_from_is_err_and}
 use Rattle.serial.specs.declared.run_fault.RunFault.TheVariants as run_faults
 use Rattle.serial.proofs.SendingLaws.{on_err_always, on_err_weaker, same_err}
 use Rattle.threaded.proofs.ResultLaws.{if_ok_failed, on_ok_failed, not_write}
-use Rattle.threaded.proofs.OutcomeLaws.{ready_count, ready_unsent, ready_seated, begun_nothing, run_failed, run_ended, lent_count}
+use Rattle.threaded.proofs.OutcomeLaws.{ready_count, ready_unsent, ready_seated, begun_nothing, run_failed, run_ended, lent_count, failures_told}
 use Rattle.threaded.proofs.run.run_to.Goals as goal
 
 pub run_opened-requires-clause-plan : goal.run_opened-requires-clause-plan
@@ -54,6 +54,18 @@ returns-clause-lent g c =
     lent_count g.R.Source.remaining g.R.Source.failures c.args.plan c.args.slots c.args.limit o.station c.args.readers.items c.args.gates.items o.seats.items o.output
     (g.W.Sink.contents c.args.sink.now) (g.W.Sink.contents c.run_opened.new.sink) done.0 done.1.items c.in_ok-opening.ensures.ready c.requires.readers c.requires.gates e)
     c.run_opened.ensures.ended
+
+pub returns-clause-read_failed : goal.returns-clause-read_failed
+returns-clause-read_failed g c =
+    let o = c.in_ok-opening.opening in
+    IfOk-weaker c.run_opened.result _ _
+    (λ done e.
+    failures_told g.R.Source.remaining g.R.Source.failures c.args.plan c.args.slots c.args.limit o.station c.args.readers.items c.args.gates.items o.seats.items o.output
+    (g.W.Sink.contents c.args.sink.now) (g.W.Sink.contents c.run_opened.new.sink) done.0 done.1.items c.in_ok-opening.ensures.ready c.requires.readers c.requires.gates e)
+    c.run_opened.ensures.ended
+
+pub returns-in_err-opening-clause-read_failed : goal.returns-in_err-opening-clause-read_failed
+returns-in_err-opening-clause-read_failed g c = if_ok_failed _ _ c.from_residual.result c.from_residual.ensures.1
 
 pub returns-in_err-opening-clause-begins : goal.returns-in_err-opening-clause-begins
 returns-in_err-opening-clause-begins g c =

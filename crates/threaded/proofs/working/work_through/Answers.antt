@@ -1,10 +1,14 @@
-use Rattle.std.proofs.Common.{map, ◌∙◌, sym, subst, inl}
+use Rattle.std.proofs.Common.{List, map, ap, ◌∙◌, sym, subst, inl}
+use Rattle.std.specs.List.{list_any}
 use Rattle.std.proofs.lemmas.List.{length-map}
 use Rattle.station.specs.Stations.{StationValue}
 use Rattle.threaded.specs.Crews.{AreEnded}
+use Rattle.threaded.specs.Ending.{wants_memory}
+use Rattle.threaded.specs.declared.ended.Ended.{Ended}
 use Rattle.threaded.specs.Driving.{BreaksOff}
 use Rattle.threaded.proofs.CrewLaws.{seated_workers}
 use Rattle.threaded.proofs.DrivingLaws.{breaks_driven, same_either}
+use Rattle.threaded.proofs.ReportLaws.{all_had_memory}
 use Rattle.threaded.proofs.working.work_through.Goals as goal
 
 pub join_all-requires-clause-station : goal.join_all-requires-clause-station
@@ -55,3 +59,8 @@ returns-then-wanted_memory-clause-broken g c =
     let after = g.W.Sink.contents c.work-driven.new.sink in
     let B : StationValue → Type 0 = λ s. BreaksOff old s c.args.output.now before after in
     subst B (sym c.join_all.ensures.same) (breaks_driven old c.work-driven.new.station c.args.output.now c.work-driven.new.output before after c.in_ok-driven.ensures.driven)
+
+pub returns-clause-had_memory : goal.returns-clause-had_memory
+returns-clause-had_memory g c =
+    let told = c.wanted_memory.ensures ∙ ap (λ (xs : List (Ended _ _)). list_any (λ e. wants_memory e.report.stopped) xs) c.as_slice.ensures.value in
+    all_had_memory c.join_all.new.ended.items (sym told ∙ c.if-wanted_memory.false)

@@ -1,6 +1,6 @@
-use Rattle.std.proofs.Common.{◌≡◌, ◌∙◌, rules}
+use Rattle.std.proofs.Common.{◌≡◌, ◌∙◌, sym, rules}
 use Rattle.worker.specs.declared.sender.Sender.{Sender}
-use Rattle.worker.proofs.SendingLaws.{sends_gate, sends_found, sends_looked, sends_sends}
+use Rattle.worker.proofs.SendingLaws.{sends_gate, sends_found, sends_looked, sends_sends, unfailed_found, unfailed_reading}
 use Rattle.worker.proofs.sender.Sender.send_all.Goals as goal
 
 pub returns-then-not-send_held-clause-sent : goal.returns-then-not-send_held-clause-sent
@@ -24,6 +24,7 @@ loop-preserved-else-not-send_held g c =
     record {
       sent = sends_sends M F a looked c.send_held.new.self on c.send_held.ensures.sent;
       stops = search rules;
+      held = c.send_held.ensures.released c.if-not-send_held.false;
     }
 
 pub returns-in-Over-clause-sent : goal.returns-in-Over-clause-sent
@@ -73,4 +74,16 @@ loop-preserved g c =
     record {
       sent = sends_sends M F a asked found ask (sends_found M F asked c.read.new.self (c.read.ensures.read l.plan) c.read.ensures.goes);
       stops = search rules;
+      held = c.read.ensures.held ∙ (c.look.ensures.more (search rules)).held;
     }
+
+pub returns-then-not-send_held-clause-unfailed : goal.returns-then-not-send_held-clause-unfailed
+returns-then-not-send_held-clause-unfailed g c e start sent failed =
+    let l = c.loop.self in
+    unfailed_found g.R.Source.remaining l c.look.new.self start (c.loop.invariant.sent.sent start sent) c.loop.invariant.held c.look.ensures.read c.look.ensures.goes.origin c.look.ensures.stopped
+    (c.look.ensures.found (search rules)) (sym c.send_held.ensures.stopped ∙ failed)
+
+pub returns-then-not-pass-clause-unfailed : goal.returns-then-not-pass-clause-unfailed
+returns-then-not-pass-clause-unfailed g c e start sent failed =
+    let l = c.loop.self in
+    unfailed_reading g.R.Source.remaining l c.look.new.self start (c.loop.invariant.sent.sent start sent) c.look.ensures.read (c.look.ensures.more (search rules)).framer failed

@@ -1,4 +1,4 @@
-use Rattle.std.proofs.Common.{◌≡◌}
+use Rattle.std.proofs.Common.{◌≡◌, None}
 use Rattle.worker.specs.Sending.{SendsOn}
 use Rattle.worker.proofs.sender.Sender.send_all.Given as goal
 
@@ -6,4 +6,5 @@ abbrev pub invariant-loop : goal.invariant-loop
 invariant-loop g l = record {
   sent : SendsOn g.R.Source.remaining g.R.Source.failures l.fn.self l.self;
   stops : g.G.Gate.stops l.self.gate ≡ g.G.Gate.stops l.fn.self.gate;
+  held : l.self.reader.held ≡ None;
 }

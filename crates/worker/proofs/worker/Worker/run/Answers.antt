@@ -7,7 +7,8 @@ use Rattle.reading.specs.Takeable.{OriginValue, origin_of}
 use Rattle.reading.specs.declared.report.Report.{Report}
 use Rattle.worker.specs.declared.sender.Sender.{Sender}
 use Rattle.worker.proofs.PlanLaws.{all_at, input_at}
-use Rattle.worker.proofs.WorkingLaws.{empty_of, worked, told_failed, told_gate, told_unmarked}
+use Rattle.worker.proofs.WorkingLaws.{IsOwnStop, empty_of, fresh_sent, worked, told_failed, told_unfailed, told_gate, told_left, told_unmarked}
+use Rattle.worker.proofs.SendingLaws.{fresh_unheld}
 use Rattle.worker.proofs.worker.Worker.run.Goals as goal
 
 pub new-reader-requires-clause-input : goal.new-reader-requires-clause-input
@@ -33,9 +34,30 @@ returns-clause-sent g c input at =
     let same : input_value x ≡ input = same_Some (input_value x) input (sym is_at ∙ at) in
     let unsent : c.args.self.port.sent ≡ [] = empty_of c.args.self.port.sent c.args.self.unsent in
     let a : Sender _ _ = record { plan = p; reader = c.new-reader.result; gate = c.args.self.gate; port = c.args.self.port } in
+    let own : IsOwnStop c.send-stop.result c.send-stop.new.self.reader.report.stopped c.finish.result.1.is_ended = record {
+      own = c.send-stop.ensures.causes;
+      refused = λ e. ap (λ (v : Sender _ _). v.reader.report.stopped) (c.send-stop.ensures.refused e) ∙ ap (λ (v : Report). v.stopped) c.new-reader.ensures.report;
+      unfailed = λ e. c.send-stop.ensures.unfailed e (g.R.Source.remaining c.args.self.source) (fresh_sent g.R.Source.remaining a c.args.self.source c.new-reader.ensures.source (c.new-reader.ensures.read p) unsent);
+      unmarked = λ e. (c.finish.ensures.stopped e).1;
+    } in
     worked g.R.Source.remaining g.R.Source.failures c.args.self.limit a c.send-stop.new.self p (origin_of i input) c.args.self.source c.finish.result.2 c.send-stop.result c.finish.result.0 c.finish.result.1
     refl (c.new-reader.ensures.origin ∙ ap (origin_of i) same) c.new-reader.ensures.source c.new-reader.ensures.limit (c.new-reader.ensures.read p) unsent
-    c.send-stop.ensures.sent c.finish.ensures.source c.send-stop.ensures.over c.send-stop.ensures.causes c.finish.ensures.counts c.finish.ensures.cause c.finish.ensures.port
+    c.send-stop.ensures.sent c.finish.ensures.source c.send-stop.ensures.over own c.finish.ensures.counts c.finish.ensures.cause c.finish.ensures.port
+
+pub send-stop-requires : goal.send-stop-requires
+send-stop-requires g c = fresh_unheld g.R.Source.remaining c.args.self.plan c.new-reader.result (c.new-reader.ensures.read c.args.self.plan) c.new-reader.ensures.report
+
+pub returns-clause-unfailed : goal.returns-clause-unfailed
+returns-clause-unfailed g c other =
+    let a : Sender _ _ = record { plan = c.args.self.plan; reader = c.new-reader.result; gate = c.args.self.gate; port = c.args.self.port } in
+    told_unfailed g.R.Source.remaining g.R.Source.failures a c.send-stop.new.self c.args.self.source c.finish.result.2 c.send-stop.result c.finish.result.1.is_ended c.finish.result.0.stopped
+    c.new-reader.ensures.failures c.send-stop.ensures.sent c.finish.ensures.source c.finish.ensures.cause other
+
+pub returns-clause-left : goal.returns-clause-left
+returns-clause-left g c e =
+    let old = c.new-reader.ensures.report in
+    told_left c.send-stop.result c.send-stop.new.self.reader.report.stopped c.finish.result.0.stopped c.finish.result.1.is_ended c.finish.ensures.cause
+    (λ left. let bad = sym (ap (λ (v : Report). v.stopped) old) ∙ c.send-stop.ensures.sent.unleft left in cc) (λ s. (c.finish.ensures.stopped s).1) e
 
 pub returns-clause-failed : goal.returns-clause-failed
 returns-clause-failed g c e =
