@@ -24,8 +24,9 @@ all_decided f told bytes s same all items begins =
     elim (begins_or_passes items told first.0 here.0 (first.1 ∙ sym here.1)) [
       | inl b ↦ b
       | inr p ↦ absurd (all p.0 (λ more.
-          let next = begins more (λ e. absurd e) in
-          (p.1 ++ next.0,
+          let next = begins more (λ e. absurd e) in (
+            p.1 ++ next.0,
             append_cancel_left told (still_to_tell f more) (p.0 ∷ p.1 ++ next.0)
-            (same more ∙ ap (λ (n : ℕ). framed n (bytes ++ more)) s ∙ sym next.1 ∙ ap (λ l. l ++ next.0) p.2 ∙ append_assoc told (p.0 ∷ p.1) next.0))))
+                (same more ∙ ap (λ (n : ℕ). framed n (bytes ++ more)) s ∙ sym next.1 ∙ ap (λ l. l ++ next.0) p.2 ∙ append_assoc told (p.0 ∷ p.1) next.0),
+          )))
     ]

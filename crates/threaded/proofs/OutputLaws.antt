@@ -26,15 +26,18 @@ run_of h starts before after s r =
 pub same_as_one_thread : ThreadsWriteTheSame
 same_as_one_thread h g starts before after old new s t same r q =
     let run = subst (λ (x : Run). IsRunOf x.plan (packet_lists x.plan starts) h.events) same (run_of h starts before after s r) in
-    let finished = subst (λ (x : Run). IsFinished x.plan x.limit h.events) same r.runs.finished in
-    (bytes_of (emitted h.run.plan h.events), r.runs.written,
-      subst (λ (x : Run). Appends old new (bytes_of (emitted x.plan h.events))) (sym same) (of_every_history g starts old new t h.events q run finished))
+    let finished = subst (λ (x : Run). IsFinished x.plan x.limit h.events) same r.runs.finished in (
+      bytes_of (emitted h.run.plan h.events),
+      r.runs.written,
+      subst (λ (x : Run). Appends old new (bytes_of (emitted x.plan h.events))) (sym same) (of_every_history g starts old new t h.events q run finished),
+    )
 
 pub threads_agree : ThreadsAgree
 threads_agree h g starts before after old new s t same r q =
     let run = subst (λ (x : Run). IsRunOf x.plan (packet_lists x.plan starts) g.events) (sym same) (run_of g starts old new t q) in
     let finished = subst (λ (x : Run). IsFinished x.plan x.limit g.events) (sym same) q.runs.finished in
-    let packets = output_is_unique h.run.plan (packet_lists h.run.plan starts) h.run.limit h.events g.events r.runs.sound.plan (run_of h starts before after s r) r.runs.finished run finished in
-    (bytes_of (emitted h.run.plan g.events),
+    let packets = output_is_unique h.run.plan (packet_lists h.run.plan starts) h.run.limit h.events g.events r.runs.sound.plan (run_of h starts before after s r) r.runs.finished run finished in (
+      bytes_of (emitted h.run.plan g.events),
       subst (λ (v : List (List ℕ)). Appends before after (bytes_of v)) packets r.runs.written,
-      subst (λ (x : Run). Appends old new (bytes_of (emitted x.plan g.events))) (sym same) q.runs.written)
+      subst (λ (x : Run). Appends old new (bytes_of (emitted x.plan g.events))) (sym same) q.runs.written,
+    )

@@ -145,7 +145,7 @@ nothing_decided stride (Synced zero) p kept h w item k =
     elim (cases_lt (length kept) 188) [
       | inl short ↦ short_waits stride p kept short item k
       | inr whole ↦
-        ⊎_elim (λ (y : length kept < 188). absurd (omega arith)) (λ (y : (is_sync kept 0 ≡ false) × (length kept ≤ stride)). bad_waits stride p kept h whole y.1 y.0 item k) w
+          ⊎_elim (λ (y : length kept < 188). absurd (omega arith)) (λ (y : (is_sync kept 0 ≡ false) × (length kept ≤ stride)). bad_waits stride p kept h whole y.1 y.0 item k) w
     ]
 nothing_decided stride (Synced (suc skip)) p kept h w item k =
     let one = k [] in
