@@ -1,5 +1,6 @@
 #!/usr/bin/env python3
-"""Makes random jobs, runs each with the program and with plain.c, which shares no code with it, and compares the bytes.
+"""Makes random jobs, runs each with the program, in threads and in one thread, and with plain.c, which shares no code with it, and
+compares the bytes.
 
     random_jobs.py PROGRAM [JOBS [SEED]]
 
@@ -138,15 +139,17 @@ with tempfile.TemporaryDirectory() as folder:
     seed, refused, slots = int(sys.argv[3]) if len(sys.argv) > 3 else 1, 0, 0
     for job in range(seed, seed + jobs):
         limit = make_job(random.Random(job))
-        run = subprocess.run([program, "run", "--plan", "job.toml", "--out", "ours.ts", "--slots", str(limit)], capture_output=True, text=True)
-        if run.returncode == 3:
+        words = [program, "run", "--plan", "job.toml", "--slots", str(limit), "--out"]
+        run = subprocess.run([*words, "ours.ts"], capture_output=True, text=True)
+        serial = subprocess.run([*words, "serial.ts", "--serial"], capture_output=True, text=True)
+        if (run.returncode, serial.returncode) == (3, 3):
             refused += 1
             continue
-        if run.returncode:
-            sys.exit("job %d: status %d: %s" % (job, run.returncode, run.stderr))
+        if run.returncode or serial.returncode:
+            sys.exit("job %d: status %d, and serial %d: %s" % (job, run.returncode, serial.returncode, run.stderr))
         plain = subprocess.run(["./plain", "job.toml", "plain.ts", str(limit)], capture_output=True, text=True)
-        ours = open("ours.ts", "rb").read()
-        if plain.returncode or ours != open("plain.ts", "rb").read():
+        ours, theirs = open("ours.ts", "rb").read(), open("plain.ts", "rb").read()
+        if plain.returncode or ours != theirs or open("serial.ts", "rb").read() != theirs:
             kept = os.path.join(here, "data", "job_%d" % job)
             os.makedirs(kept, exist_ok=True)
             subprocess.run("cp * " + kept, shell=True)

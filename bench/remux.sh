@@ -1,9 +1,9 @@
 #!/usr/bin/env bash
-# Makes the multiplex of 4 inputs with 8 services at 38 Mbit/s, 900,000 slots, and the same streams at the same rate with
-# `ffmpeg -c copy`, and copies the inputs with `cat`, in turn, three times or TURNS times. Each line: which, packets, packets
-# a second, and peak memory. The last lines are the ratios of the best times, and whether the bytes are those of plain.c, which
-# makes the same multiplex with none of our code. REMUX names another program than the built one, and BEFORE one to be measured
-# beside it.
+# Makes the multiplex of 4 inputs with 8 services at 38 Mbit/s, 900,000 slots, in threads and in one thread, and the same streams
+# at the same rate with `ffmpeg -c copy`, and copies the inputs with `cat`, in turn, three times or TURNS times. Each line: which,
+# packets, packets a second, and peak memory. The last lines are the ratios of the best times, and whether the bytes of both runs
+# are those of plain.c, which makes the same multiplex with none of our code. REMUX names another program than the built one, and
+# BEFORE one whose run is measured beside it.
 set -euo pipefail
 cd "$(dirname "${BASH_SOURCE[0]}")"
 program=${REMUX:-$PWD/../remux}
@@ -22,7 +22,8 @@ inputs = ["input_%d.ts" % k for k in range(4)]
 maps = [word for k in range(4) for word in ("-map", str(k))]
 ffmpeg = ["ffmpeg", "-hide_banner", "-loglevel", "error", "-y", *[w for name in inputs for w in ("-i", name)], *maps]
 jobs = {
-    "remux": [sys.argv[1], *run],
+    "threads": [sys.argv[1], *run],
+    "serial": [sys.argv[1], *run, "--serial"],
     "before": [sys.argv[3], *run],
     "ffmpeg": [*ffmpeg, "-c", "copy", "-f", "mpegts", "-muxrate", "38000000", "out.ts"],
     "cat": ["sh", "-c", "cat input_?.ts > out.ts"],
@@ -36,7 +37,7 @@ def digest():
         return hashlib.file_digest(file, "sha256").hexdigest()
 
 
-best, ours = {}, None
+best, ours = {}, {}
 for turn in range(int(sys.argv[2])):
     for name, words in jobs.items():
         start = time.perf_counter()
@@ -48,12 +49,14 @@ for turn in range(int(sys.argv[2])):
         packets = os.path.getsize("out.ts") // 188
         best[name] = max(best.get(name, 0), packets / seconds)
         print("%s: %d packets, %d a second, %d MB" % (name, packets, packets / seconds, usage.ru_maxrss // 1024))
-        ours = digest() if name == "remux" else ours
+        if words[0] == sys.argv[1]:
+            ours.setdefault(name, set()).add(digest())
         os.remove("out.ts")
 for name in list(jobs)[1:]:
-    print("remux is %.2f times %s" % (best["remux"] / best[name], name))
+    print("threads is %.2f times %s" % (best["threads"] / best[name], name))
 subprocess.run(["./plain", "job.toml", "out.ts", "900000"], check=True, stdout=subprocess.DEVNULL)
-if ours != digest():
-    sys.exit("its bytes aren't the plain program's")
-print("its bytes are the plain program's")
+for name, digests in ours.items():
+    if digests != {digest()}:
+        sys.exit("the bytes of %s aren't the plain program's" % name)
+print("the bytes of %s are the plain program's" % " and ".join(ours))
 PY

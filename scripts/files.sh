@@ -1,6 +1,6 @@
 #!/usr/bin/env bash
 # Runs the program over real files, in a folder of its own, and looks at what becomes of them: no file is lost, and each failure
-# is put into words. From anywhere: scripts/files.sh. It needs bash and coreutils, and takes a few seconds once the program is
+# is put into words. From anywhere: scripts/files.sh. It needs bash and coreutils, and takes less than a minute once the program is
 # built. REMUX names another program than ../remux. The last line counts; the status is 1 where something failed.
 set -u
 top=$(cd -- "$(dirname -- "${BASH_SOURCE[0]}")/.." && pwd)
@@ -46,6 +46,23 @@ is 'a run ends well' [ "$status" = 0 ]
 is 'it says why it ended' [ "$(cat err)" = 'end: all inputs ended' ]
 cat out err > totals
 is 'a run leaves no other file' absent whole.ts.part
+run run --plan plan.toml --out serial.ts --serial
+is 'a run in one thread ends well' [ "$status" = 0 ]
+is 'it writes the same bytes' same serial.ts whole.ts
+cat out err > serial.totals
+is 'it prints the same' same serial.totals totals
+
+# A plan with room, and one whose services take more than its rate leaves.
+run run --plan plan.toml --out strict.ts --strict
+is 'a strict run of a plan with room ends well' [ "$status" = 0 ]
+is 'its output is the same' same strict.ts whole.ts
+sed 's|^rate = 3000000$|rate = 1200000|' plan.toml > full.toml
+run run --plan full.toml --out full.ts --serial
+is 'a run of an overfull plan ends well' [ "$status" = 0 ]
+is 'its plan is named' has err 'overfull: the services took '
+run run --plan full.toml --out strict.ts --serial --strict
+is 'a strict run of an overfull plan has status 1' [ "$status" = 1 ]
+is 'its output is the same too' same strict.ts full.ts
 
 # What is read is not written, under whatever name.
 ln -s north.ts link.ts
@@ -72,14 +89,17 @@ run run --plan plan.toml --out through.ts
 is 'the target of a link is replaced' same target.ts whole.ts
 is 'the link stays' [ -L through.ts ]
 
-echo old > short.ts
-(trap '' XFSZ; ulimit -f 100; "$program" run --plan plan.toml --out short.ts > out 2> err)
-is 'a write that fails ends the run' [ $? = 4 ]
-is 'the file is named' [ "$(head -n 1 err)" = 'fault file short.ts' ]
-is 'the reason is told' has err "it can't be written: "
-is 'the old output stands' [ "$(cat short.ts)" = old ]
-is 'the new one is named' has err 'short.ts.part: the output so far'
-is 'the new one is there' [ -s short.ts.part ]
+for word in '' --serial; do
+    rm -f short.ts.part
+    echo old > short.ts
+    (trap '' XFSZ; ulimit -f 100; "$program" run --plan plan.toml --out short.ts $word > out 2> err)
+    is "a write that fails ends the run $word" [ $? = 4 ]
+    is "the file is named $word" [ "$(head -n 1 err)" = 'fault file short.ts' ]
+    is "the reason is told $word" has err "it can't be written: "
+    is "the old output stands $word" [ "$(cat short.ts)" = old ]
+    is "the new one is named $word" has err 'short.ts.part: the output so far'
+    is "the new one is there $word" [ -s short.ts.part ]
+done
 run run --plan plan.toml --out short.ts
 is 'the next run ends well' same short.ts whole.ts
 is 'what was left is not touched' [ -s short.ts.part ]
@@ -114,8 +134,11 @@ is 'an input is no standard output' same north.ts north.kept
 
 # What can be read only once.
 sed 's|"north.ts"|"-"|' plan.toml > standard.toml
-cat north.ts | "$program" run --plan standard.toml --out standard.ts > out 2> err
-is 'standard input from a pipe' same standard.ts whole.ts
+for word in '' --serial; do
+    rm -f standard.ts
+    cat north.ts | "$program" run --plan standard.toml --out standard.ts $word > out 2> err
+    is "standard input from a pipe $word" same standard.ts whole.ts
+done
 "$program" run --plan standard.toml --out standard.ts > out 2> err < north.ts
 is 'standard input from a file' same standard.ts whole.ts
 mkfifo pipe
@@ -156,7 +179,10 @@ is 'with a reason' has err 'it has more than 1048576 bytes'
 
 grep -v '^ring' plan.toml > noring.toml
 run check --plan noring.toml
-is 'a missing key is named' has err 'missing field `ring`'
+is 'a missing key is named' has err "missing key 'ring' at the top"
+sed '0,/^leak = 2000000$/{//d}' plan.toml > noleak.toml
+run check --plan noleak.toml
+is 'a key that a table lacks is told with its line' has err "line 39: missing key 'leak'"
 printf 'rate = 1\nperiod = = 2\n' > syntax.toml
 run check --plan syntax.toml
 is 'a line that is no TOML is named' has err 'line 2: '
@@ -192,10 +218,22 @@ is 'packets of 204 bytes are told' has err 'long.ts: it looks like packets of 20
 run check --plan $'\xff.toml'
 is 'a name that is no text' [ "$status" = 2 ]
 is 'that is told' has err 'UTF-8'
-run run --plan plan.toml --out some.ts --slots 1000
-is 'the slot limit is told' has err 'end: the slot limit: input 0 was read to '
+for word in '' --serial; do
+    run run --plan plan.toml --out "some$word.ts" --slots 1000 $word
+    is "the slot limit is told $word" has err 'end: the slot limit: input 0 was read to '
+done
+is 'a run of some slots writes the same in one thread' same some.ts some--serial.ts
 run check --plan none.toml
 is 'a file that is not there' has err 'none.toml: it can'"'"'t be opened: No such file or directory'
+
+# However the threads run.
+same_bytes=0
+for ((turn = 0; turn < 200; turn++)); do
+    run run --plan plan.toml --out turn.ts
+    cat out err > turn.totals
+    same turn.ts serial.ts && same turn.totals serial.totals && same_bytes=$((same_bytes + 1))
+done
+is '200 runs in threads do what the run in one thread does' [ "$same_bytes" = 200 ]
 
 echo "$passed passed, $failed failed"
 [ "$failed" = 0 ]

@@ -4,4 +4,5 @@ mod delays;
 mod devices;
 mod memory_files;
 mod runs;
+mod telling;
 mod whole_commands;

@@ -2,6 +2,7 @@
 
 use crate::printing::print_plan;
 use crate::run_command::{Asked, run};
+use crate::telling::print_rhythm;
 use analysis::StreamAnalysis;
 use files::Files;
 use input_files::{InputFile, read_plan};
@@ -9,6 +10,9 @@ use messages::CommandFault;
 use std::alloc::Global;
 use std::convert::AsStr;
 use std::io::Write;
+use std::sync::Wait;
+use std::thread::Threads;
+use std::time::Clock;
 use words::{Command, LineFault, line};
 
 /// The status of a refused command line.
@@ -20,7 +24,7 @@ const TOLD: u8 = 1;
 /// of a run that is asked for them. What `err` doesn't take is left out. The answer is the status with which the program
 /// ends, and the output's writer, where one was made.
 ///
-/// The status is 0 for success, 1 where an analysis told a fault, 2 for refused words, 3 for a refused plan, 4 for a file
+/// The status is 0 for success, 1 where an analysis told a fault or a strict run's plan is overfull, 2 for refused words, 3 for a refused plan, 4 for a file
 /// that failed and 5 for want of memory. Without words it does the stored first run.
 ///
 /// The first fault ends a command: of its words, of the plan's file, of its text, of the inputs while their tables are sought,
@@ -29,13 +33,25 @@ const TOLD: u8 = 1;
 ///
 /// An output gets its name when the run has ended and no input failed. Where the output goes to standard output, the lines of
 /// the run go to `err`.
-pub fn command<F: Files, O: Write, E: Write, S: AsStr>(
+///
+/// A run reads each input in a thread of its own, or all in the calling thread where the words ask for that.
+pub fn command<
+    T: Threads + Wait + Clock + Copy + Send + Drop + 'static,
+    F: Files,
+    O: Write,
+    E: Write,
+    S: AsStr,
+>(
+    rt: T,
     alloc: Global,
     words: &[S],
     files: &mut F,
     out: &mut O,
     err: &mut E,
-) -> (u8, Option<F::Writer>) {
+) -> (u8, Option<F::Writer>)
+where
+    F::Again: Send + 'static,
+{
     if words.is_empty() {
         let ended = print_first(alloc, out);
         return (end(ended, out, err), None);
@@ -43,7 +59,7 @@ pub fn command<F: Files, O: Write, E: Write, S: AsStr>(
     match line(alloc, words) {
         Err(fault) => (print_line_fault(fault, out, err), None),
         Ok(Command::Check { plan }) => {
-            let ended = check(alloc, files, plan, out);
+            let ended = check(alloc, files, plan, out, err);
             (end(ended, out, err), None)
         }
         Ok(Command::Analyse { rate, period, file }) => {
@@ -55,17 +71,20 @@ pub fn command<F: Files, O: Write, E: Write, S: AsStr>(
                 plan,
                 out: name,
                 length,
-                serial: _,
+                serial,
                 delays,
+                strict,
             },
         ) => {
             let asked = Asked {
                 plan,
                 out: name,
                 length,
+                is_serial: serial,
                 delays,
+                strict,
             };
-            run(alloc, files, &asked, out, err)
+            run(rt, alloc, files, &asked, out, err)
         }
     }
 }
@@ -126,15 +145,18 @@ fn print_first<O: Write>(alloc: Global, out: &mut O) -> Result<u8, CommandFault>
     Ok(0)
 }
 
-/// Shows a plan.
-fn check<F: Files, O: Write>(
+/// Shows a plan: its lines, and on `err` what is said of its rhythm.
+fn check<F: Files, O: Write, E: Write>(
     alloc: Global,
     files: &mut F,
     plan: &str,
     out: &mut O,
+    err: &mut E,
 ) -> Result<u8, CommandFault> {
     let read = read_plan(alloc, files, plan)?;
     print_plan(&read.plan, out)?;
+    out.flush()?;
+    let _ = print_rhythm(&read.plan, err);
     Ok(0)
 }
 

@@ -2,7 +2,10 @@
 #![tactic(auto)]
 
 mod commands;
+mod open_gate;
 mod printing;
 mod run_command;
+mod telling;
+mod whole_run;
 
 pub use commands::command;

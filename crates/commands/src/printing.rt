@@ -122,6 +122,19 @@ fn print_left<R: InputFile, E: Write>(
     Ok(true)
 }
 
+/// Prints that all inputs of a run were read to their ends. Where some of their packets still wait, the run had all its slots
+/// first.
+fn print_all<E: Write>(summary: &Summary, err: &mut E) -> io::Result<()> {
+    if summary.inputs.iter().any(|input| input.totals.queued > 0) {
+        writeln!(
+            err,
+            "end: the slot limit: all inputs were read to their ends"
+        )
+    } else {
+        writeln!(err, "end: all inputs ended")
+    }
+}
+
 /// Prints why a run ended: a line for each input that wasn't read to its end, or one that says that all were.
 pub(crate) fn print_end<R: InputFile, E: Write>(
     summary: &Summary,
@@ -135,7 +148,7 @@ pub(crate) fn print_end<R: InputFile, E: Write>(
         }
     }
     if is_all {
-        writeln!(err, "end: all inputs ended")?;
+        print_all(summary, err)?;
     }
     Ok(())
 }

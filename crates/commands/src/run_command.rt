@@ -5,14 +5,19 @@ ghost use Rattle.words.specs.Ranges.{IsAllowedLength};
 
 use crate::commands::end;
 use crate::printing::{print_delays, print_end, print_summary};
+use crate::telling::tell_overfull;
+use crate::whole_run::run_plan;
 use files::{Files, OutputFile, open_output};
 use input_files::{ReadPlan, open_again, read_plan, stopped};
 use messages::CommandFault;
 use plan::Plan;
 use reading::Stop;
-use serial::{RunFault, Summary, run_serial_within};
+use serial::{RunFault, Summary};
 use std::alloc::Global;
 use std::io::Write;
+use std::sync::Wait;
+use std::thread::Threads;
+use std::time::Clock;
 use words::{RunLength, most_bytes, most_slots};
 
 /// What a run is asked for.
@@ -24,8 +29,12 @@ pub(crate) struct Asked<'a> {
     pub out: &'a str,
     /// How long the run goes on.
     pub length: RunLength,
+    /// Whether the run uses one thread alone.
+    pub is_serial: bool,
     /// Whether the delays of the streams are printed.
     pub delays: bool,
+    /// Whether a run whose plan is overfull ends with status 1.
+    pub strict: bool,
 }
 
 /// What a run needs: a plan, what its inputs are read from, and what its output is written to.
@@ -68,13 +77,21 @@ fn prepare<F: Files>(
 }
 
 /// Makes the multiplex of a plan, and prints what became of it.
-pub(crate) fn run<F: Files, O: Write, E: Write>(
+pub(crate) fn run<
+    T: Threads + Wait + Clock + Copy + Send + Drop + 'static,
+    F: Files,
+    O: Write,
+    E: Write,
+>(
+    rt: T,
     alloc: Global,
     files: &mut F,
     asked: &Asked,
     out: &mut O,
     err: &mut E,
 ) -> (u8, Option<F::Writer>)
+where
+    F::Again: Send + 'static,
     requires { IsAllowedLength asked.now.length }
 {
     let prepared = match prepare(alloc, files, asked) {
@@ -82,13 +99,13 @@ pub(crate) fn run<F: Files, O: Write, E: Write>(
         Err(fault) => return (end(Err(fault), out, err), None),
     };
     let is_standard = files.is_standard_output(asked.out);
-    let (writer, ran) = run_prepared(alloc, files, prepared, asked);
+    let (writer, ran) = run_prepared(rt, alloc, files, prepared, asked);
     let status = match ran {
         Ok((ran, named)) => {
             let told = tell_run(&ran, is_standard, asked.delays, out, err);
             let status = end(told.and(named), out, err);
             let _ = print_end(&ran.summary, &ran.readers, err);
-            status
+            tell_overfull(&ran.plan, &ran.summary, asked, status, err)
         }
         Err(fault) => end(Err(fault), out, err),
     };
@@ -99,7 +116,8 @@ pub(crate) fn run<F: Files, O: Write, E: Write>(
 }
 
 /// Makes the multiplex of a plan. A run that has ended by itself is answered with what became of its output.
-fn run_prepared<F: Files>(
+fn run_prepared<T: Threads + Wait + Clock + Copy + Send + Drop + 'static, F: Files>(
+    rt: T,
     alloc: Global,
     files: &mut F,
     prepared: Prepared<F::Again, F::Writer>,
@@ -108,6 +126,8 @@ fn run_prepared<F: Files>(
     F::Writer,
     Result<(Ran<F::Again>, Result<u8, CommandFault>), CommandFault>,
 )
+where
+    F::Again: Send + 'static,
     requires readers { length prepared.readers.items ≡ length prepared.plan.request.inputs }
     requires length { IsAllowedLength asked.now.length }
 {
@@ -118,7 +138,8 @@ fn run_prepared<F: Files>(
         writer,
     } = prepared;
     let (slots, limit) = (most_slots(asked.length), most_bytes(asked.length));
-    match run_serial_within(alloc, plan, slots, limit, readers, writer) {
+    let is_serial = asked.is_serial;
+    match run_plan(rt, alloc, is_serial, plan, slots, limit, readers, writer) {
         (writer, Ok((summary, readers))) => {
             let ran = Ran {
                 plan: kept,

@@ -5,15 +5,20 @@ use anyhow::Result;
 use plan::Plan;
 use std::alloc::{AllocError, Global};
 
-/// The head of a plan's text.
+/// The head of a plan's text, with rings of 64 packets.
 pub fn settings(alloc: Global, queue: usize) -> Result<String, AllocError> {
+    settings_with_rings(alloc, queue, 64)
+}
+
+/// The head of a plan's text, with queues and rings of so many packets.
+pub fn settings_with_rings(alloc: Global, queue: usize, ring: usize) -> Result<String, AllocError> {
     format!(in alloc;
         "rate = 1504000
 period = 100
 watch = 1000
 version = 0
 queue = {queue}
-ring = 64
+ring = {ring}
 transport_stream_id = 1
 original_network_id = 2
 network_id = 3
@@ -61,7 +66,12 @@ leak = 2000000
 
 /// The example plan with this queue and inputs at these offsets, each with the example's service.
 pub fn plan_of(alloc: Global, queue: usize, offsets: &[u64]) -> Result<Plan> {
-    let mut text = settings(alloc, queue)?;
+    plan_with_rings(alloc, queue, 64, offsets)
+}
+
+/// The same, with rings of so many packets.
+pub fn plan_with_rings(alloc: Global, queue: usize, ring: usize, offsets: &[u64]) -> Result<Plan> {
+    let mut text = settings_with_rings(alloc, queue, ring)?;
     for offset in offsets {
         text.push_str(&input(alloc, *offset)?)?;
     }

@@ -66,6 +66,6 @@ fn main(rt: HostRuntime) -> ExitCode {
         return ExitCode::from(no_memory(&mut err));
     };
     let mut files = SystemFiles::new(rt.alloc(), &rt, rt.stdout());
-    let (status, _) = command(rt.alloc(), &words, &mut files, &mut out, &mut err);
+    let (status, _) = command(rt, rt.alloc(), &words, &mut files, &mut out, &mut err);
     ExitCode::from(status)
 }

@@ -1,6 +1,6 @@
 //! Runs by hand over the example plan, with numbers worked out on paper.
 
-mod helpers;
+pub mod helpers;
 mod inputs;
 mod memory;
 mod table_slots;

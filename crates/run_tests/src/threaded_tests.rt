@@ -1,28 +1,41 @@
 //! Runs in threads over the example plan, beside the run in one thread.
 
 mod devices;
+mod gates;
+mod meeting;
+mod runs;
+mod shared_station;
+mod stops;
 
-use crate::threaded_tests::devices::{OpenGate, TestReader, TestWriter};
-use anyhow::{Result, bail};
-use example::{packets, plan_of};
+use crate::threaded_tests::gates::OpenGate;
+use crate::threaded_tests::runs::{Ran, readers, run_gated, run_in_one};
+use anyhow::Result;
+use example::{plan_of, plan_with_rings};
 use plan::Plan;
-use reading::{ReadSource, Stop};
-use serial::{RunFault, Summary, WriteSink, run_serial};
+use reading::Stop;
+use serial::RunFault;
 use std::alloc::Global;
+use std::process::Abort;
 use std::sync::Wait;
 use std::test::Fail;
 use std::thread::Threads;
 use std::time::Clock;
-use threaded::run_threads;
 
-type Ran = (Vec<u8>, Result<Summary, RunFault>);
-
-/// The readers of two inputs of five packets each. That of the first may fail in place of its end.
-fn readers(alloc: Global, fails: bool) -> Result<Vec<ReadSource<TestReader>>> {
-    let mut first = TestReader::new(packets(alloc, &[0, 1, 2, 3, 4])?);
-    first.fails = fails;
-    let second = TestReader::new(packets(alloc, &[5, 6, 7, 8, 9])?);
-    Ok(vec![in alloc; ReadSource::new(first), ReadSource::new(second)]?)
+/// Runs two inputs of a plan in threads.
+fn run_open<T: Threads + Wait + Clock + Copy + Send + Drop + 'static>(
+    alloc: Global,
+    rt: T,
+    plan: Plan,
+    fails: bool,
+    room: usize,
+) -> Result<Ran> {
+    let readers = readers(alloc, fails)?;
+    let gates = vec![in alloc; OpenGate, OpenGate]?;
+    let (bytes, result) = run_gated(alloc, rt, plan, 1_000, readers, gates, room)?;
+    match result {
+        Ok((summary, _)) => Ok((bytes, Ok(summary))),
+        Err(fault) => Ok((bytes, Err(fault))),
+    }
 }
 
 /// Runs two inputs in threads, to a writer that has room for so many bytes.
@@ -32,54 +45,69 @@ fn run_two<T: Threads + Wait + Clock + Copy + Send + Drop + 'static>(
     fails: bool,
     room: usize,
 ) -> Result<Ran> {
-    let plan = plan_of(alloc, 64, &[0, 0])?;
-    let readers = readers(alloc, fails)?;
-    let gates = vec![in alloc; OpenGate, OpenGate]?;
-    if plan.inputs().len() != readers.len() || gates.len() != readers.len() {
-        bail!("the plan has another number of inputs");
-    }
-    let sink = WriteSink::new(TestWriter {
-        bytes: Vec::new(alloc),
-        room,
-    });
-    let (sink, result) = run_threads(alloc, rt, plan, 1_000, 1_000_000, readers, gates, sink);
-    let bytes = sink.into_inner().bytes;
-    match result {
-        Ok((summary, _)) => Ok((bytes, Ok(summary))),
-        Err(fault) => Ok((bytes, Err(fault))),
-    }
-}
-
-/// Runs the same in one thread.
-fn run_two_in_one(alloc: Global) -> Result<Ran> {
-    let plan = plan_of(alloc, 64, &[0, 0])?;
-    let readers = readers(alloc, false)?;
-    if plan.inputs().len() != readers.len() {
-        bail!("the plan has another number of inputs");
-    }
-    let sink = WriteSink::new(TestWriter {
-        bytes: Vec::new(alloc),
-        room: usize::MAX,
-    });
-    let (sink, result) = run_serial(alloc, plan, 1_000, readers, sink);
-    let bytes = sink.into_inner().bytes;
-    match result {
-        Ok((summary, _)) => Ok((bytes, Ok(summary))),
-        Err(fault) => Ok((bytes, Err(fault))),
-    }
+    run_open(alloc, rt, plan_of(alloc, 64, &[0, 0])?, fails, room)
 }
 
 #[test]
 fn threads_write_what_one_thread_writes(rt: HostRuntime) -> Result<(), Fail> {
     let alloc = rt.alloc();
     let (bytes, summary) = run_two(alloc, rt, false, usize::MAX)?;
-    let (serial_bytes, serial_summary) = run_two_in_one(alloc)?;
+    let (serial_bytes, serial_summary) = run_in_one(alloc, plan_of(alloc, 64, &[0, 0])?)?;
     let (summary, serial_summary) = (summary?, serial_summary?);
     assert_eq!(rt; bytes.as_slice(), serial_bytes.as_slice());
     assert_eq!(rt; summary.inputs.as_slice(), serial_summary.inputs.as_slice());
     assert_eq!(rt; summary.counts, serial_summary.counts);
     assert_eq!(rt; summary.faults, serial_summary.faults);
     Ok(())
+}
+
+#[test]
+fn threads_write_the_same_through_rings_of_one_packet(rt: HostRuntime) -> Result<(), Fail> {
+    let alloc = rt.alloc();
+    let plan = plan_with_rings(alloc, 1, 1, &[0, 0])?;
+    let (bytes, summary) = run_open(alloc, rt, plan, false, usize::MAX)?;
+    let (serial_bytes, _) = run_in_one(alloc, plan_of(alloc, 64, &[0, 0])?)?;
+    let summary = summary?;
+    // Four table packets and ten of the inputs.
+    assert_eq!(rt; bytes.len(), 2_632);
+    assert_eq!(rt; bytes.as_slice(), serial_bytes.as_slice());
+    assert_eq!(rt; summary.faults, 0);
+    Ok(())
+}
+
+/// Fifty runs in turn, through queues and rings of so many packets, write what a run in one thread writes.
+fn run_fifty<T: Threads + Wait + Clock + Abort + Copy + Send + Drop + 'static>(
+    alloc: Global,
+    rt: T,
+    room: usize,
+) -> Result<()> {
+    let plan = plan_with_rings(alloc, room, room, &[0, 0])?;
+    let (serial_bytes, _) = run_in_one(alloc, plan.copy(alloc)?)?;
+    for run in 0..50 {
+        let (bytes, _) = run_open(alloc, rt, plan.copy(alloc)?, false, usize::MAX)?;
+        assert_eq!(rt; bytes.as_slice(), serial_bytes.as_slice(), "run {run}");
+    }
+    Ok(())
+}
+
+#[test]
+fn each_run_through_rings_of_one_packet_writes_the_same(rt: HostRuntime) -> Result<(), Fail> {
+    Ok(run_fifty(rt.alloc(), rt, 1)?)
+}
+
+#[test]
+fn each_run_through_rings_of_two_packets_writes_the_same(rt: HostRuntime) -> Result<(), Fail> {
+    Ok(run_fifty(rt.alloc(), rt, 2)?)
+}
+
+#[test]
+fn each_run_through_rings_of_four_packets_writes_the_same(rt: HostRuntime) -> Result<(), Fail> {
+    Ok(run_fifty(rt.alloc(), rt, 4)?)
+}
+
+#[test]
+fn each_run_through_rings_of_all_packets_writes_the_same(rt: HostRuntime) -> Result<(), Fail> {
+    Ok(run_fifty(rt.alloc(), rt, 64)?)
 }
 
 #[test]

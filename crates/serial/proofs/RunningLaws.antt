@@ -224,7 +224,7 @@ fewer_sent old new packet answer =
     subst P (sym sent.events) (fewer_by_slot old.run old.events sent.content answer.0.within)
 
 -- what waited and the packet went on
-sends_on : (a b c : Option (List ℕ)) (given waiting packet now : List ℕ) → Sends a b given waiting → Sends b c (waiting ++ packet) now → Sends a c (given ++ packet) now
+pub sends_on : (a b c : Option (List ℕ)) (given waiting packet now : List ℕ) → Sends a b given waiting → Sends b c (waiting ++ packet) now → Sends a c (given ++ packet) now
 sends_on a b c given waiting packet now first second = (
   first.0 ++ second.0,
   appends_on a b c first.0 second.0 first.1 second.1,
@@ -246,7 +246,7 @@ written_sent p old new packet before a b waiting now plan answer first second =
 -- An input had its turn.
 
 -- what comes of the input that the multiplex waits for is needed
-needed_of : (run : Run) (i : ℕ) (e : Event) (h : List Event) → IsOfInput i e → WaitsFor run h i → IsNeeded run e h
+pub needed_of : (run : Run) (i : ℕ) (e : Event) (h : List Event) → IsOfInput i e → WaitsFor run h i → IsNeeded run e h
 needed_of run i (Took j item) h is waits = subst (WaitsFor run h) (sym is) waits
 needed_of run i (Full j st) h is waits = subst (WaitsFor run h) (sym is) waits
 needed_of run i (Close j) h is waits = subst (WaitsFor run h) (sym is) waits

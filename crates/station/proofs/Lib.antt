@@ -4,3 +4,4 @@ pub mod MovingLaws
 pub mod StationLaws
 pub mod OpeningLaws
 pub mod TakingLaws
+pub mod AdvancingLaws

@@ -56,7 +56,7 @@ lawful_sent h new sending.Sent xs is old = (let P : History → Type 0 = λ v. I
 
 -- rings stay
 
-ends_ring : (i : ℕ) (a : History) (x : Inlet) (b : History) (y : Inlet) (ending : Ending) → EndsBy i a x b y ending → y.end.ring ≡ x.end.ring
+pub ends_ring : (i : ℕ) (a : History) (x : Inlet) (b : History) (y : Inlet) (ending : Ending) → EndsBy i a x b y ending → y.end.ring ≡ x.end.ring
 ends_ring i a x b y Nothing is = ap (λ (v : Inlet). v.end.ring) is.2
 ends_ring i a x b y Mark is = ap (λ (v : Inlet). v.end.ring) is.2
 ends_ring i a x b y (HeldBack item came) is = ap (λ (v : Inlet). v.end.ring) is.2

@@ -3,3 +3,4 @@ pub mod Moving
 pub mod Ticking
 pub mod Opening
 pub mod Settling
+pub mod Advancing

@@ -6,6 +6,7 @@
 //! most one an input, which is held.
 #![tactic(auto)]
 
+mod advancing;
 mod inlet;
 mod moving;
 mod settled;

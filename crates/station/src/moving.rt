@@ -35,7 +35,7 @@ pub(crate) fn move_in(mux: &mut Mux, number: usize, inlet: &mut Inlet, most: usi
 
 /// Takes the next packet of an open input. False is answered where none was taken: nothing is seen in the ring, the end mark
 /// came, or the packet that came next is held back.
-fn take_next(mux: &mut Mux, number: usize, inlet: &mut Inlet) -> bool
+pub(crate) fn take_next(mux: &mut Mux, number: usize, inlet: &mut Inlet) -> bool
     requires number { number < length mux.old.run.plan.request.inputs }
     requires open { inlet.old.is_closed ≡ false }
     requires lawful { IsLawfulInlet mux.old number inlet.old }

@@ -1,6 +1,6 @@
 //! The station: its state, and its ticks.
 
-ghost use Rattle.std.specs.Prelude.{◌≡◌, ◌<◌, ◌≤◌, ◌^◌, ◌-◌, Some, length, map, IfOk, IfSome, option_copied};
+ghost use Rattle.std.specs.Prelude.{◌≡◌, ◌<◌, ◌≤◌, ◌^◌, ◌-◌, ◌++◌, Some, length, map, vec_capacity, IfOk, IfSome, option_copied};
 ghost use Rattle.std.specs.List.{slice_get};
 ghost use Rattle.request.specs.declared.stream.Stream.{Stream};
 ghost use Rattle.mux.specs.History.{slots, emitted, is_closed};
@@ -9,9 +9,11 @@ ghost use Rattle.mux.specs.Totals.{IsTotals, IsCounts};
 ghost use Rattle.mux.specs.Headline.{IsSound};
 ghost use Rattle.station.specs.Stations.{IsLawfulStation, rings_of};
 ghost use Rattle.station.specs.Ticking.{Ticks, MovesAll};
+ghost use Rattle.station.specs.Advancing.{Advances};
 ghost use Rattle.station.specs.Opening.{IsOpened, new_inlet};
 ghost use Rattle.station.specs.Settling.{IsSettled};
 
+use crate::advancing::advance;
 use crate::inlet::Inlet;
 use crate::moving::move_in;
 use crate::settled::Settled;
@@ -99,6 +101,24 @@ impl Station {
     {
         move_all(&mut self.mux, &mut self.inlets, self.ring);
         self.mux.send_next()
+    }
+
+    /// Goes on as far as the rings show, by at most so many steps, in one go: a step sends the next slot, or takes what comes next
+    /// of the input that the multiplex waits for. So a packet is taken no sooner than it is needed. `Sent` is answered where all
+    /// steps were done; else the answer says why there is no further one: the run is done, it has all its slots, or nothing is
+    /// seen in the ring of the input that isn't ready. `Memory` isn't answered. `sent` is left with the packets of the slots,
+    /// for which it needs room: no memory is asked for.
+    pub fn advance(&mut self, most: usize, sent: &mut Vec<Packet>) -> Sending
+        requires { most ≤ vec_capacity sent.old }
+        ensures advances { Advances most self.old result self.new sent.new.items }
+        ensures emitted { emitted self.new.history.run.plan self.new.history.events
+            ≡ emitted self.old.history.run.plan self.old.history.events ++ sent.new.items }
+        ensures rings { rings_of self.new.inputs ≡ rings_of self.old.inputs }
+        ensures run { self.new.history.run ≡ self.old.history.run }
+        ensures room { vec_capacity sent.old ≤ vec_capacity sent.new }
+    {
+        let answer = advance(&mut self.mux, &mut self.inlets, most, sent);
+        answer
     }
 
     /// How many slots were sent. What every station keeps is known with it.

@@ -4,9 +4,9 @@ ghost use Rattle.std.specs.Prelude.{◌≡◌, ◌≤◌, ◌==◌, length};
 ghost use Rattle.std.specs.List.{count_by};
 ghost use Rattle.text_causes.specs.Lines.{line_of};
 
+use crate::missing::missing_cause;
 use crate::plan_keys::PlanKeys;
 use std::alloc::{AllocError, Global};
-use toml::Table;
 
 /// How many lines end in these bytes.
 fn lines_ended(bytes: &[u8]) -> usize
@@ -44,13 +44,17 @@ fn key_cause(alloc: Global, text: &str) -> Result<Option<String>, AllocError> {
         Ok(_) => Ok(None),
         Err(error) => {
             let lines = format!(in alloc; "{error}")?;
-            Ok(Some(lines.trim_end().replace(alloc, "\n", " ")?))
+            match missing_cause(alloc, text, error.message(), &lines)? {
+                Some(cause) => Ok(Some(cause)),
+                None => Ok(Some(lines.trim_end().replace(alloc, "\n", " ")?)),
+            }
         }
     }
 }
 
-/// Why a text is no plan: the line at which it is no TOML, or the key that is missing, unknown or of another type. None where it
-/// has all keys of a plan and no others, so that it is no plan for what `transport_descriptors` has.
+/// Why a text is no plan: the line at which it is no TOML; the key that is missing, with the line of the header of its table; or
+/// the key that is unknown or of another type. None where it has all keys of a plan and no others, so that it is no plan for what
+/// `transport_descriptors` has.
 pub fn text_cause(alloc: Global, text: &str) -> Result<Option<String>, AllocError> {
     match syntax_cause(alloc, text)? {
         Some(cause) => Ok(Some(cause)),

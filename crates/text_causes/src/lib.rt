@@ -2,6 +2,8 @@
 #![tactic(auto)]
 
 mod cause;
+mod headers;
+mod missing;
 mod plan_keys;
 
 pub use cause::text_cause;

@@ -1,183 +1,143 @@
--- What goes out of a run, tick by tick.
-use Rattle.std.proofs.Common.{◌≡◌, ℕ, suc, List, [], ◌∷◌, ◌++◌, Bool, true, false, Option, MatchBool, refl, ap, sym, subst, ◌∙◌, inl, inr, if◌then◌else◌}
+-- What goes out of a run, turn by turn.
+use Rattle.std.proofs.Common.{◌≡◌, ℕ, zero, suc, ◌⊎◌, List, [], ◌∷◌, ◌++◌, Bool, true, false, Option, take, drop, length, get_or, ◌<◌, ◌+◌, refl, ap, sym, subst, ◌∙◌, inl, inr, if◌then◌else◌, append_assoc, append-nil}
+use Rattle.std.proofs.lemmas.Grind.{flat_map-append}
+use Rattle.std.proofs.lemmas.List.{take_more, take-append-drop}
+use Rattle.std.specs.Prelude.{Result, Ok, Err, OnOk, OnErr}
+use Rattle.std.specs.Io.KnownBytes.{Appends}
 use Rattle.tspkt.specs.declared.stamped.Stamped.{Stamped}
-use Rattle.plan.specs.Build.{PlanValue}
-use Rattle.mux.specs.declared.event.Event.TheVariants.{Took, Full, Close}
+use Rattle.mux.specs.declared.event.Event.{Event}
+use Rattle.mux.specs.declared.event.Event.TheVariants.{Took, Full, Close, Slot}
 use Rattle.mux.specs.History.{Run, History, with_event, emitted, full_noted}
-use Rattle.mux.specs.Answers.{SlotAnswers, NotesFull}
-use Rattle.mux.specs.declared.sending.Sending.{Sending}
-use Rattle.mux.specs.declared.sending.Sending.TheVariants as sending
-use Rattle.mux.specs.declared.slot.Slot.TheVariants as slot
-use Rattle.serial.specs.Running.{IsOver}
+use Rattle.mux.specs.Answers.{NotesFull}
+use Rattle.serial.specs.Feeding.{IsOfInput}
+use Rattle.serial.specs.Running.{IsOver, WaitsFor, TakesAsNeeded}
 use Rattle.serial.specs.Sending.{bytes_of, HasAnalysed}
 use Rattle.serial.specs.Written.{Sends, SendsBeginning}
 use Rattle.serial.specs.declared.slot_writer.SlotWriter.{SlotWriter}
-use Rattle.serial.proofs.RunningLaws.{written_sent, sent_begun, all_sent, part_sent}
-use Rattle.station.specs.declared.inlet.Inlet.{Inlet}
-use Rattle.station.specs.Stations.{StationValue, rings_of}
-use Rattle.std.specs.Prelude.{Result, Ok, Err, OnOk, OnErr}
-use Rattle.std.specs.Io.KnownBytes.{Appends}
-use Rattle.station.specs.Moving.{with_taken, MovesIn, EndsBy, Ending, Nothing, Mark, HeldBack, IsHeldBack}
-use Rattle.station.specs.Ticking.{MovesAll, Ticks}
+use Rattle.serial.proofs.KnownLaws.{appends_nothing}
+use Rattle.serial.proofs.RunningLaws.{sends_on, needed_of, all_sent, part_sent}
 use Rattle.serial.proofs.OutcomeLaws.{all_begun}
+use Rattle.station.specs.declared.inlet.Inlet.{Inlet}
+use Rattle.station.specs.Stations.{StationValue}
+use Rattle.station.specs.Moving.{TakesNext, EndsTaking, EndsBy, Ending, Nothing, Mark, HeldBack, IsHeldBack}
+use Rattle.station.specs.Advancing.{IsStep, Steps}
 use Rattle.threaded.specs.Driving.{output_of, HasAnalysedAll, IsSameRun, GoesOn, BreaksOff, IsDriven}
 
--- nothing went out between them
-record SameOutput (a b : History) : Type 0 where
-  run : b.run ≡ a.run
-  out : (p : PlanValue) → emitted p b.events ≡ emitted p a.events
+-- What comes of an input comes where the multiplex waits for it.
 
-same : (a b : History) → b ≡ a → SameOutput a b
-same a b e = record { run = ap (λ (h : History). h.run) e; out = λ p. ap (λ (h : History). emitted p h.events) e }
+-- at most one event of the input came
+abbrev IsOneOf : ℕ → History → History → Type 0
+IsOneOf i a b = (b ≡ a) ⊎ ((e : Event) × (b ≡ with_event a e) × IsOfInput i e)
 
-and_then : (a b c : History) → SameOutput a b → SameOutput b c → SameOutput a c
-and_then a b c s t = record { run = t.run ∙ s.run; out = λ p. t.out p ∙ s.out p }
-
-took : (i : ℕ) (items : List Stamped) (h : History) → SameOutput h (with_taken i items h)
-took i [] h = same h h refl
-took i (x ∷ items) h = and_then h (with_event h (Took i x)) (with_taken i items (with_event h (Took i x))) (record { run = refl; out = λ p. refl }) (took i items (with_event h (Took i x)))
-
-closed : (i : ℕ) (a b : History) → b ≡ with_event a (Close i) → SameOutput a b
-closed i a b e = and_then a (with_event a (Close i)) b (record { run = refl; out = λ p. refl }) (same (with_event a (Close i)) b e)
-
-noted : (i : ℕ) (a b : History) (item : Stamped) → NotesFull a i item b → SameOutput a b
+noted : (i : ℕ) (a b : History) (item : Stamped) → NotesFull a i item b → IsOneOf i a b
 noted i a b item is =
     let e = with_event a (Full i is.0) in
-    let P : Bool → Type 0 = λ v. b ≡ (if v then a else e) → SameOutput a b in
-    let both : (v : Bool) → P v = λ v. elim v as P [ true ↦ λ is'. same a b is' | false ↦ λ is'. and_then a e b (record { run = refl; out = λ p. refl }) (same e b is') ] in
+    let P : Bool → Type 0 = λ v. b ≡ (if v then a else e) → IsOneOf i a b in
+    let both : (v : Bool) → P v = λ v. elim v as P [ true ↦ λ is'. inl is' | false ↦ λ is'. inr (Full i is.0, is', refl) ] in
     both (full_noted i a.events) is.3
 
-held_back : (i : ℕ) (a b : History) (item : Stamped) (is_closed : Bool) → IsHeldBack i a item b is_closed → SameOutput a b
-held_back i a b item true is = closed i a b is.1
+held_back : (i : ℕ) (a b : History) (item : Stamped) (is_closed : Bool) → IsHeldBack i a item b is_closed → IsOneOf i a b
+held_back i a b item true is = inr (Close i, is.1, refl)
 held_back i a b item false is = noted i a b item is.1
 
-ends : (i : ℕ) (a : History) (x : Inlet) (b : History) (y : Inlet) (ending : Ending) → EndsBy i a x b y ending → SameOutput a b
-ends i a x b y Nothing is = same a b is.1
-ends i a x b y Mark is = closed i a b is.1
+ends : (i : ℕ) (a : History) (x : Inlet) (b : History) (y : Inlet) (ending : Ending) → EndsBy i a x b y ending → IsOneOf i a b
+ends i a x b y Nothing is = inl is.1
+ends i a x b y Mark is = inr (Close i, is.1, refl)
 ends i a x b y (HeldBack item came) is = held_back i a b item y.is_closed is.1
 
-moves_in : (i most : ℕ) (a : History) (x : Inlet) (b : History) (y : Inlet) (is_closed : Bool) → MatchBool is_closed ((b ≡ a) × (y ≡ x)) (MovesIn i most a x b y) → SameOutput a b
-moves_in i most a x b y true is = same a b is.0
-moves_in i most a x b y false m =
-    let w = with_taken i m.takes.items a in
-    let first = and_then a w m.between (took i m.takes.items a) (same w m.between m.takes.history) in
-    elim m.ends [
-      | inl ending ↦ and_then a m.between b first (ends i m.between m.last b y ending.0 ending.1)
-      | inr most_taken ↦ and_then a m.between b first (same m.between b most_taken.1)
-    ]
+pulled : (i : ℕ) (a : History) (x : Inlet) (b : History) (y : Inlet) → (TakesNext i a x b y ⊎ EndsTaking i a x b y) → IsOneOf i a b
+pulled i a x b y (inl takes) = inr (Took i takes.item, takes.history, refl)
+pulled i a x b y (inr ending) = ends i a x b y ending.0 ending.1
 
-moves_all : (i most : ℕ) (a : History) (xs : List Inlet) (b : History) (ys : List Inlet) → MovesAll i most a xs b ys → SameOutput a b
-moves_all i most a [] b ys is = same a b is.0
-moves_all i most a (x ∷ xs) b ys is = and_then a is.0 b (moves_in i most a x is.0 is.1 x.is_closed is.4) (moves_all (suc i) most is.0 xs b is.2 is.5)
+needed_one : (i : ℕ) (a b : History) → WaitsFor a.run a.events i → IsOneOf i a b → TakesAsNeeded a.run a.events → TakesAsNeeded b.run b.events
+needed_one i a b waits (inl same) is = (let P : History → Type 0 = λ h. TakesAsNeeded h.run h.events in subst P (sym same) is)
+needed_one i a b waits (inr one) is =
+    let P : History → Type 0 = λ h. TakesAsNeeded h.run h.events in
+    subst P (sym one.1) (needed_of a.run i one.0 a.events one.2 waits, is)
 
--- before its slot a tick sends nothing
-before_slot : (old : StationValue) (answer : Sending) (new : StationValue) (t : Ticks old answer new) → SameOutput old.history t.between
-before_slot old answer new t = moves_all 0 old.history.run.plan.request.ring old.history old.inputs t.between new.inputs t.moves
+needed_step : (old new : StationValue) (packets : List (List ℕ)) → IsStep old new packets → TakesAsNeeded old.history.run old.history.events → TakesAsNeeded new.history.run new.history.events
+needed_step old new packets (inl sent) is =
+    let P : History → Type 0 = λ h. TakesAsNeeded h.run h.events in
+    subst P (sym sent.2.slot.1.2.0) (tt, is)
+needed_step old new packets (inr pull) is =
+    let p = pull.2 in
+    needed_one pull.0 old.history new.history (p.running.within, p.unready) (pulled pull.0 old.history p.before new.history p.after p.pulled) is
 
--- how a tick leaves the run
-tick_same : (old new : StationValue) → new.history.run ≡ old.history.run → rings_of new.inputs ≡ rings_of old.inputs → IsSameRun old new
-tick_same old new run rings = record { run = run; rings = rings }
+pub needed_steps : (n : ℕ) (old new : StationValue) (packets : List (List ℕ)) → Steps n old new packets → TakesAsNeeded old.history.run old.history.events → TakesAsNeeded new.history.run new.history.events
+needed_steps zero old new packets steps is = (let P : StationValue → Type 0 = λ s. TakesAsNeeded s.history.run s.history.events in subst P (sym steps.0) is)
+needed_steps (suc n) old new packets steps is = needed_step steps.0 new steps.2 steps.4 (needed_steps n old steps.0 steps.1 steps.3 is)
 
--- the history after a tick that sent nothing
-unsent : (old : StationValue) (answer : Sending) (new : StationValue) (t : Ticks old answer new) → new.history ≡ t.between → SameOutput old.history new.history
-unsent old answer new t e = and_then old.history t.between new.history (before_slot old answer new t) (same t.between new.history e)
+-- Packets go out.
 
-out_same : (a b : History) → SameOutput a b → output_of b ≡ output_of a
-out_same a b s = ap (λ (r : Run). bytes_of (emitted r.plan b.events)) s.run ∙ ap bytes_of (s.out a.run.plan)
+pub bytes_behind : (xs ys : List (List ℕ)) → bytes_of (xs ++ ys) ≡ bytes_of xs ++ bytes_of ys
+bytes_behind xs ys = flat_map-append (λ (q : List ℕ). q) xs ys
 
-analysed_same : (a b : History) (output : SlotWriter) → SameOutput a b → HasAnalysedAll output a → HasAnalysedAll output b
-analysed_same a b output s is =
-    let R : Run → Type 0 = λ r. HasAnalysed output r.plan.request.rate r.plan.request.watch (emitted r.plan b.events) in
-    let P : List (List ℕ) → Type 0 = λ v. HasAnalysed output a.run.plan.request.rate a.run.plan.request.watch v in
-    subst R (sym s.run) (subst P (sym (s.out a.run.plan)) is)
+pub bytes_push : (xs : List (List ℕ)) (packet : List ℕ) → bytes_of (xs ++ packet ∷ []) ≡ bytes_of xs ++ packet
+bytes_push xs packet = bytes_behind xs (packet ∷ []) ∙ ap (λ v. bytes_of xs ++ v) (append-nil packet)
 
-stays : (old new : StationValue) (output : SlotWriter) (before : Option (List ℕ)) → IsSameRun old new → SameOutput old.history new.history → GoesOn old new output output before before
-stays old new output before is s = record {
-  same = is;
-  analysed = analysed_same old.history new.history output s;
-  written = λ first sends. (let P : List ℕ → Type 0 = λ v. Sends first before v output.writer in subst P (sym (out_same old.history new.history s)) sends);
-}
+-- nothing more was given
+pub sends_nothing : (a : Option (List ℕ)) (waiting : List ℕ) → Sends a a (waiting ++ []) waiting
+sends_nothing a waiting = ([], appends_nothing a, append-nil waiting)
 
--- a tick that waits
-pub waits : (i : ℕ) (old new : StationValue) (output : SlotWriter) (before : Option (List ℕ)) → Ticks old (sending.NotReady i) new → rings_of new.inputs ≡ rings_of old.inputs → new.history.run ≡ old.history.run
-    → GoesOn old new output output before before
-waits i old new output before t rings run = stays old new output before (tick_same old new run rings) (unsent old (sending.NotReady i) new t t.sends.0)
+-- what comes behind a beginning waits too
+pub sends_beginning : (a b : Option (List ℕ)) (given more rest : List ℕ) → Sends a b given rest → SendsBeginning a b (given ++ more)
+sends_beginning a b given more rest sends = (rest ++ more, (sends.0, sends.1, ap (λ v. v ++ more) sends.2 ∙ append_assoc sends.0 rest more))
 
--- a tick behind the last slot
-pub ends_done : (old new : StationValue) (output : SlotWriter) (before : Option (List ℕ)) → Ticks old sending.Done new → rings_of new.inputs ≡ rings_of old.inputs → new.history.run ≡ old.history.run
-    → GoesOn old new output output before before
-ends_done old new output before t rings run = stays old new output before (tick_same old new run rings) (unsent old sending.Done new t t.sends.0)
+-- one packet more
+pub bytes_on : (w : List ℕ) (xs : List (List ℕ)) (k : ℕ) (x : List ℕ) → k < length xs → x ≡ get_or xs k x → (w ++ bytes_of (take k xs)) ++ x ≡ w ++ bytes_of (take (k + 1) xs)
+bytes_on w xs k x within is =
+    let more : take (k + 1) xs ≡ take k xs ++ x ∷ [] = take_more xs k x within ∙ ap (λ v. take k xs ++ v ∷ []) (sym is) in
+    append_assoc w (bytes_of (take k xs)) x ∙ ap (λ v. w ++ v) (sym (bytes_push (take k xs) x) ∙ ap bytes_of (sym more))
 
-pub ends_full : (old new : StationValue) (output : SlotWriter) (before : Option (List ℕ)) → Ticks old sending.RunFull new → rings_of new.inputs ≡ rings_of old.inputs → new.history.run ≡ old.history.run
-    → GoesOn old new output output before before
-ends_full old new output before t rings run = stays old new output before (tick_same old new run rings) (unsent old sending.RunFull new t t.sends.0)
+pub slots_on : (slots xs : List (List ℕ)) (k : ℕ) (x : List ℕ) → k < length xs → x ≡ get_or xs k x → (slots ++ take k xs) ++ x ∷ [] ≡ slots ++ take (k + 1) xs
+slots_on slots xs k x within is =
+    append_assoc slots (take k xs) (x ∷ []) ∙ ap (λ v. slots ++ v) (sym (take_more xs k x within ∙ ap (λ v. take k xs ++ v ∷ []) (sym is)))
 
-pub over_done : (old new : StationValue) → Ticks old sending.Done new → IsOver new.history.run new.history.events
-over_done old new t =
-    let P : History → Type 0 = λ h. IsOver h.run h.events in
-    subst P (sym t.sends.0) (inr t.sends.1)
+-- those behind it are all that is left
+pub bytes_whole : (w : List ℕ) (xs : List (List ℕ)) (k : ℕ) → (w ++ bytes_of (take k xs)) ++ bytes_of (drop k xs) ≡ w ++ bytes_of xs
+bytes_whole w xs k =
+    append_assoc w (bytes_of (take k xs)) (bytes_of (drop k xs)) ∙ ap (λ v. w ++ v) (sym (bytes_behind (take k xs) (drop k xs)) ∙ ap bytes_of (take-append-drop k xs))
 
-pub over_full : (old new : StationValue) → Ticks old sending.RunFull new → IsOver new.history.run new.history.events
-over_full old new t =
-    let P : History → Type 0 = λ h. IsOver h.run h.events in
-    subst P (sym t.sends.0) (inl t.sends.2)
-
--- a run that wants memory
-pub breaks : (old new : StationValue) (output : SlotWriter) (before : Option (List ℕ)) → Ticks old sending.Memory new → rings_of new.inputs ≡ rings_of old.inputs → new.history.run ≡ old.history.run
-    → BreaksOff old new output before before
-breaks old new output before t rings run =
-    let go = stays old new output before (tick_same old new run rings) (unsent old sending.Memory new t t.sends.0) in
-    record { same = go.same; begun = λ first sends. (output.writer, go.written first sends) }
-
--- The packet of a slot goes out.
-
-first_sent : (old new : StationValue) (t : Ticks old sending.Sent new) (first before : Option (List ℕ)) (waiting : List ℕ)
-    → Sends first before (output_of old.history) waiting → Sends first before (bytes_of (emitted old.history.run.plan t.between.events)) waiting
-first_sent old new t first before waiting sends =
-    let P : List (List ℕ) → Type 0 = λ v. Sends first before (bytes_of v) waiting in
-    subst P (sym ((before_slot old sending.Sent new t).out old.history.run.plan)) sends
-
-pub goes_sent : (old new : StationValue) (t : Ticks old sending.Sent new) (packet : List ℕ) (a b : SlotWriter) (before after : Option (List ℕ)) → SlotAnswers t.between (slot.Sent packet) new.history
-    → rings_of new.inputs ≡ rings_of old.inputs → new.history.run ≡ old.history.run
-    → ((rate period : ℕ) (slots : List (List ℕ)) → HasAnalysed a rate period slots → HasAnalysed b rate period (slots ++ packet ∷ []))
-    → Sends before after (a.writer ++ packet) b.writer → GoesOn old new a b before after
-goes_sent old new t packet a b before after answer rings run more second =
-    let h = t.between in
-    let s = before_slot old sending.Sent new t in
-    let r = h.run.plan.request in
-    let out = emitted h.run.plan h.events in
-    let P : History → Type 0 = HasAnalysedAll b in
-    let Q : List ℕ → Type 0 = λ q. HasAnalysed b r.rate r.watch (out ++ q ∷ []) in
+-- the packets of some slots went out
+pub goes_all : (old new : StationValue) (packets : List (List ℕ)) (a b : SlotWriter) (before after : Option (List ℕ)) → IsSameRun old new
+    → emitted new.history.run.plan new.history.events ≡ emitted old.history.run.plan old.history.events ++ packets
+    → ((rate period : ℕ) (slots : List (List ℕ)) → HasAnalysed a rate period slots → HasAnalysed b rate period (slots ++ packets))
+    → Sends before after (a.writer ++ bytes_of packets) b.writer → GoesOn old new a b before after
+goes_all old new packets a b before after same out more sends =
+    let r = old.history.run.plan.request in
+    let sent = emitted old.history.run.plan old.history.events in
+    let P : List (List ℕ) → Type 0 = HasAnalysed b r.rate r.watch in
+    let R : Run → Type 0 = λ v. HasAnalysed b v.plan.request.rate v.plan.request.watch (emitted new.history.run.plan new.history.events) in
     record {
-      same = tick_same old new run rings;
-      analysed = λ is. subst P (sym answer.1.2.0) (subst Q answer.1.2.1 (more r.rate r.watch out (analysed_same old.history h a s is)));
-      written = λ first sends.
-          let R : Run → Type 0 = λ v. Sends first after (bytes_of (emitted v.plan new.history.events)) b.writer in
-          subst R (sym run) (written_sent old.history.run.plan h new.history packet first before after a.writer b.writer (ap (λ (v : Run). v.plan) s.run) answer (first_sent old new t first before a.writer sends) second);
+      same = same;
+      analysed = λ is. subst R (sym same.run) (subst P (sym out) (more r.rate r.watch sent is));
+      written = λ first is.
+          (let S : List ℕ → Type 0 = λ v. Sends first after v b.writer in
+          subst S (sym (ap bytes_of out ∙ bytes_behind sent packets)) (sends_on first before after (bytes_of sent) a.writer (bytes_of packets) b.writer is sends));
     }
 
-pub breaks_sent : (old new : StationValue) (t : Ticks old sending.Sent new) (packet : List ℕ) (a : SlotWriter) (before after : Option (List ℕ)) → SlotAnswers t.between (slot.Sent packet) new.history
-    → rings_of new.inputs ≡ rings_of old.inputs → new.history.run ≡ old.history.run → SendsBeginning before after (a.writer ++ packet) → BreaksOff old new a before after
-breaks_sent old new t packet a before after answer rings run second =
-    let h = t.between in
-    let s = before_slot old sending.Sent new t in
+pub breaks_all : (old new : StationValue) (packets : List (List ℕ)) (a : SlotWriter) (before after : Option (List ℕ)) → IsSameRun old new
+    → emitted new.history.run.plan new.history.events ≡ emitted old.history.run.plan old.history.events ++ packets
+    → SendsBeginning before after (a.writer ++ bytes_of packets) → BreaksOff old new a before after
+breaks_all old new packets a before after same out part =
+    let sent = emitted old.history.run.plan old.history.events in
     record {
-      same = tick_same old new run rings;
-      begun = λ first sends.
-          let R : Run → Type 0 = λ v. SendsBeginning first after (bytes_of (emitted v.plan new.history.events)) in
-          subst R (sym run) (sent_begun old.history.run.plan h new.history packet first before after a.writer (ap (λ (v : Run). v.plan) s.run) answer (first_sent old new t first before a.writer sends) second);
+      same = same;
+      begun = λ first is.
+          (let S : List ℕ → Type 0 = SendsBeginning first after in
+          subst S (sym (ap bytes_of out ∙ bytes_behind sent packets)) (part.0, sends_on first before after (bytes_of sent) a.writer (bytes_of packets) part.0 is part.1));
     }
 
--- One tick behind the other.
+-- One turn behind the other.
 
 pub goes_nowhere : (s : StationValue) (a : SlotWriter) (before : Option (List ℕ)) → GoesOn s s a a before before
-goes_nowhere s a before = record { same = record { run = refl; rings = refl }; analysed = λ is. is; written = λ first is. is }
+goes_nowhere s a before = record { same = record { run = refl; rings = refl; needed = λ is. is }; analysed = λ is. is; written = λ first is. is }
 
 pub breaks_nowhere : (s : StationValue) (a : SlotWriter) (before : Option (List ℕ)) → BreaksOff s s a before before
-breaks_nowhere s a before = record { same = record { run = refl; rings = refl }; begun = λ first is. (a.writer, is) }
+breaks_nowhere s a before = record { same = record { run = refl; rings = refl; needed = λ is. is }; begun = λ first is. (a.writer, is) }
 
 same_same : (a b c : StationValue) → IsSameRun a b → IsSameRun b c → IsSameRun a c
-same_same a b c s t = record { run = t.run ∙ s.run; rings = t.rings ∙ s.rings }
+same_same a b c s t = record { run = t.run ∙ s.run; rings = t.rings ∙ s.rings; needed = λ is. t.needed (s.needed is) }
 
 pub goes_goes : (x y z : StationValue) (a b c : SlotWriter) (u v w : Option (List ℕ)) → GoesOn x y a b u v → GoesOn y z b c v w → GoesOn x z a c u w
 goes_goes x y z a b c u v w s t = record {

@@ -20,7 +20,7 @@ use Rattle.worker.specs.declared.worker.Worker.{Worker}
 use Rattle.station.specs.Stations.{StationValue, rings_of}
 use Rattle.station.specs.Opening.{IsOpened, IsFresh}
 use Rattle.station.specs.declared.inlet.Inlet.{Inlet}
-use Rattle.serial.specs.Running.{AreBegun, IsOver}
+use Rattle.serial.specs.Running.{AreBegun, IsOver, TakesAsNeeded}
 use Rattle.serial.proofs.SoundLaws.{sound_nothing}
 use Rattle.serial.proofs.OutcomeLaws.{nothing_sent, finished}
 use Rattle.serial.proofs.FaultBounds.{few_faults}
@@ -164,6 +164,7 @@ pub begun_nothing : (run : Run) (starts : List (Option (List ℕ))) (before : Op
 begun_nothing run starts before plan few = record {
   sound = sound_nothing run.plan run.limit plan few;
   begun = λ i input all at start. (takeable run.plan (origin_of i input) (framed 188 all), refl);
+  needed = tt;
   written = ([], nothing_sent run.plan [] before [] refl refl);
 }
 
@@ -171,6 +172,14 @@ begun_nothing run starts before plan few = record {
 
 run_is : (p : PlanValue) (slots : ℕ) (opened station : StationValue) (ports : List PortValue) → IsOpened p slots opened ports → IsSameRun opened station → station.history.run ≡ record { plan = p; limit = slots }
 run_is p slots opened station ports is same = same.run ∙ ap (λ (h : History). h.run) is.history
+
+-- nothing was taken when it was opened
+needed_run : (p : PlanValue) (slots : ℕ) (opened station : StationValue) (ports : List PortValue) → IsOpened p slots opened ports → IsSameRun opened station
+    → TakesAsNeeded (record { plan = p; limit = slots }) station.history.events
+needed_run p slots opened station ports is same =
+    let P : History → Type 0 = λ h. TakesAsNeeded h.run h.events in
+    let R : Run → Type 0 = λ r. TakesAsNeeded r station.history.events in
+    subst R (run_is p slots opened station ports is same) (same.needed (subst P (sym is.history) tt))
 
 -- nothing was sent when it was opened
 nothing_yet : (p : PlanValue) (slots : ℕ) (opened : StationValue) (ports : List PortValue) (output : SlotWriter) (first : Option (List ℕ)) → IsOpened p slots opened ports → output.writer ≡ []
@@ -230,6 +239,7 @@ has_begun p slots opened station ports output starts before after is waiting bro
     record {
       sound = subst S same sound;
       begun = taken;
+      needed = needed_run p slots opened station ports is broken.same;
       written = subst W same (broken.begun before (nothing_yet p slots opened ports output before is waiting));
     }
 
@@ -265,6 +275,7 @@ has_run p slots limit opened station ports a b starts lefts before after s few i
       finished = finished run h within (subst O same driven.over);
       written = subst W same (driven.written before (nothing_yet p slots opened ports a before is waiting));
       begun = taken;
+      needed = needed_run p slots opened station ports is driven.same;
       faithful = told_inputs.faithful;
       summary = record {
         length_is = count;

@@ -1,8 +1,8 @@
--- How a run goes on, tick by tick (profile).
+-- How a run goes on (profile).
 use Rattle.std.specs.Prelude.{◌≡◌, ℕ, List, Option}
 use Rattle.std.specs.Io.KnownBytes.{Appends}
 use Rattle.mux.specs.History.{History, emitted}
-use Rattle.serial.specs.Running.{IsOver}
+use Rattle.serial.specs.Running.{IsOver, TakesAsNeeded}
 use Rattle.serial.specs.Written.{Sends, SendsBeginning}
 use Rattle.serial.specs.Sending.{bytes_of, HasAnalysed}
 use Rattle.serial.specs.declared.slot_writer.SlotWriter.{SlotWriter}
@@ -16,10 +16,11 @@ output_of h = bytes_of (emitted h.run.plan h.events)
 abbrev pub HasAnalysedAll : SlotWriter → History → Type 0
 HasAnalysedAll output h = HasAnalysed output h.run.plan.request.rate h.run.plan.request.watch (emitted h.run.plan h.events)
 
--- it is the same run, and the inputs come through the same rings
+-- It is the same run, the inputs come through the same rings, and nothing was taken but where the multiplex waited for it.
 pub record IsSameRun (old new : StationValue) : Type 0 where
   pub run : new.history.run ≡ old.history.run
   pub rings : rings_of new.inputs ≡ rings_of old.inputs
+  pub needed : TakesAsNeeded old.history.run old.history.events → TakesAsNeeded new.history.run new.history.events
 
 -- The run went on: what it sent was analysed, and the sink got of it all but what waits in the buffer.
 pub record GoesOn (old new : StationValue) (a b : SlotWriter) (before after : Option (List ℕ)) : Type 0 where

@@ -17,7 +17,7 @@ use Rattle.reading.specs.Takeable.{takeable, origin_of, CountsItems}
 use Rattle.reading.specs.declared.stop.Stop.TheVariants.{Gate, Memory, TooMuch}
 use Rattle.serial.specs.Feeding.{AreKnown}
 use Rattle.serial.specs.Giving.{TakesWhatIsGiven}
-use Rattle.serial.specs.Running.{AreBegun}
+use Rattle.serial.specs.Running.{AreBegun, TakesAsNeeded}
 use Rattle.serial.specs.Outcome.{HasEnded, AreReadOn, stops_of}
 use Rattle.serial.specs.Ending.{ArePeaks}
 use Rattle.serial.specs.Written.{SendsBeginning}
@@ -77,6 +77,8 @@ pub record HasRun (h : History) (limit : ℕ) (starts lefts : List (Option (List
   pub written : Appends before after (bytes_of (emitted h.run.plan h.events))
   -- what was taken of each input begins what can be taken of its bytes
   pub begun : AreBegun h.run.plan h.events starts
+  -- nothing was taken but where the multiplex waited for it
+  pub needed : TakesAsNeeded h.run h.events
   -- it takes what the inputs give, each input's packets in their order
   pub faithful : AreKnown starts → TakesWhatIsGiven h.run.plan starts lefts (stops_of s.inputs.items) h.events
   pub summary : IsSummary limit h.run.plan h.events starts s
@@ -87,6 +89,7 @@ pub record HasRun (h : History) (limit : ℕ) (starts lefts : List (Option (List
 pub record HasBegun (h : History) (starts : List (Option (List ℕ))) (before after : Option (List ℕ)) : Type 0 where
   pub sound : IsSound h
   pub begun : AreBegun h.run.plan h.events starts
+  pub needed : TakesAsNeeded h.run h.events
   pub written : SendsBeginning before after (bytes_of (emitted h.run.plan h.events))
 
 -- An opened run went on to its end: its inputs had their workers, what it sent went out, and this is told of it.

@@ -1,9 +1,9 @@
-//! What a tick of a run did.
+//! What a turn of a run did.
 
-/// What a tick of a run did.
+/// What a turn of a run did.
 pub(crate) enum Turn {
-    /// A slot was sent.
-    Sent,
+    /// The station went on.
+    Goes,
     /// An input isn't ready.
     Waits,
     /// Nothing is left to send, or the run has all its slots.

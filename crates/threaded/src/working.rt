@@ -120,5 +120,5 @@ fn work<
     ensures failed { result ≡ Err RunFault.Write → FailsOnce (W.failures sink.old) (W.failures sink.new) }
 {
     start_all(alloc, rt, plan, limit, is_over, seats, handles)?;
-    drive(&rt, station, output, sink)
+    drive(alloc, &rt, station, output, sink)
 }

@@ -17,6 +17,8 @@ pub enum Command<'a> {
         serial: bool,
         /// Whether the largest delay and queue of each stream are told.
         delays: bool,
+        /// Whether a run whose plan turns out to be overfull ends with status 1.
+        strict: bool,
     },
     /// Make the plan, and show it.
     Check {

@@ -44,6 +44,7 @@ fn command_of<'a>(name: &str, matches: &ArgMatches<'a>) -> Option<Command<'a>>
             length: length_of(matches)?,
             serial: matches.get_flag("serial"),
             delays: matches.get_flag("delays"),
+            strict: matches.get_flag("strict"),
         }),
         "check" => Some(Command::Check {
             plan: matches.get_str("plan")?,

@@ -12,20 +12,26 @@ const EXAMPLE: &str = "Example, from the top of the repository:
   ./remux run --plan examples/plan.toml --out out.ts
   ./remux analyse --rate 3000000 --period 5000 out.ts
 
-Status: 0 success, 1 analyse reported a fault, 2 refused words, 3 refused plan, 4 a file that failed, 5 out of memory.";
+Status: 0 success, 1 analyse reported a fault or run --strict an overfull plan, 2 refused words, 3 refused plan, 4 a file that failed, 5 out of memory.";
 
 const RUN_USAGE: &str =
-    "remux run --plan <F> --out <F> [--slots <N> | --all] [--serial] [--delays]";
+    "remux run --plan <F> --out <F> [--slots <N> | --all] [--serial] [--delays] [--strict]";
 
 const RUN_EXAMPLE: &str =
     "It prints a line for each input and one for the output, on standard error where the multiplex goes to standard output.
 The output is written as its name with .part, and gets its name when the run has ended well.
+
+Each input is read in a thread of its own. With --serial one thread reads them all in turn: it writes the same output, and \
+reads of each input no more than its slots ask for, where a run in threads reads ahead.
 
 With --all the run goes on until its inputs end, whatever its length; it takes no more memory than a short one.
 
 With --delays it prints a line for each stream too, on standard error: the largest delay of its packets \
 in ticks of 27 MHz, and the most packets that waited in its queue. Where the delay grows with the length of the run \
 the plan is overfull; where the queue came to the plan's 'queue' it may be.
+
+A stream whose packets waited more than a second is told on standard error, \
+and one whose queue came to the plan's 'queue' too. With --strict the status of such a run is 1; its output is the same.
 
 Example:
   ./remux run --plan examples/plan.toml --out out.ts --slots 50000";
@@ -34,7 +40,8 @@ const CHECK_USAGE: &str = "remux check --plan <F>";
 
 const CHECK_EXAMPLE: &str =
     "It reads the plan and the tables of its inputs, and prints the rhythm of the tables, \
-the services and the streams.
+the services and the streams. On standard error it prints how often the tables come, \
+which 'period' the plan may have, and how long 1000000 slots take.
 
 Example:
   ./remux check --plan examples/plan.toml";
@@ -130,11 +137,16 @@ fn run_command<'a>(alloc: Global) -> Result<Command<'a>, AllocError> {
         .arg(out(alloc))?
         .arg(slots(alloc))?
         .arg(all(alloc)?)?
-        .arg(flag(alloc, "serial", "Use one thread alone"))?
+        .arg(flag(alloc, "serial", "Read all inputs in one thread"))?
         .arg(flag(
             alloc,
             "delays",
             "Print on standard error how long streams waited",
+        ))?
+        .arg(flag(
+            alloc,
+            "strict",
+            "End with status 1 where the plan is overfull",
         ))
 }
 

@@ -1,5 +1,6 @@
 //! Readers and writers over memory, which fail where a test wants it.
 
+use std::alloc::{AllocError, Global};
 use std::io;
 use std::io::{ErrorKind, Read, Write};
 
@@ -21,6 +22,16 @@ impl TestReader {
             fails: false,
             at: 0,
         }
+    }
+
+    /// An equal one.
+    pub fn copy(&self, alloc: Global) -> Result<TestReader, AllocError> {
+        Ok(TestReader {
+            bytes: self.bytes.to_vec(alloc)?,
+            step: self.step,
+            fails: self.fails,
+            at: self.at,
+        })
     }
 }
 

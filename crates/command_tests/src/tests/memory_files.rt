@@ -7,6 +7,10 @@ use input_files::{FileIdentity, FileReader, Sources};
 use messages::FileCause;
 use std::alloc::{AllocError, Global};
 use std::io::ErrorKind;
+use std::process::Abort;
+use std::sync::Wait;
+use std::thread::Threads;
+use std::time::Clock;
 use std::{io, str};
 
 /// A file, with a reader for each time that it can be opened, the last one first.
@@ -15,6 +19,21 @@ pub struct TestFile {
     pub name: &'static str,
     pub readers: Vec<TestReader>,
     pub length: u64,
+}
+
+impl TestFile {
+    /// An equal one.
+    fn copy(&self, alloc: Global) -> Result<TestFile, AllocError> {
+        let mut readers = Vec::new(alloc);
+        for reader in &self.readers {
+            readers.push(reader.copy(alloc)?)?;
+        }
+        Ok(TestFile {
+            name: self.name,
+            readers,
+            length: self.length,
+        })
+    }
 }
 
 /// Files by their names, and the output; none where it can't be made. A name and the same behind `./` are one file.
@@ -36,6 +55,22 @@ impl MemoryFiles {
             output: Some(TestWriter::new(Vec::with_capacity(alloc, 4_096)?)),
             is_partial: false,
         })
+    }
+
+    /// Equal files, of which none is written yet.
+    fn copy(&self) -> Result<MemoryFiles, AllocError> {
+        let mut copy = MemoryFiles::new(self.alloc)?;
+        for file in &self.files {
+            copy.files.push(file.copy(self.alloc)?)?;
+        }
+        match (&self.output, &mut copy.output) {
+            (Some(output), Some(equal)) => {
+                equal.step = output.step;
+                equal.room = output.room;
+            }
+            _ => copy.output = None,
+        }
+        Ok(copy)
     }
 
     /// Adds a file of these bytes that can be opened twice.
@@ -167,10 +202,15 @@ fn text(bytes: &[u8]) -> &str {
 }
 
 /// Does a command.
-pub fn does(alloc: Global, words: &[&str], files: &mut MemoryFiles) -> Result<Done, AllocError> {
+pub fn does_once<T: Threads + Wait + Clock + Copy + Send + Drop + 'static>(
+    rt: T,
+    words: &[&str],
+    files: &mut MemoryFiles,
+) -> Result<Done, AllocError> {
+    let alloc = files.alloc;
     let mut out = Vec::with_capacity(alloc, 4_096)?;
     let mut err = Vec::with_capacity(alloc, 4_096)?;
-    let (status, writer) = command(alloc, words, files, &mut out, &mut err);
+    let (status, writer) = command(rt, alloc, words, files, &mut out, &mut err);
     let written = writer.map(|sink| sink.into_inner().bytes);
     Ok(Done {
         status,
@@ -178,4 +218,37 @@ pub fn does(alloc: Global, words: &[&str], files: &mut MemoryFiles) -> Result<Do
         err,
         written,
     })
+}
+
+/// Does a command. A run is done in threads too, over equal files, and has to do there what it does in one thread.
+pub fn does<T: Abort + Threads + Wait + Clock + Copy + Send + Drop + 'static>(
+    rt: T,
+    words: &[&str],
+    files: &mut MemoryFiles,
+) -> Result<Done, AllocError> {
+    if words.first() != Some(&"run") || words.contains(&"--serial") {
+        return does_once(rt, words, files);
+    }
+    let in_threads = does_once(rt, words, &mut files.copy()?)?;
+    let mut words = words.to_vec(files.alloc)?;
+    words.push("--serial")?;
+    let serial = does_once(rt, &words, files)?;
+    agree(&rt, &in_threads, &serial);
+    Ok(serial)
+}
+
+/// A run in threads did what the run in one thread did. Where it had all its slots before its inputs' ends, how far these were
+/// read isn't compared.
+fn agree(rt: &impl Abort, in_threads: &Done, serial: &Done) {
+    assert_eq!(rt; in_threads.status, serial.status);
+    assert!(rt; in_threads.written == serial.written, "another output");
+    let (out, err) = in_threads.texts();
+    let (serial_out, serial_err) = serial.texts();
+    if let Some((told, _)) = serial_err.split_once(" was read to ") {
+        assert!(rt; err.starts_with(told), "another end");
+        assert_eq!(rt; out.lines().last(), serial_out.lines().last());
+    } else {
+        assert_eq!(rt; out, serial_out);
+        assert_eq!(rt; err, serial_err);
+    }
 }

@@ -1,7 +1,7 @@
 //! Whole commands: what they print, what they write, and how they end.
 
 use crate::tests::devices::TestReader;
-use crate::tests::memory_files::{Done, MemoryFiles, does};
+use crate::tests::memory_files::{Done, MemoryFiles, does, does_once};
 use crate::tests::runs::marks_of;
 use anyhow::Result;
 use example::{eight_packets, service};
@@ -9,7 +9,10 @@ use messages::{CommandFault, FileCause};
 use request::PlanFault;
 use std::alloc::{AllocError, Global};
 use std::process::Abort;
+use std::sync::Wait;
 use std::test::Fail;
+use std::thread::Threads;
+use std::time::Clock;
 
 const RUN: [&str; 5] = ["run", "--plan", "x.toml", "--out", "out.ts"];
 
@@ -53,25 +56,29 @@ slots 9 tables 3 elementary 5 null 1 faults 0
 ";
 
 /// The run of the example ends well, and prints its lines.
-fn prints_its_lines(rt: &impl Abort, alloc: Global, words: &[&str]) -> Result<(), AllocError> {
-    let done = does(alloc, words, &mut files(alloc)?)?;
-    ends(rt, &done, 0, LINES, ENDED);
+fn prints_its_lines<T: Abort + Threads + Wait + Clock + Copy + Send + Drop + 'static>(
+    rt: T,
+    alloc: Global,
+    words: &[&str],
+) -> Result<(), AllocError> {
+    let done = does(rt, words, &mut files(alloc)?)?;
+    ends(&rt, &done, 0, LINES, ENDED);
     assert_eq!(rt; done.written_len(), Some(1_692));
     Ok(())
 }
 
 #[test]
 fn a_run_prints_its_lines(rt: HostRuntime) -> Result<(), Fail> {
-    prints_its_lines(&rt, rt.alloc(), &RUN)?;
-    prints_its_lines(&rt, rt.alloc(), &RUN_SERIAL)?;
-    prints_its_lines(&rt, rt.alloc(), &RUN_ALL)?;
+    prints_its_lines(rt, rt.alloc(), &RUN)?;
+    prints_its_lines(rt, rt.alloc(), &RUN_SERIAL)?;
+    prints_its_lines(rt, rt.alloc(), &RUN_ALL)?;
     Ok(())
 }
 
 #[test]
 fn a_run_has_the_slots_that_are_asked_for(rt: HostRuntime) -> Result<(), Fail> {
     let alloc = rt.alloc();
-    let done = does(alloc, &RUN_THREE_SLOTS, &mut files(alloc)?)?;
+    let done = does(rt, &RUN_THREE_SLOTS, &mut files(alloc)?)?;
     let lines =
         "input 0 framed 4 malformed 0 unmapped 3 bad 0 losses 0 lost 0 taken 1 sent 0 queued 1
 slots 3 tables 2 elementary 0 null 1 faults 0
@@ -84,23 +91,43 @@ slots 3 tables 2 elementary 0 null 1 faults 0
         "end: the slot limit: input 0 was read to 50 %\n",
     );
     assert_eq!(rt; done.written_len(), Some(564));
+    let mut most = RUN_THREE_SLOTS;
+    most[6] = "8";
+    let done = does(rt, &most, &mut files(alloc)?)?;
+    let lines =
+        "input 0 framed 8 malformed 0 unmapped 3 bad 0 losses 0 lost 0 taken 5 sent 4 queued 1
+slots 8 tables 3 elementary 4 null 1 faults 0
+";
+    let told = "end: the slot limit: all inputs were read to their ends\n";
+    ends(&rt, &done, 0, lines, told);
+    assert_eq!(rt; done.written_len(), Some(1_504));
     Ok(())
 }
 
+/// A slot of the example's rate takes a millisecond; a round has two packets of PAT and PMT and one of SDT or NIT, 2 slots apart.
 #[test]
 fn a_plan_is_shown(rt: HostRuntime) -> Result<(), Fail> {
-    let done = does(rt.alloc(), &CHECK, &mut files(rt.alloc())?)?;
+    let done = does(rt, &CHECK, &mut files(rt.alloc())?)?;
     let lines = "rate 1504000 gap 2 period 100 fast 2 slow 2
 service 500 pmt 0x0100
 stream 0x0200 input 0 pid 0x0101 leak 2000000
 ";
-    ends(&rt, &done, 0, lines, "");
+    let told = "tables: PAT and PMTs every 100 ms, SDT and NIT every 200 ms
+period: may be 6 to 500 slots
+run: 1000000 slots take 1000 s
+";
+    ends(&rt, &done, 0, lines, told);
     assert_eq!(rt; done.written_len(), None);
     Ok(())
 }
 
 /// Analyses the example's PAT and so many null packets, and some bytes behind them.
-fn analyses(alloc: Global, nulls: u32, rest: &[u8]) -> Result<Done> {
+fn analyses<T: Abort + Threads + Wait + Clock + Copy + Send + Drop + 'static>(
+    rt: T,
+    alloc: Global,
+    nulls: u32,
+    rest: &[u8],
+) -> Result<Done> {
     let mut bytes = Vec::new(alloc);
     if let Some(pat) = example::first_slots(alloc)?.first() {
         bytes.extend_from_slice(pat.bytes())?;
@@ -111,17 +138,23 @@ fn analyses(alloc: Global, nulls: u32, rest: &[u8]) -> Result<Done> {
     bytes.extend_from_slice(rest)?;
     let mut files = MemoryFiles::new(alloc)?;
     files.add("x.ts", &bytes)?;
-    Ok(does(alloc, &ANALYSE, &mut files)?)
+    Ok(does(rt, &ANALYSE, &mut files)?)
 }
 
 #[test]
 fn faults_are_told(rt: HostRuntime) -> Result<(), Fail> {
     let told = "slot 501 1.3.a 0x0000\nslot 501 1.5.a 0x0100\nslots 502 faults 2 rest 0\n";
-    ends(&rt, &analyses(rt.alloc(), 501, &[])?, 1, told, "");
+    ends(&rt, &analyses(rt, rt.alloc(), 501, &[])?, 1, told, "");
     let none = "slots 501 faults 0 rest 7\n";
-    ends(&rt, &analyses(rt.alloc(), 500, &[0x47; 7])?, 0, none, "");
+    ends(
+        &rt,
+        &analyses(rt, rt.alloc(), 500, &[0x47; 7])?,
+        0,
+        none,
+        "",
+    );
     let bad = "slot 1 1.2 -\nslots 2 faults 1 rest 187\n";
-    ends(&rt, &analyses(rt.alloc(), 0, &[0xAA; 375])?, 1, bad, "");
+    ends(&rt, &analyses(rt, rt.alloc(), 0, &[0xAA; 375])?, 1, bad, "");
     Ok(())
 }
 
@@ -148,7 +181,7 @@ fn words_are_judged_first(rt: HostRuntime) -> Result<(), Fail> {
         &["analyse", "--rate", "500000", "--period", "1"],
     ];
     for words in refused {
-        let done = does(alloc, words, &mut MemoryFiles::new(alloc)?)?;
+        let done = does(rt, words, &mut MemoryFiles::new(alloc)?)?;
         assert_eq!(rt; done.status, 2);
         assert_eq!(rt; done.texts().0, "");
         assert!(rt; done.texts().1.contains("--help"), "no advice");
@@ -166,11 +199,11 @@ fn help_is_given(rt: HostRuntime) -> Result<(), Fail> {
         &["help", "analyse"],
     ];
     for words in asked {
-        let done = does(alloc, words, &mut MemoryFiles::new(alloc)?)?;
+        let done = does(rt, words, &mut MemoryFiles::new(alloc)?)?;
         assert_eq!(rt; done.status, 0);
         assert!(rt; done.texts().0.contains("Example"), "no example");
     }
-    let done = does(alloc, &["--version"], &mut MemoryFiles::new(alloc)?)?;
+    let done = does(rt, &["--version"], &mut MemoryFiles::new(alloc)?)?;
     ends(&rt, &done, 0, "remux 0.1.0\n", "");
     Ok(())
 }
@@ -178,7 +211,7 @@ fn help_is_given(rt: HostRuntime) -> Result<(), Fail> {
 #[test]
 fn without_words_the_stored_run_is_made(rt: HostRuntime) -> Result<(), Fail> {
     let none: [&str; 0] = [];
-    let done = does(rt.alloc(), &none, &mut MemoryFiles::new(rt.alloc())?)?;
+    let done = does(rt, &none, &mut MemoryFiles::new(rt.alloc())?)?;
     assert_eq!(rt; done.status, 0);
     assert_eq!(rt; done.out.len(), 2 * 377);
     Ok(())
@@ -266,15 +299,15 @@ fn is_refused(rt: &impl Abort, done: &Done, fault: &str) {
 }
 
 /// What a plan's text is refused for, over these files besides.
-fn refuses(
-    rt: &impl Abort,
+fn refuses<T: Abort + Threads + Wait + Clock + Copy + Send + Drop + 'static>(
+    rt: T,
     text: &[u8],
     mut files: MemoryFiles,
     fault: &str,
 ) -> Result<(), AllocError> {
     files.add("p.toml", text)?;
     let words = ["check", "--plan", "p.toml"];
-    is_refused(rt, &does(files.alloc, &words, &mut files)?, fault);
+    is_refused(&rt, &does(rt, &words, &mut files)?, fault);
     Ok(())
 }
 
@@ -288,7 +321,7 @@ fn a_plan_is_refused_by_the_number_of_its_fault(rt: HostRuntime) -> Result<(), F
         ([0xFF, 0x0A].as_slice(), "fault 1 BadText\n"),
         (low.as_bytes(), "fault 2 OutOfRange\n"),
     ] {
-        refuses(&rt, text, MemoryFiles::new(alloc)?, fault)?;
+        refuses(rt, text, MemoryFiles::new(alloc)?, fault)?;
     }
     for (old, new, fault) in [
         ("program = 100", "program = 101", "fault 5 NoProgram\n"),
@@ -297,7 +330,7 @@ fn a_plan_is_refused_by_the_number_of_its_fault(rt: HostRuntime) -> Result<(), F
         ("period = 100", "period = 501", "fault 12 PeriodTooLong\n"),
     ] {
         let text = example::PLAN.replacen(alloc, old, new, 1)?;
-        refuses(&rt, text.as_bytes(), files(alloc)?, fault)?;
+        refuses(rt, text.as_bytes(), files(alloc)?, fault)?;
     }
     Ok(())
 }
@@ -354,7 +387,7 @@ fn a_refused_plan_is_told_where_it_is_at_fault(rt: HostRuntime) -> Result<(), Fa
         let text = example::PLAN.replacen(alloc, old, new, 1)?;
         let mut files = files(alloc)?;
         files.add("p.toml", text.as_bytes())?;
-        let done = does(alloc, &["check", "--plan", "p.toml"], &mut files)?;
+        let done = does(rt, &["check", "--plan", "p.toml"], &mut files)?;
         ends(&rt, &done, 3, "", told);
     }
     Ok(())
@@ -368,7 +401,7 @@ fn a_plan_that_uses_a_number_twice_is_refused(rt: HostRuntime) -> Result<(), Fai
     for (number, fault) in [(0, "fault 3 ServiceTaken\n"), (1, "fault 4 PidTaken\n")] {
         let second = service(alloc, number, 0, 200, 257)?;
         let text = format!(in alloc; "{}{second}", example::PLAN)?;
-        refuses(&rt, text.as_bytes(), MemoryFiles::new(alloc)?, fault)?;
+        refuses(rt, text.as_bytes(), MemoryFiles::new(alloc)?, fault)?;
     }
     Ok(())
 }
@@ -390,14 +423,14 @@ pub fn with_readers(alloc: Global, fail: &[bool]) -> Result<MemoryFiles, AllocEr
 }
 
 /// A command ends with status 4 and this line, and prints nothing.
-fn fails(
-    rt: &impl Abort,
+fn fails<T: Abort + Threads + Wait + Clock + Copy + Send + Drop + 'static>(
+    rt: T,
     words: &[&str],
     mut files: MemoryFiles,
     fault: &str,
 ) -> Result<(), AllocError> {
-    let done = does(files.alloc, words, &mut files)?;
-    ends(rt, &done, 4, "", fault);
+    let done = does(rt, words, &mut files)?;
+    ends(&rt, &done, 4, "", fault);
     assert_eq!(rt; done.written_len(), None);
     Ok(())
 }
@@ -413,23 +446,23 @@ const INPUT_UNREAD: &str = "fault file x.ts\nx.ts: it can't be read: other error
 #[test]
 fn files_that_fail_are_named(rt: HostRuntime) -> Result<(), Fail> {
     let alloc = rt.alloc();
-    fails(&rt, &CHECK, MemoryFiles::new(alloc)?, NO_PLAN)?;
+    fails(rt, &CHECK, MemoryFiles::new(alloc)?, NO_PLAN)?;
     let mut unread = files(alloc)?;
     for file in unread.files.iter_mut() {
         for reader in file.readers.iter_mut() {
             reader.fails = true;
         }
     }
-    fails(&rt, &CHECK, unread, PLAN_UNREAD)?;
-    fails(&rt, &CHECK, with_readers(alloc, &[])?, INPUT_UNOPENED)?;
+    fails(rt, &CHECK, unread, PLAN_UNREAD)?;
+    fails(rt, &CHECK, with_readers(alloc, &[])?, INPUT_UNOPENED)?;
     let mut full = files(alloc)?;
     full.output = None;
     let unmade = "fault file out.ts\nout.ts: it can't be opened: other error\n";
-    fails(&rt, &RUN, full, unmade)?;
+    fails(rt, &RUN, full, unmade)?;
     let words = ["analyse", "--rate", "1504000", "--period", "1", "y.ts"];
     let unknown = "fault file y.ts\ny.ts: it can't be opened: entity not found\n";
-    fails(&rt, &words, files(alloc)?, unknown)?;
-    fails(&rt, &ANALYSE, with_readers(alloc, &[true])?, INPUT_UNREAD)?;
+    fails(rt, &words, files(alloc)?, unknown)?;
+    fails(rt, &ANALYSE, with_readers(alloc, &[true])?, INPUT_UNREAD)?;
     Ok(())
 }
 
@@ -438,7 +471,7 @@ fn files_that_fail_are_named(rt: HostRuntime) -> Result<(), Fail> {
 fn an_input_is_opened_twice(rt: HostRuntime) -> Result<(), Fail> {
     let mut once = with_readers(rt.alloc(), &[false])?;
     once.output = None;
-    fails(&rt, &RUN, once, INPUT_UNOPENED)?;
+    fails(rt, &RUN, once, INPUT_UNOPENED)?;
     Ok(())
 }
 
@@ -456,17 +489,17 @@ fn the_output_is_none_of_the_files_that_are_read(rt: HostRuntime) -> Result<(), 
         let refused = format!(in alloc;
             "fault file {name}\n{name}: it is the plan's file or an input; the output has to be another file\n"
         )?;
-        fails(&rt, &run_to(name), files(alloc)?, refused.as_str())?;
+        fails(rt, &run_to(name), files(alloc)?, refused.as_str())?;
     }
     let once = with_readers(alloc, &[false])?;
-    fails(&rt, &run_to("x.toml"), once, INPUT_UNOPENED)?;
+    fails(rt, &run_to("x.toml"), once, INPUT_UNOPENED)?;
     Ok(())
 }
 
 /// The multiplex goes to standard output, and the lines of the run to standard error.
 #[test]
 fn standard_output_has_the_multiplex_alone(rt: HostRuntime) -> Result<(), Fail> {
-    let done = does(rt.alloc(), &run_to("-"), &mut files(rt.alloc())?)?;
+    let done = does(rt, &run_to("-"), &mut files(rt.alloc())?)?;
     let told = format!(in rt.alloc(); "{LINES}{ENDED}")?;
     ends(&rt, &done, 0, "", told.as_str());
     assert_eq!(rt; done.written_len(), Some(1_692));
@@ -481,14 +514,18 @@ fn a_plan_of_more_than_a_mebibyte_is_refused(rt: HostRuntime) -> Result<(), Fail
     let blanks = vec![in alloc; b' '; 1_048_577]?;
     let mut longest = MemoryFiles::new(alloc)?;
     longest.add("p.toml", blanks.get(1..).unwrap_or(&[]))?;
-    let read = does(alloc, &words, &mut longest)?;
+    let read = does(rt, &words, &mut longest)?;
     is_refused(&rt, &read, "fault 1 BadText\n");
     let mut longer = MemoryFiles::new(alloc)?;
     longer.add("p.toml", &blanks)?;
     let refused = "fault file p.toml\np.toml: it has more than 1048576 bytes\n";
-    fails(&rt, &words, longer, refused)?;
+    fails(rt, &words, longer, refused)?;
     Ok(())
 }
+
+/// What a run says whose input failed.
+const FAILED: &str =
+    "fault file x.ts\nx.ts: it can't be read: other error\nend: input 0 failed\npart: the output so far\n";
 
 /// An input that fails while its tables are sought ends the command; one that fails in the run is told behind the lines. The
 /// tables stand before the end of the first reader, which then fails no more. The output of such a run doesn't get its name.
@@ -496,10 +533,8 @@ fn a_plan_of_more_than_a_mebibyte_is_refused(rt: HostRuntime) -> Result<(), Fail
 fn an_input_that_fails_in_the_run_is_told_at_its_end(rt: HostRuntime) -> Result<(), Fail> {
     let alloc = rt.alloc();
     let mut both = with_readers(alloc, &[true, true])?;
-    let done = does(alloc, &RUN, &mut both)?;
-    let told =
-        "fault file x.ts\nx.ts: it can't be read: other error\nend: input 0 failed\npart: the output so far\n";
-    ends(&rt, &done, 4, LINES, told);
+    let done = does(rt, &RUN, &mut both)?;
+    ends(&rt, &done, 4, LINES, FAILED);
     assert_eq!(rt; done.written_len(), Some(1_692));
     let mut early = with_readers(alloc, &[true, true])?;
     if let Some(reader) = early
@@ -509,7 +544,52 @@ fn an_input_that_fails_in_the_run_is_told_at_its_end(rt: HostRuntime) -> Result<
     {
         reader.bytes.truncate(564);
     }
-    fails(&rt, &RUN, early, INPUT_UNREAD)?;
+    fails(rt, &RUN, early, INPUT_UNREAD)?;
+    Ok(())
+}
+
+/// What the run reads of its input, which may fail behind that, and what it prints: nothing, a failure at once, and one behind
+/// six packets and 50 bytes.
+const READ_IN_THE_RUN: [(usize, bool, &str); 3] = [
+    (
+        0,
+        false,
+        "input 0 framed 0 malformed 0 unmapped 0 bad 0 losses 0 lost 0 taken 0 sent 0 queued 0
+slots 0 tables 0 elementary 0 null 0 faults 0
+",
+    ),
+    (
+        0,
+        true,
+        "input 0 framed 0 malformed 0 unmapped 0 bad 0 losses 0 lost 0 taken 0 sent 0 queued 0
+slots 0 tables 0 elementary 0 null 0 faults 0
+",
+    ),
+    (
+        1_178,
+        true,
+        "input 0 framed 6 malformed 0 unmapped 3 bad 0 losses 0 lost 0 taken 3 sent 3 queued 0
+slots 7 tables 3 elementary 3 null 1 faults 0
+",
+    ),
+];
+
+/// The tables were found in the whole input before.
+#[test]
+fn an_input_may_give_less_in_the_run(rt: HostRuntime) -> Result<(), Fail> {
+    let alloc = rt.alloc();
+    for (cut, fails, lines) in READ_IN_THE_RUN {
+        let mut files = with_readers(alloc, &[false, fails])?;
+        let file = files.files.get_mut(1).ok_or("no input")?;
+        let reader = file.readers.first_mut().ok_or("no reader")?;
+        reader.bytes.truncate(cut);
+        let done = does(rt, &RUN, &mut files)?;
+        if fails {
+            ends(&rt, &done, 4, lines, FAILED);
+        } else {
+            ends(&rt, &done, 0, lines, ENDED);
+        }
+    }
     Ok(())
 }
 
@@ -523,23 +603,23 @@ fn an_output_that_fails_leaves_its_beginning(rt: HostRuntime) -> Result<(), Fail
         if let Some(output) = &mut files.output {
             output.room = room;
         }
-        let done = does(alloc, &RUN, &mut files)?;
+        let done = does(rt, &RUN, &mut files)?;
         ends(&rt, &done, 4, "", told);
         assert_eq!(rt; done.written_len(), Some(room));
     }
     Ok(())
 }
 
-/// The run of the example.
-fn runs(alloc: Global) -> Result<Done, AllocError> {
-    does(alloc, &RUN, &mut files(alloc)?)
-}
-
 /// The run of the example, again where memory was refused before it began.
-fn runs_at_last(rt: &impl Abort, alloc: Global) -> Done {
-    match runs(alloc) {
+fn runs_at_last<T: Abort + Threads + Wait + Clock + Copy + Send + Drop + 'static>(
+    rt: T,
+    alloc: Global,
+    words: &[&str],
+) -> Done {
+    let run = || does_once(rt, words, &mut files(alloc)?);
+    match run() {
         Ok(done) => done,
-        Err(_) => runs(alloc).expect(rt, "a run"),
+        Err(_) => run().expect(&rt, "a run"),
     }
 }
 
@@ -547,17 +627,19 @@ fn runs_at_last(rt: &impl Abort, alloc: Global) -> Done {
 /// and with a beginning of the output, and the next one as ever.
 #[test]
 fn want_of_memory_is_told(rt: HostRuntime) {
-    let first = runs_at_last(&rt, rt.alloc());
-    let whole = runs_at_last(&rt, rt.alloc());
-    ends(&rt, &whole, 0, LINES, ENDED);
-    if first.status != 0 {
-        let (out, err) = first.texts();
-        assert_eq!(rt; out, "");
-        assert!(rt; err.starts_with("fault memory\n"), "another fault");
-        assert_eq!(rt; first.status, 5);
-    }
-    if let (Some(part), Some(whole)) = (&first.written, &whole.written) {
-        assert!(rt; whole.starts_with(part), "another output");
+    for words in [RUN.as_slice(), RUN_SERIAL.as_slice()] {
+        let first = runs_at_last(rt, rt.alloc(), words);
+        let whole = runs_at_last(rt, rt.alloc(), words);
+        ends(&rt, &whole, 0, LINES, ENDED);
+        if first.status != 0 {
+            let (out, err) = first.texts();
+            assert_eq!(rt; out, "");
+            assert!(rt; err.starts_with("fault memory\n"), "another fault");
+            assert_eq!(rt; first.status, 5);
+        }
+        if let (Some(part), Some(whole)) = (&first.written, &whole.written) {
+            assert!(rt; whole.starts_with(part), "another output");
+        }
     }
 }
 
@@ -582,14 +664,19 @@ slots {slots} tables {tables} elementary {taken} null 1 faults 0
 }
 
 /// A run over the example's input, cut to so many bytes: its output is a beginning of the whole one.
-fn runs_cut(rt: &impl Abort, alloc: Global, cut: usize, whole: &[u8]) -> Result<(), AllocError> {
-    let done = does(alloc, &RUN, &mut cut_files(alloc, cut)?)?;
+fn runs_cut<T: Abort + Threads + Wait + Clock + Copy + Send + Drop + 'static>(
+    rt: T,
+    alloc: Global,
+    cut: usize,
+    whole: &[u8],
+) -> Result<(), AllocError> {
+    let done = does(rt, &RUN, &mut cut_files(alloc, cut)?)?;
     if cut < 753 {
-        is_refused(rt, &done, "fault 5 NoProgram\n");
+        is_refused(&rt, &done, "fault 5 NoProgram\n");
         assert_eq!(rt; done.written_len(), None);
         return Ok(());
     }
-    ends(rt, &done, 0, cut_lines(alloc, cut)?.as_str(), ENDED);
+    ends(&rt, &done, 0, cut_lines(alloc, cut)?.as_str(), ENDED);
     let (slots, _, _) = cut_slots(cut);
     let begins = done.written.as_deref() == whole.get(..slots.saturating_mul(188));
     assert!(rt; begins, "another output at {cut}");
@@ -606,9 +693,10 @@ const CUTS: [usize; 21] = [
 #[test]
 fn an_input_may_end_anywhere(rt: HostRuntime) -> Result<(), Fail> {
     let alloc = rt.alloc();
-    let whole = runs(alloc)?.written.ok_or("no output")?;
+    let whole = does(rt, &RUN, &mut files(alloc)?)?.written;
+    let whole = whole.ok_or("no output")?;
     for cut in CUTS {
-        runs_cut(&rt, alloc, cut, &whole)?;
+        runs_cut(rt, alloc, cut, &whole)?;
     }
     Ok(())
 }
@@ -616,7 +704,7 @@ fn an_input_may_end_anywhere(rt: HostRuntime) -> Result<(), Fail> {
 /// The output of the example's run is the slots in their order, with the counters of the input.
 #[test]
 fn the_output_is_the_slots(rt: HostRuntime) -> Result<(), Fail> {
-    let done = does(rt.alloc(), &RUN, &mut files(rt.alloc())?)?;
+    let done = does(rt, &RUN, &mut files(rt.alloc())?)?;
     let written = done.written.ok_or("no output")?;
     let marks = marks_of(rt.alloc(), &written)?;
     let want = [

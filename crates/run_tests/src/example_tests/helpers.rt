@@ -10,6 +10,21 @@ use std::alloc::Global;
 use std::process::Abort;
 use tspkt::{Packet, Stamped};
 
+/// The example's PAT, with the packet's header and the pointer field.
+pub const PAT: [u8; 25] = [
+    0x47, 0x40, 0x00, 0x10, 0x00, 0x00, 0xB0, 0x11, 0x00, 0x01, 0xC1, 0x00, 0x00, 0x00, 0x00, 0xE0,
+    0x10, 0x01, 0xF4, 0xE1, 0x00, 0xF8, 0x93, 0xDA, 0x6A,
+];
+
+/// Whether a packet begins with these bytes and is filled with 0xFF.
+pub fn is_filled(packet: Option<&Packet>, head: &[u8]) -> bool {
+    let Some(packet) = packet else {
+        return false;
+    };
+    let bytes = packet.bytes();
+    bytes.starts_with(head) && bytes.iter().skip(head.len()).all(|byte| *byte == 0xFF)
+}
+
 /// A multiplex of the example plan with this queue, and one input at this offset.
 pub fn opens(alloc: Global, queue: usize, offset: u64) -> Result<Mux>
     ensures { IfOk result (λ m. length m.run.plan.request.inputs ≡ 1) }

@@ -4,7 +4,7 @@ ghost use Rattle.std.specs.Prelude.{◌≡◌, ◌<◌, ◌≤◌, length, IfOk}
 ghost use Rattle.mux.specs.declared.mux.TheConstants.{MAX_SLOTS};
 
 use crate::example_tests::helpers::{
-    closes, item, marks, opens_recorded, packet, send_all, takes, takes_five,
+    PAT, closes, is_filled, item, marks, opens_recorded, packet, send_all, takes, takes_five,
 };
 use anyhow::bail;
 use example::{input, plan_of, service, settings};
@@ -55,21 +55,7 @@ fn check_tables(rt: &impl Abort, plan: &Plan, sent: &[Packet]) {
     }
 }
 
-/// Whether a packet begins with these bytes and is filled with 0xFF.
-fn is_filled(packet: Option<&Packet>, head: &[u8]) -> bool {
-    let Some(packet) = packet else {
-        return false;
-    };
-    let bytes = packet.bytes();
-    bytes.starts_with(head) && bytes.iter().skip(head.len()).all(|byte| *byte == 0xFF)
-}
-
-/// The example's PAT and PMT, with the packet's header and the pointer field.
-const PAT: [u8; 25] = [
-    0x47, 0x40, 0x00, 0x10, 0x00, 0x00, 0xB0, 0x11, 0x00, 0x01, 0xC1, 0x00, 0x00, 0x00, 0x00, 0xE0,
-    0x10, 0x01, 0xF4, 0xE1, 0x00, 0xF8, 0x93, 0xDA, 0x6A,
-];
-
+/// The example's PMT, with the packet's header and the pointer field.
 const PMT: [u8; 26] = [
     0x47, 0x41, 0x00, 0x10, 0x00, 0x02, 0xB0, 0x12, 0x01, 0xF4, 0xC1, 0x00, 0x00, 0xE2, 0x00, 0xF0,
     0x00, 0x02, 0xE2, 0x00, 0xF0, 0x00, 0x40, 0x16, 0x9A, 0x4F,

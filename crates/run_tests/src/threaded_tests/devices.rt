@@ -1,6 +1,5 @@
 //! Readers and writers over memory, which fail where a test wants it.
 
-use port::{Gate, Point};
 use std::io;
 use std::io::{ErrorKind, Read, Write};
 
@@ -62,17 +61,5 @@ impl Write for TestWriter {
 
     fn flush(&mut self) -> io::Result<()> {
         Ok(())
-    }
-}
-
-/// A gate that never says no.
-#[derive(Drop)]
-pub struct OpenGate;
-
-impl Gate for OpenGate {
-    ghost stops = { λ g. 0 };
-
-    fn pass(&mut self, _at: Point) -> bool {
-        true
     }
 }

@@ -7,15 +7,16 @@ use Rattle.threaded.proofs.driving.drive.Goals as goal
 pub returns-in_err-step-clause-broken : goal.returns-in_err-step-clause-broken
 returns-in_err-step-clause-broken g c =
     let M = g.W.Sink.contents in
-    on_err_always c.from_residual.result
+    on_err_always c.from_residual-in_err-step.result
     (goes_breaks c.args.station.now c.loop.station c.step.new.station c.args.output.now c.loop.output (M c.args.sink.now) (M c.loop.sink) (M c.step.new.sink) c.loop.invariant.goes c.in_err-step.ensures.broken)
 
-pub loop-preserved-in-Sent : goal.loop-preserved-in-Sent
-loop-preserved-in-Sent g c =
+pub loop-preserved-in-Goes : goal.loop-preserved-in-Goes
+loop-preserved-in-Goes g c =
     let M = g.W.Sink.contents in
     record {
       goes = goes_goes c.args.station.now c.loop.station c.step.new.station c.args.output.now c.loop.output c.step.new.output (M c.args.sink.now) (M c.loop.sink) (M c.step.new.sink) c.loop.invariant.goes c.in_ok-step.ensures.goes;
       failures = c.in_ok-step.ensures.failures ∙ c.loop.invariant.failures;
+      room = c.step.ensures.room;
     }
 
 pub loop-preserved : goal.loop-preserved
@@ -24,6 +25,7 @@ loop-preserved g c =
     record {
       goes = goes_goes c.args.station.now c.loop.station c.step.new.station c.args.output.now c.loop.output c.step.new.output (M c.args.sink.now) (M c.loop.sink) (M c.step.new.sink) c.loop.invariant.goes c.in_ok-step.ensures.goes;
       failures = c.in_ok-step.ensures.failures ∙ c.loop.invariant.failures;
+      room = c.step.ensures.room;
     }
 
 pub returns-in-Over-clause-driven : goal.returns-in-Over-clause-driven

@@ -1,0 +1,3 @@
+pub mod Load
+pub mod Rhythm
+pub mod Waiting

@@ -1,0 +1,13 @@
+//! What a plan and a run say to their user: how often the tables come, which periods a plan may have and how long its slots take;
+//! and whether a run shows that its plan is overfull.
+//!
+//! Numbers alone: how they are printed is left to the commands.
+#![tactic(auto)]
+
+mod load;
+mod rhythm;
+mod waiting;
+
+pub use load::{left_rate, taken_rate};
+pub use rhythm::{longest_period, pat_interval, run_seconds, sdt_interval, shortest_period};
+pub use waiting::{is_filled, late_by};

@@ -1,0 +1,15 @@
+//! The gates of the program's runs.
+
+use port::{Gate, Point};
+
+/// A gate that never says no: an input is read to its end, unless the run ends before.
+#[derive(Clone, Copy)]
+pub(crate) struct OpenGate;
+
+impl Gate for OpenGate {
+    ghost stops = { λ g. 0 };
+
+    fn pass(&mut self, _at: Point) -> bool {
+        true
+    }
+}

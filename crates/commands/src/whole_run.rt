@@ -1,0 +1,111 @@
+//! The runs of a plan: in threads, and in one thread alone.
+
+ghost use Rattle.std.specs.Prelude.{◌≡◌, ◌^◌, ◌≤◌, List, true, false, length, map, Err, IfOk, OnOk};
+ghost use Rattle.tspkt.specs.declared.framer.TheConstants.{MAX_LIMIT};
+ghost use Rattle.mux.specs.declared.event.Event.{Event};
+ghost use Rattle.reading.specs.Failures.{FailsOnce};
+ghost use Rattle.serial.specs.Outcome.{HasRun as HasRunInOneThread, FailuresAreTold};
+ghost use Rattle.serial.specs.Running.{TakesAsNeeded};
+ghost use Rattle.threaded.specs.Outcome.{HasRun as HasRunInThreads};
+
+use crate::open_gate::OpenGate;
+use plan::Plan;
+use reading::Source;
+use serial::{RunFault, Sink, Summary, run_serial_within};
+use std::alloc::{AllocError, Global};
+use std::sync::Wait;
+use std::thread::Threads;
+use std::time::Clock;
+use threaded::run_threads;
+
+/// Runs a plan, in one thread alone if `is_serial`, and else with a thread for each input: reads one reader an input, at most
+/// `limit` bytes of each (up to 140,737,488,355,328), and writes the packet of each slot, at most so many slots (0 to 2^40).
+///
+/// The writer comes back, and without a fault what became of the run and the readers, in their order. `Memory` is answered where
+/// memory or a thread was refused, and no write failed before, and `Write` where a write failed.
+pub(crate) fn run_plan<
+    T: Threads + Wait + Clock + Copy + Send + Drop + 'static,
+    R: Source + Send + Drop + 'static,
+    W: Sink,
+>(
+    rt: T,
+    alloc: Global,
+    is_serial: bool,
+    plan: Plan,
+    slots: u64,
+    limit: u64,
+    readers: Vec<R>,
+    writer: W,
+) -> (W, Result<(Summary, Vec<R>), RunFault>)
+    requires slots { slots ≤ 2 ^ 40 }
+    requires limit { limit ≤ MAX_LIMIT }
+    requires readers { length readers.items ≡ length plan.request.inputs }
+    ensures serial { is_serial ≡ true → IfOk result.1 (λ done. (h : List Event)
+        × HasRunInOneThread (record { run = record { plan = plan; limit = slots }; events = h }) limit
+        (map R.remaining readers.items) (map R.remaining done.1.items)
+        (W.contents writer) (W.contents result.0) done.0
+        × TakesAsNeeded (record { plan = plan; limit = slots }) h) }
+    ensures threads { is_serial ≡ false → IfOk result.1 (λ done. (h : List Event)
+        × HasRunInThreads (record { run = record { plan = plan; limit = slots }; events = h }) limit
+        (map R.remaining readers.items) (map R.remaining done.1.items)
+        (W.contents writer) (W.contents result.0) done.0) }
+    ensures readers { IfOk result.1 (λ done. length done.1.items ≡ length readers.items) }
+    ensures read_failed { IfOk result.1 (λ done.
+        FailuresAreTold R.failures readers.items done.1.items done.0.inputs.items) }
+    ensures wrote { OnOk result.1 (W.failures result.0 ≡ W.failures writer) }
+    ensures memory { result.1 ≡ Err RunFault.Memory → W.failures result.0 ≡ W.failures writer }
+    ensures write_failed { result.1 ≡ Err RunFault.Write → FailsOnce (W.failures writer) (W.failures result.0) }
+{
+    if is_serial {
+        run_serial_within(alloc, plan, slots, limit, readers, writer)
+    } else {
+        run_in_threads(rt, alloc, plan, slots, limit, readers, writer)
+    }
+}
+
+/// Runs a plan with a thread for each input, whose gates never say no.
+fn run_in_threads<
+    T: Threads + Wait + Clock + Copy + Send + Drop + 'static,
+    R: Source + Send + Drop + 'static,
+    W: Sink,
+>(
+    rt: T,
+    alloc: Global,
+    plan: Plan,
+    slots: u64,
+    limit: u64,
+    readers: Vec<R>,
+    writer: W,
+) -> (W, Result<(Summary, Vec<R>), RunFault>)
+    requires slots { slots ≤ 2 ^ 40 }
+    requires limit { limit ≤ MAX_LIMIT }
+    requires readers { length readers.items ≡ length plan.request.inputs }
+    ensures runs { IfOk result.1 (λ done. (h : List Event)
+        × HasRunInThreads (record { run = record { plan = plan; limit = slots }; events = h }) limit
+        (map R.remaining readers.items) (map R.remaining done.1.items)
+        (W.contents writer) (W.contents result.0) done.0) }
+    ensures readers { IfOk result.1 (λ done. length done.1.items ≡ length readers.items) }
+    ensures read_failed { IfOk result.1 (λ done.
+        FailuresAreTold R.failures readers.items done.1.items done.0.inputs.items) }
+    ensures wrote { OnOk result.1 (W.failures result.0 ≡ W.failures writer) }
+    ensures memory { result.1 ≡ Err RunFault.Memory → W.failures result.0 ≡ W.failures writer }
+    ensures write_failed { result.1 ≡ Err RunFault.Write → FailsOnce (W.failures writer) (W.failures result.0) }
+{
+    let Ok(gates) = vec![in alloc; OpenGate; readers.len()] else {
+        return (writer, Err(RunFault::Memory));
+    };
+    match run_threads(alloc, rt, plan, slots, limit, readers, gates, writer) {
+        (writer, Ok((summary, lent))) => match without_gates(alloc, lent) {
+            Ok(readers) => (writer, Ok((summary, readers))),
+            Err(_) => (writer, Err(RunFault::Memory)),
+        },
+        (writer, Err(fault)) => (writer, Err(fault)),
+    }
+}
+
+/// The readers alone, in their order.
+fn without_gates<R: Drop>(alloc: Global, lent: Vec<(R, OpenGate)>) -> Result<Vec<R>, AllocError>
+    ensures { IfOk result (λ readers. readers.items ≡ map (λ pair. pair.0) lent.items) }
+{
+    lent.into_iter().map(|(reader, _)| reader).collect(alloc)
+}

@@ -1,0 +1,25 @@
+//! Inputs that a gate stops: they stay open, so that their run ends by its number of slots.
+
+use crate::threaded_tests::gates::StopGate;
+use crate::threaded_tests::runs::{readers, run_gated};
+use example::plan_of;
+use reading::Stop;
+use std::test::Fail;
+
+/// Slot 0 goes out once packet 1 of input 0 was taken, which is the last that its gate lets through.
+#[test]
+fn a_gate_stops_its_input_in_a_run(rt: HostRuntime) -> Result<(), Fail> {
+    let alloc = rt.alloc();
+    let plan = plan_of(alloc, 64, &[0, 0])?;
+    let gates = vec![in alloc; StopGate::new(2), StopGate::new(u32::MAX)]?;
+    let readers = readers(alloc, false)?;
+    let (bytes, result) = run_gated(alloc, rt, plan, 1, readers, gates, usize::MAX)?;
+    let (summary, gates) = result?;
+    assert_eq!(rt; bytes.len(), 188);
+    assert_eq!(rt; summary.inputs.len(), 2);
+    assert_eq!(rt; summary.inputs[0].report.stopped, Some(Stop::Gate));
+    assert_eq!(rt; summary.inputs[0].totals.taken, 2);
+    assert_eq!(rt; gates.len(), 2);
+    assert_eq!(rt; (gates[0].offered, gates[0].stops), (2, 1));
+    Ok(())
+}

@@ -1,0 +1,29 @@
+//! The lines of the headers of tables.
+
+/// The name in a line that is the header of a table of a list, as `input` in `[[input]]`.
+fn header_name(line: &str) -> Option<&str> {
+    let (name, rest) = line.trim().strip_prefix("[[")?.split_once("]]")?;
+    let rest = rest.trim_start();
+    if rest.is_empty() || rest.starts_with("#") {
+        Some(name.trim())
+    } else {
+        None
+    }
+}
+
+/// The line, from 1, of the header with this number, from 0, among those with this name. None where the text has another
+/// number of them than `total`: then some stand in a text, or some tables have no header.
+pub(crate) fn header_line(text: &str, name: &str, number: usize, total: usize) -> Option<usize> {
+    let mut found = None;
+    let (mut headers, mut line) = (0usize, 0usize);
+    for content in text.lines() {
+        line = line.saturating_add(1);
+        if header_name(content) == Some(name) {
+            if headers == number {
+                found = Some(line);
+            }
+            headers = headers.saturating_add(1);
+        }
+    }
+    if headers == total { found } else { None }
+}
