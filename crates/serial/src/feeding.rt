@@ -18,7 +18,7 @@ use reading::Source;
 use std::alloc::AllocError;
 
 /// Gives the multiplex the next packet of an input that it waits for, or closes the input where there is none. A packet
-/// whose queue is full stays held. An `Err` is want of memory for an input that was still read.
+/// whose queue is full stays held. An `Err` is want of memory.
 pub(crate) fn pull<R: Source>(
     mux: &mut Mux,
     number: usize,

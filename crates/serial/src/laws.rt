@@ -1,8 +1,14 @@
-//! What holds of each input, and of what a run writes.
+//! What holds of each input, of what a run writes, and of what it answers.
 
+ghost use Rattle.std.specs.Prelude.{◌≡◌, ◌↔◌, true};
+ghost use Rattle.serial.specs.declared.run_fault.RunFault.{RunFault as FaultOfRun};
+ghost use Rattle.serial.specs.declared.summary.InputSummary.{InputSummary as SummaryOfInput};
 ghost use Rattle.serial.specs.Order.{PacketsComeInOrder, PacketsAreFew};
 ghost use Rattle.serial.specs.OutputFaults.{AnalyserTellsOnlyWhatWasTaken};
 ghost use Rattle.serial.specs.EqualOutput.{EqualInputsGiveEqualBytes, BytesAreOfEveryHistory, BegunBytesBeginTheOutput};
+
+use crate::run_fault::RunFault;
+use crate::summary::InputSummary;
 
 /// The packets that a run may take of an input come in the order of their times.
 pub fn packets_come_in_order()
@@ -36,4 +42,16 @@ pub fn bytes_are_of_every_history()
 /// nothing but want of memory, or the end of the run, stopped an input.
 pub fn begun_bytes_begin_the_output()
     ensures { BegunBytesBeginTheOutput }
+{}
+
+/// A clone of a run's fault, or of what became of an input, is that very value.
+pub fn clones_are_equal()
+    ensures fault { (x y : FaultOfRun) → ⟦<RunFault as Clone>⟧.is_clone x y → y ≡ x }
+    ensures input { (x y : SummaryOfInput) → ⟦<InputSummary as Clone>⟧.is_clone x y → y ≡ x }
+{}
+
+/// They compare as equal exactly where they are the same.
+pub fn equal_values_are_the_same()
+    ensures fault { (x y : FaultOfRun) → (⟦<RunFault as PartialEq>⟧.eq x y ≡ true) ↔ (x ≡ y) }
+    ensures input { (x y : SummaryOfInput) → (⟦<InputSummary as PartialEq>⟧.eq x y ≡ true) ↔ (x ≡ y) }
 {}

@@ -1,4 +1,4 @@
-//! The inputs of a run, before anything is read.
+//! The inputs of a run, before anything is taken.
 
 ghost use Rattle.std.specs.Prelude.{◌≡◌, ◌≤◌, length, IfOk};
 ghost use Rattle.tspkt.specs.declared.framer.TheConstants.{MAX_LIMIT};

@@ -12,7 +12,7 @@ const PACKET: usize = 188;
 /// The length of the buffer, in bytes: 348 packets.
 const ROOM: usize = 65_424;
 
-/// Packets on their way to a sink: a buffer that is written whenever it is full.
+/// Packets on their way to a sink: a buffer that is written where it has no room.
 #[derive(Drop)]
 pub(crate) struct PacketWriter {
     bytes: Vec<u8>,

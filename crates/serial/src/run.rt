@@ -20,9 +20,8 @@ use std::alloc::Global;
 /// slot, at most so many slots (0 to 2^40). It ends where all inputs have ended and nothing waits, or where it has all its slots.
 ///
 /// A packet is taken only where the multiplex waits for its input. The writer comes back, and without a fault the readers too, in
-/// their order, each read as far as the run read it. `Memory` is answered for want of memory, where no write failed, and `Write`
-/// where a write failed; what was written is then a beginning of a sound multiplex. A reader that fails ends its input, and the
-/// run goes on.
+/// their order. `Memory` is answered for want of memory, where no write failed, and `Write` where a write failed; what was written
+/// is then a beginning of a sound multiplex. A reader that fails ends its input, and the run goes on.
 pub fn run_serial<R: Source + Drop, W: Sink>(
     alloc: Global,
     plan: Plan,

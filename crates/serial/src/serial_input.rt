@@ -17,7 +17,7 @@ impl<R: Source> SerialInput<R> {
     ghost use Rattle.tspkt.specs.declared.framer.TheConstants.{MAX_LIMIT};
     ghost use Rattle.serial.specs.Opening.{IsOpened};
 
-    /// The input with this number of a plan, of which nothing was read, and of which at most so many bytes may come.
+    /// The input with this number of a plan, of which nothing was taken, and of which at most so many bytes may come.
     pub fn open(alloc: Global, plan: &Plan, number: usize, limit: u64, source: R) -> SerialInput<R>
         requires number { number < length plan.now.request.inputs }
         requires limit { limit ≤ MAX_LIMIT }

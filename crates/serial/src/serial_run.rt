@@ -39,7 +39,7 @@ impl<R: Source + Drop> SerialRun<R> {
     ghost use Rattle.tspkt.specs.declared.framer.TheConstants.{MAX_LIMIT};
     ghost use Rattle.serial.specs.Running.{TakesAsNeeded, IsRunning, IsOver, AreHalted, steps_left};
 
-    /// A run of a plan for at most this many slots, with inputs of at most `limit` bytes, of which nothing was read or sent.
+    /// A run of a plan for at most this many slots, with inputs of at most `limit` bytes, of which nothing was taken or sent.
     pub fn open(
         alloc: Global,
         plan: Plan,

@@ -7,7 +7,7 @@ use analyse::{Analyser, Fault};
 use std::alloc::{AllocError, Global};
 use tspkt::Packet;
 
-/// Packets on their way out: each is analysed, and written through a buffer.
+/// Packets on their way out: each that is taken is analysed, and written through a buffer.
 #[derive(Drop)]
 pub struct SlotWriter {
     writer: PacketWriter,
@@ -18,7 +18,7 @@ pub struct SlotWriter {
 }
 
 impl SlotWriter {
-    ghost use Rattle.std.specs.Prelude.{◌≡◌, ◌∷◌, ◌++◌, ℕ, List, [], Err, true, IfOk, OnOk, OnErr};
+    ghost use Rattle.std.specs.Prelude.{◌≡◌, ◌∷◌, ◌++◌, ℕ, List, [], Err, true, IsErr, IfOk, OnOk, OnErr};
     ghost use Rattle.std.specs.Io.KnownBytes.{Appends};
     ghost use Rattle.reading.specs.Failures.{FailsOnce};
     ghost use Rattle.serial.specs.Written.{Sends, SendsBeginning};
@@ -45,9 +45,9 @@ impl SlotWriter {
         self.faults
     }
 
-    /// Analyses a packet and writes it. At want of memory the packet isn't taken: nothing is written, what waits and the count
-    /// of faults are as they were, and the analyser takes no more. At a failed write the packet was analysed, and nothing
-    /// waits.
+    /// Analyses a packet and writes it. At want of memory the packet isn't taken: nothing is written, and what waits and the
+    /// count of faults are as they were; each later packet is refused for want of memory too. At a failed write the packet was
+    /// analysed, and nothing waits.
     pub fn put<W: Sink>(&mut self, packet: &Packet, sink: &mut W) -> Result<(), RunFault>
         ensures analysed { OnOk result ((rate period : ℕ) (slots : List (List ℕ))
             → HasAnalysed self.old rate period slots
@@ -59,6 +59,7 @@ impl SlotWriter {
         ensures failures { OnOk result (W.failures sink.new ≡ W.failures sink.old) }
         ensures memory { result ≡ Err RunFault.Memory → sink.new ≡ sink.old }
         ensures refused { result ≡ Err RunFault.Memory → self.new.analyser.is_refused ≡ true }
+        ensures still_refused { self.old.analyser.is_refused ≡ true → result ≡ Err RunFault.Memory }
         ensures stays { result ≡ Err RunFault.Memory
             → (self.new.writer ≡ self.old.writer) × (self.new.faults ≡ self.old.faults) }
         ensures failed_waiting { result ≡ Err RunFault.Write → self.new.writer ≡ [] }
@@ -75,13 +76,14 @@ impl SlotWriter {
         }
     }
 
-    /// Analyses a packet. At an `Err`, which is want of memory, the analyser takes no more, and no fault is counted.
+    /// Analyses a packet. At an `Err`, which is want of memory, no fault is counted, and each later packet is refused too.
     fn analyse(&mut self, packet: &Packet) -> Result<(), AllocError>
         ensures analysed { OnOk result ((rate period : ℕ) (slots : List (List ℕ))
             → HasAnalysed self.old rate period slots
             → HasAnalysed self.new rate period (slots ++ packet.now ∷ [])) }
         ensures writer { self.new.writer ≡ self.old.writer }
         ensures refused { OnErr result (self.new.analyser.is_refused ≡ true) }
+        ensures still_refused { self.old.analyser.is_refused ≡ true → IsErr result }
         ensures stays { OnErr result (self.new.faults ≡ self.old.faults) }
     {
         self.told.clear();

@@ -7,7 +7,7 @@ use crate::packet::Packet;
 
 /// Whether `next` is lawful behind `last`, the packet before it in the list of its PID, where `before` is the one before
 /// that: the discontinuity is indicated, the counter steps with payload or stays without, or it is the one copy that may
-/// be sent (ISO/IEC 13818-1, 2.4.3.3). It is not asked of null packets.
+/// be sent (ISO/IEC 13818-1, 2.4.3.3). The standard has no such rule for null packets.
 #[tactic(auto, unfolding(crate::specs::Counters::follows_of))]
 pub fn follows(before: Option<&Packet>, last: &Packet, next: &Packet) -> bool
     ensures { result ≡ follows_of (option_map (λ p. p.now) before.entry) last.now next.now }

@@ -151,7 +151,7 @@ fn equal(a: &[u8], b: &[u8]) -> bool
     a == b
 }
 
-/// Equal bytes, save for the PCR where both have one.
+/// Equal bytes, save for the PCR's bytes 6 to 11 where both have one.
 #[tactic(auto, unfolding(crate::specs::Counters::is_equal_but_pcr))]
 pub fn equal_but_pcr(a: &[u8; 188], b: &[u8; 188]) -> bool
     ensures { result ≡ is_equal_but_pcr a.now b.now }

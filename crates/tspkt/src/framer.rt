@@ -17,6 +17,9 @@ const KEPT: usize = 752;
 /// The most bytes of one stream where no other limit is given: 16,777,216 packets.
 pub(crate) const LIMIT: u64 = 3_154_116_608;
 
+// The packets that it is.
+const _: () = prove!(LIMIT == 16_777_216 * 188);
+
 /// The greatest limit of the bytes of one stream: 2^47.
 pub const MAX_LIMIT: u64 = 140_737_488_355_328;
 

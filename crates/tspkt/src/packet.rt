@@ -146,7 +146,7 @@ impl Packet {
     }
 
     /// Whether the other is the same packet sent again: both with payload, with equal counters and equal bytes, save for
-    /// the PCR where both have one (ISO/IEC 13818-1, 2.4.3.3, duplicate packets).
+    /// the PCR's bytes 6 to 11 where both have one (ISO/IEC 13818-1, 2.4.3.3, duplicate packets).
     #[tactic(auto, unfolding(crate::specs::Counters::is_copy))]
     pub fn is_copy(&self, other: &Packet) -> bool
         ensures { result ≡ is_copy self.now other.now }

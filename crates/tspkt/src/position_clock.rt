@@ -12,6 +12,9 @@ pub const LOWEST_RATE: u64 = 500_000;
 /// The highest rate that a clock goes by, in bits a second.
 pub const HIGHEST_RATE: u64 = 100_000_000;
 
+// Half a megabit and a hundred megabits a second.
+const _: () = prove!(2 * LOWEST_RATE == 1_000_000 && HIGHEST_RATE == 100 * 1_000_000);
+
 /// The distance from one packet to the next, in bytes.
 const STRIDE: u64 = 188;
 
@@ -22,8 +25,8 @@ const STAMPED_BYTE: u64 = 10;
 const TICKS_OF_A_BYTE: u64 = 216_000_000;
 
 /// When the packets of a stream of constant rate come: the position of one, its time, and the step to the next. Times are
-/// whole ticks of 27 MHz, and what is left over by rounding down, in parts of a tick, of which a tick has `rate`. So a packet
-/// that follows the one before it needs no division.
+/// whole ticks of 27 MHz, and what is left over by rounding down, in parts of a tick, of which a tick has `rate`: so the time of
+/// the next packet is a sum.
 #[derive(Drop)]
 pub struct PositionClock {
     rate: u64,
@@ -79,7 +82,7 @@ impl PositionClock {
         self.time
     }
 
-    /// Goes to another position, at most 140,737,488,355,328. The next packet, one stride on, needs no division.
+    /// Goes to another position, at most 140,737,488,355,328.
     pub fn go_to(&mut self, position: u64)
         requires { position ≤ MAX_LIMIT }
         ensures { self.new ≡ record self.old { position = position } }
