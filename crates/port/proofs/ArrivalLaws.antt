@@ -1,5 +1,5 @@
 -- Packets and end marks of lists of arrivals.
-use Rattle.std.proofs.Common.{◌≡◌, ℕ, ◌+◌, Bool, true, false, List, [], ◌∷◌, ◌++◌, length, drop, refl, ap, sym, ◌∙◌, arith}
+use Rattle.std.proofs.Common.{◌≡◌, ◌+◌, Bool, true, false, List, [], ◌∷◌, ◌++◌, length, drop, refl, ap, sym, ◌∙◌, arith}
 use Rattle.tspkt.specs.declared.stamped.Stamped.{Stamped}
 use Rattle.port.specs.declared.arrival.Arrival.{Arrival}
 use Rattle.port.specs.declared.arrival.Arrival.TheVariants.{Packet, End}

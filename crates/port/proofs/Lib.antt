@@ -1,3 +1,4 @@
 pub mod ArrivalLaws
 pub mod RingLaws
 pub mod NewRingLaws
+pub mod ChunkLaws

@@ -1,5 +1,5 @@
 -- Which ring an end is of.
-use Rattle.std.proofs.Common.{◌≡◌, ℕ, ap, refl}
+use Rattle.std.proofs.Common.{◌≡◌, ℕ, ap}
 use Rattle.std.specs.declared.alloc.Global.{Global}
 use Rattle.rtrb.specs.declared.end.End.{End}
 use Rattle.rtrb.specs.Ends.{SameRing}

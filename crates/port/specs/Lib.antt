@@ -2,3 +2,4 @@ pub mod Arrivals
 pub mod Rings
 pub mod Receiving
 pub mod Stops
+pub mod Chunks

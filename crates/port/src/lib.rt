@@ -11,6 +11,7 @@ mod nothing_after_end;
 mod point;
 mod port;
 mod ring_end;
+mod ring_reader;
 mod rings;
 #[cfg(test)]
 mod tests;

@@ -5,57 +5,49 @@ ghost use Rattle.port.specs.Receiving.{IsReceived, IsLeft};
 
 use crate::arrival::Arrival;
 use crate::finished_port::FinishedPort;
-use crate::nothing_after_end::NothingAfterEnd;
-use rtrb::Consumer;
-use std::alloc::Global;
+use crate::ring_reader::RingReader;
 use std::marker::Model;
 
 /// The receiving end of an input's ring. Contracts see which ring it is, the packets that came out of it, and whether the end
 /// mark came. None of its calls locks, waits or asks for memory.
 #[derive(Drop)]
 pub struct RingEnd {
-    pub(crate) input: usize,
-    pub(crate) consumer: Consumer<Arrival, Global, NothingAfterEnd>,
+    pub(crate) reader: RingReader,
     pub(crate) is_ended: bool,
 }
 
 impl Model for RingEnd {
     ghost use Rattle.std.specs.Prelude.{◌≡◌};
-    ghost use Rattle.rtrb.specs.Ring.{received};
     ghost use Rattle.port.specs.Arrivals.{packets_of, marks_of, mark_count};
-    ghost use Rattle.port.specs.Rings.{RingEndValue, ring_id};
+    ghost use Rattle.port.specs.Rings.{RingEndValue};
 
     ghost Value = { RingEndValue };
 
     ghost view = { λ e. record {
-      ring = ring_id e.consumer.end e.input;
-      received = packets_of (received e.consumer);
+      ring = e.reader.ring;
+      received = packets_of e.reader.handed;
       is_ended = e.is_ended;
     } };
 
-    ghost invariant = { λ e. marks_of (received e.consumer) ≡ mark_count e.is_ended };
+    ghost invariant = { λ e. marks_of e.reader.handed ≡ mark_count e.is_ended };
 }
 
 impl RingEnd {
     /// Takes what comes next out of the ring: a packet, or the end mark. `None` is answered where nothing is seen in the
     /// ring, and always behind the end mark.
-    #[tactic(auto, using(crate::proofs::RingLaws::same_id, crate::proofs::ArrivalLaws::packets_of_snoc, crate::proofs::ArrivalLaws::packets_of_mark, crate::proofs::ArrivalLaws::marks_of_snoc, crate::proofs::ArrivalLaws::marks_of_mark, crate::proofs::ArrivalLaws::unmarked))]
+    #[tactic(auto, using(crate::proofs::ArrivalLaws::packets_of_snoc, crate::proofs::ArrivalLaws::packets_of_mark, crate::proofs::ArrivalLaws::marks_of_snoc, crate::proofs::ArrivalLaws::marks_of_mark, crate::proofs::ArrivalLaws::unmarked))]
     pub fn next(&mut self) -> Option<Arrival>
         ensures ring { self.new.ring ≡ self.old.ring }
         ensures received { IsReceived self.old result self.new }
     {
-        let RingEnd {
-            consumer,
-            is_ended,
-            ..
-        } = self;
-        match consumer.pop() {
-            Ok(Arrival::Packet(item)) => Some(Arrival::Packet(item)),
-            Ok(Arrival::End) => {
+        let RingEnd { reader, is_ended } = self;
+        match reader.next() {
+            Some(Arrival::Packet(item)) => Some(Arrival::Packet(item)),
+            Some(Arrival::End) => {
                 *is_ended = true;
                 Some(Arrival::End)
             }
-            Err(_) => None,
+            None => None,
         }
     }
 
@@ -66,9 +58,8 @@ impl RingEnd {
         self.is_ended
     }
 
-    /// How many packets are still in the ring, of the port that was made with this end and sends no more. The end mark isn't
+    /// How many packets didn't come out of it, of the port that was made with this end and sends no more. The end mark isn't
     /// counted.
-    #[tactic(auto, using(crate::proofs::RingLaws::same_id, crate::proofs::RingLaws::same_ring))]
     pub fn left(&mut self, finished: &mut FinishedPort) -> u64
         requires { IfSome finished.old.shown (λ port. port.ring ≡ self.old.ring) }
         ensures end { self.new ≡ self.old }
@@ -80,7 +71,7 @@ impl RingEnd {
             is_ended,
             ..
         } = finished;
-        let items = self.consumer.slots_beside(producer);
+        let items = self.reader.left(producer);
         let marks = if *is_ended && !self.is_ended { 1 } else { 0 };
         (items - marks) as u64
     }

@@ -6,6 +6,7 @@ ghost use Rattle.port.specs.Rings.{IsNewRing, AreNewRings};
 use crate::nothing_after_end::NothingAfterEnd;
 use crate::port::Port;
 use crate::ring_end::RingEnd;
+use crate::ring_reader::RingReader;
 use rtrb::RingBuffer;
 use std::alloc::{AllocError, Global};
 
@@ -23,8 +24,7 @@ pub(crate) fn ring(
     Ok((
         Port { input, producer },
         RingEnd {
-            input,
-            consumer,
+            reader: RingReader::new(input, consumer),
             is_ended: false,
         },
     ))

@@ -55,3 +55,16 @@ fn a_full_ring_hands_the_port_back_and_a_port_may_finish_unmarked(
     assert_eq!(rt; end.left(&mut finished), 0);
     Ok(())
 }
+
+#[test]
+fn more_than_comes_out_at_once_comes_out_in_order(rt: HostRuntime) -> Result<(), Fail> {
+    let (mut port, mut end) = ring(rt.alloc(), 0, 40)?;
+    for stamp in 0..40 {
+        assert!(rt; port.offer(stamped(stamp)).is_ok());
+    }
+    for stamp in 0..40 {
+        assert_eq!(rt; stamp_of(end.next()), Some(stamp));
+    }
+    assert!(rt; end.next().is_none());
+    Ok(())
+}

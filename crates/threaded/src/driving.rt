@@ -39,11 +39,10 @@ pub(crate) fn drive<T: Wait + Clock, W: Sink>(
     ensures failed { result ≡ Err RunFault.Write → FailsOnce (W.failures sink.old) (W.failures sink.new) }
 {
     let mut packets = Vec::with_capacity(alloc, STEPS)?;
-    let mut waited = 0;
     for _ in rt.forever() {
         match step(station, &mut packets, output, sink)? {
-            Turn::Goes => waited = 0,
-            Turn::Waits => waited = pause(rt, waited),
+            Turn::Goes => {}
+            Turn::Waits => pause(rt),
             Turn::Over => return output.flush(sink),
         }
     }

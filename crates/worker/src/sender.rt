@@ -98,7 +98,6 @@ impl<R: Source + Drop, G: Gate + Drop> Sender<R, G> {
         ensures gate { MatchBool result (G.stops self.new.gate ≡ G.stops self.old.gate)
             (StopsOnce (G.stops self.old.gate) (G.stops self.new.gate)) }
     {
-        let mut waited = 0;
         for _ in rt.forever() {
             let item = *self.reader.held().unwrap();
             if self.port.offer(item).is_ok() {
@@ -108,7 +107,7 @@ impl<R: Source + Drop, G: Gate + Drop> Sender<R, G> {
             if !self.gate.pass(Point::Full) {
                 return false;
             }
-            waited = pause(rt, waited);
+            pause(rt);
         }
         unreachable!()
     }
@@ -162,7 +161,6 @@ pub(crate) fn end<G: Gate, T: Wait + Clock>(rt: &T, port: Port, gate: &mut G) ->
         (StopsOnce (G.stops gate.old) (G.stops gate.new)) }
 {
     let mut port = port;
-    let mut waited = 0;
     for _ in rt.forever() {
         match port.end() {
             Ok(finished) => return finished,
@@ -171,7 +169,7 @@ pub(crate) fn end<G: Gate, T: Wait + Clock>(rt: &T, port: Port, gate: &mut G) ->
         if !gate.pass(Point::Full) {
             return port.finish();
         }
-        waited = pause(rt, waited);
+        pause(rt);
     }
     unreachable!()
 }

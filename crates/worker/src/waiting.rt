@@ -1,21 +1,12 @@
-//! Waiting for a free place in a ring.
+//! Waiting for another thread.
 
 use std::thread;
 use std::time::{Clock, Duration};
 
-/// How often a thread lets others go first before it sleeps.
-const YIELDS: u32 = 32;
-
-/// How long it sleeps then, in microseconds.
+/// How long a thread that waits sleeps at once, in microseconds.
 const SLEEP: u64 = 50;
 
-/// Lets other threads go first, and sleeps where that was done often already, so that a full ring costs no core. It takes how
-/// often the caller waited, and answers that number with one more.
-pub fn pause(clock: &impl Clock, waited: u32) -> u32 {
-    if waited < YIELDS {
-        thread::yield_now();
-    } else {
-        thread::sleep(clock, Duration::from_micros(SLEEP));
-    }
-    waited.saturating_add(1)
+/// Sleeps for a moment, so that a full ring or an empty one costs no core.
+pub fn pause(clock: &impl Clock) {
+    thread::sleep(clock, Duration::from_micros(SLEEP));
 }

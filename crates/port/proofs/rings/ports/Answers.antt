@@ -1,4 +1,4 @@
-use Rattle.std.proofs.Common.{rules, ◌≡◌, ℕ, ◌+◌, List, [], ◌∷◌, ◌++◌, subst, sym}
+use Rattle.std.proofs.Common.{rules, ◌≡◌, ◌+◌, List, [], ◌∷◌, ◌++◌, subst, sym}
 use Rattle.port.specs.Rings.{PortValue, RingEndValue, IsNewRing, AreNewRings}
 use Rattle.port.proofs.NewRingLaws.{one_more}
 use Rattle.port.proofs.rings.ports.Goals as goal

@@ -1,7 +1,7 @@
-use Rattle.std.proofs.Common.{rules, ◌≡◌, ℕ, ◌+◌, ◌-◌, ◌≤◌, List, [], ◌++◌, length, Bool, true, arith, ap, Some, ◌∙◌, sym}
-use Rattle.rtrb.specs.Ring.{received, known_items, sent}
+use Rattle.std.proofs.Common.{rules, ◌≡◌, List, ◌++◌, length, true, arith, ap, Some, ◌∙◌, sym}
+use Rattle.rtrb.specs.Ring.{sent}
 use Rattle.port.specs.Arrivals.{marks_of, mark_count, packets_of}
-use Rattle.port.specs.Rings.{ring_id, PortValue, RingEndValue, FinishedValue}
+use Rattle.port.specs.Rings.{ring_id, RingEndValue, FinishedValue}
 use Rattle.port.specs.declared.arrival.Arrival.{Arrival}
 use Rattle.port.proofs.ArrivalLaws.{packets_left, marks_left, length_arrivals, mark_came, marks_are}
 use Rattle.port.proofs.ring_end.RingEnd.left.Goals as goal
@@ -9,26 +9,26 @@ use Rattle.port.proofs.ring_end.RingEnd.left.Goals.{then-is_ended+then-not-self,
 
 pub returns-clause-left : goal.returns-clause-left
 returns-clause-left c =
-    let got : List Arrival = received c.self.inside.consumer in
-    let known : List Arrival = known_items c.slots_beside-items.new.self in
+    let got : List Arrival = c.self.inside.reader.handed in
+    let rest : List Arrival = c.left-items.ensures.left.0 in
     let all : List Arrival = sent c.finished.inside.producer in
-    let fifo : got ++ known ≡ all = search rules in
-    let value : c.slots_beside-items.result ≡ length known = search rules in
-    let same : ring_id c.finished.inside.producer.end c.finished.inside.input ≡ ring_id c.self.inside.consumer.end c.self.inside.input = search rules in
+    let fifo : got ++ rest ≡ all = sym c.left-items.ensures.left.1 in
+    let value : length rest ≡ c.left-items.result = c.left-items.ensures.left.2 in
+    let same : ring_id c.finished.inside.producer.end c.finished.inside.input ≡ c.self.inside.reader.ring = search rules in
     let sent_marks : marks_of all ≡ mark_count c.finished.inside.is_ended = marks_are c.finished.inside.is_ended all c.finished.invariant in
     let got_marks : marks_of got ≡ mark_count c.self.inside.is_ended = c.self.invariant in
-    let counted = marks_left got known all fifo in
-    let most = length_arrivals known in
-    let packets = packets_left got known all fifo in
+    let counted = marks_left got rest all fifo in
+    let most = length_arrivals rest in
+    let packets = packets_left got rest all fifo in
     record {
-      rest = packets_of known;
+      rest = packets_of rest;
       shown =
           sym (ap (λ (f : FinishedValue). f.shown) c.finished.view_is)
           ∙ ((λ i. Some (record { ring = same i; sent = packets i }))
-          ∙ ap (λ (e : RingEndValue). Some (record { ring = e.ring; sent = e.received ++ packets_of known })) c.self.view_is);
+          ∙ ap (λ (e : RingEndValue). Some (record { ring = e.ring; sent = e.received ++ packets_of rest })) c.self.view_is);
       marked = λ m.
           let own : c.self.inside.is_ended ≡ true = ap (λ (e : RingEndValue). e.is_ended) c.self.view_is ∙ m in
-          let came = mark_came c.finished.inside.is_ended got known all fifo c.finished.invariant (got_marks ∙ ap mark_count own) in
+          let came = mark_came c.finished.inside.is_ended got rest all fifo c.finished.invariant (got_marks ∙ ap mark_count own) in
           (sym (ap (λ (f : FinishedValue). f.is_ended) c.finished.view_is) ∙ came.0, ap packets_of came.1);
       count_is = elim c.if-is_ended.branch [
         | then-is_ended+then-not-self w ↦
@@ -50,14 +50,14 @@ returns-clause-left c =
 
 pub overflow_sub-result : goal.overflow_sub-result
 overflow_sub-result c =
-    let got : List Arrival = received c.self.inside.consumer in
-    let known : List Arrival = known_items c.slots_beside-items.new.self in
+    let got : List Arrival = c.self.inside.reader.handed in
+    let rest : List Arrival = c.left-items.ensures.left.0 in
     let all : List Arrival = sent c.finished.inside.producer in
-    let fifo : got ++ known ≡ all = search rules in
-    let value : c.slots_beside-items.result ≡ length known = search rules in
+    let fifo : got ++ rest ≡ all = sym c.left-items.ensures.left.1 in
+    let value : length rest ≡ c.left-items.result = c.left-items.ensures.left.2 in
     let sent_marks : marks_of all ≡ mark_count c.finished.inside.is_ended = marks_are c.finished.inside.is_ended all c.finished.invariant in
     let got_marks : marks_of got ≡ mark_count c.self.inside.is_ended = c.self.invariant in
-    let counted = marks_left got known all fifo in
+    let counted = marks_left got rest all fifo in
     elim c.if-is_ended.branch [
       | then-is_ended+then-not-self w ↦
           let a : mark_count c.finished.inside.is_ended ≡ 1 = ap mark_count w.if-is_ended.true in

@@ -1,0 +1,103 @@
+//! Taking what a ring shows out of it, in chunks.
+
+ghost use Rattle.std.specs.Prelude.{◌≡◌, []};
+ghost use Rattle.rtrb.specs.Ring.{received};
+ghost use Rattle.port.specs.Rings.{ring_id};
+
+use crate::arrival::Arrival;
+use crate::nothing_after_end::NothingAfterEnd;
+use rtrb::{Consumer, Producer};
+use std::alloc::Global;
+use std::marker::Model;
+
+/// How many arrivals come out of a ring at once, at most.
+const CHUNK: usize = 16;
+
+/// The receiving end of a ring, which takes what is seen in it out of it in one go, and hands it on one by one. Contracts see
+/// which ring it is, and what was handed on, the oldest first.
+#[derive(Drop)]
+pub(crate) struct RingReader {
+    input: usize,
+    consumer: Consumer<Arrival, Global, NothingAfterEnd>,
+    /// What came out of the ring last.
+    chunk: [Arrival; CHUNK],
+    /// How many arrivals that is.
+    count: usize,
+    /// How many of these were handed on.
+    passed: usize,
+}
+
+impl Model for RingReader {
+    ghost use Rattle.std.specs.Prelude.{◌≤◌, drop, take};
+    ghost use Rattle.rtrb.specs.Ring.{received};
+    ghost use Rattle.port.specs.Rings.{ring_id};
+    ghost use Rattle.port.specs.Chunks.{ReaderValue, handed_on, AreWaiting};
+
+    ghost Value = { ReaderValue };
+
+    ghost view = { λ r. record {
+      ring = ring_id r.consumer.end r.input;
+      handed = handed_on (received r.consumer) (drop r.passed (take r.count r.chunk));
+    } };
+
+    ghost invariant = { λ r. (r.passed ≤ r.count) × (r.count ≤ 16)
+        × AreWaiting (received r.consumer) (drop r.passed (take r.count r.chunk)) };
+}
+
+impl RingReader {
+    ghost use Rattle.std.specs.Prelude.{◌≡◌, ◌++◌, ◌∷◌, [], List, length, MatchOption};
+    ghost use Rattle.rtrb.specs.Ring.{received, sent};
+    ghost use Rattle.port.specs.declared.arrival.Arrival.{Arrival as AnyArrival};
+    ghost use Rattle.port.specs.Arrivals.{marks_of};
+    ghost use Rattle.port.specs.Rings.{ring_id};
+
+    /// The end of an input's ring, out of which nothing came.
+    pub fn new(input: usize, consumer: Consumer<Arrival, Global, NothingAfterEnd>) -> RingReader
+        requires { received consumer ≡ [] }
+        ensures { result ≡ record { ring = ring_id consumer.end input; handed = [] } }
+    {
+        RingReader {
+            input,
+            consumer,
+            chunk: [Arrival::End; CHUNK],
+            count: 0,
+            passed: 0,
+        }
+    }
+
+    /// Takes what is seen in the ring out of it, where all that came out was handed on.
+    fn look(&mut self)
+        ensures { self.new ≡ self.old }
+    {
+        if self.passed == self.count {
+            self.passed = 0;
+            self.count = self.consumer.pop_partial_slice(&mut self.chunk);
+        }
+    }
+
+    /// Hands on what comes next. `None` is answered where nothing is seen in the ring. Nothing comes behind an end mark.
+    pub fn next(&mut self) -> Option<Arrival>
+        ensures { MatchOption result (self.new ≡ self.old)
+            (λ x. (self.new ≡ record self.old { handed = self.old.handed ++ x ∷ [] })
+            × (marks_of self.old.handed ≡ 0)) }
+    {
+        self.look();
+        if self.passed == self.count {
+            return None;
+        }
+        let next = self.chunk[self.passed];
+        self.passed += 1;
+        Some(next)
+    }
+
+    /// How many arrivals of those that were sent weren't handed on, beside the end that sends.
+    pub fn left(&mut self, producer: &mut Producer<Arrival, Global, NothingAfterEnd>) -> usize
+        requires { ring_id producer.old.end self.old.ring.input ≡ self.old.ring }
+        ensures reader { self.new ≡ self.old }
+        ensures ring { ring_id producer.new.end self.old.ring.input ≡ self.old.ring }
+        ensures sent { sent producer.new ≡ sent producer.old }
+        ensures left { (rest : List AnyArrival) × (sent producer.old ≡ self.old.handed ++ rest) × (length rest ≡ result) }
+    {
+        self.count - self.passed + self.consumer.slots_beside(producer)
+    }
+}
