@@ -1,6 +1,5 @@
 -- Steps of a station, one behind the other.
-use Rattle.std.proofs.Common.{ℕ, zero, suc, ◌+◌, ◌≡◌, ◌≤◌, ◌⊎◌, Bool, true, false, ◌||◌, List, [], ◌∷◌, ◌++◌, length, map, set, slice_get, Option, Some, None, refl, ap, sym, subst, ◌∙◌, arith, inl, inr, append-nil, append_assoc, if◌then◌else◌}
-use Rattle.std.specs.Option.{option_to_list}
+use Rattle.std.proofs.Common.{ℕ, zero, suc, ◌+◌, ◌≡◌, ◌⊎◌, Bool, true, false, ◌||◌, List, [], ◌∷◌, ◌++◌, set, slice_get, Some, None, refl, ap, sym, subst, ◌∙◌, arith, inl, inr, append-nil, append_assoc, if◌then◌else◌}
 use Rattle.plan.specs.Build.{PlanValue}
 use Rattle.mux.specs.declared.event.Event.{Event}
 use Rattle.mux.specs.declared.event.Event.TheVariants.{Took, Full, Close}
@@ -14,7 +13,7 @@ use Rattle.mux.specs.declared.slot.Slot.TheVariants as slot
 use Rattle.station.specs.declared.inlet.Inlet.{Inlet}
 use Rattle.station.specs.Stations.{StationValue, IsLawfulInlet, rings_of}
 use Rattle.station.specs.Moving.{TakesNext, EndsTaking, EndsBy, Ending, Nothing, Mark, HeldBack, IsHeldBack}
-use Rattle.station.specs.Advancing.{SendsSlot, Pulls, IsStep, Steps, IsStuck}
+use Rattle.station.specs.Advancing.{IsStep, Steps, IsStuck}
 use Rattle.station.proofs.StationLaws.{ends_ring}
 
 -- An input that isn't ready is open.

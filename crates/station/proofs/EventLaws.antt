@@ -1,5 +1,5 @@
 -- Which events leave what is kept of an input.
-use Rattle.std.proofs.Common.{ℕ, ◌≡◌, ◌≢◌, Bool, true, false, eq-eqb, if◌then◌else◌, ◌||◌, List, [], ◌∷◌, ◌++◌, length, slice_get, Some, zero, suc, refl, ap, sym}
+use Rattle.std.proofs.Common.{ℕ, ◌≡◌, ◌≢◌, true, eq-eqb, if◌then◌else◌, ◌||◌, List, [], ◌∷◌, ◌++◌, length, slice_get, Some, zero, suc, refl, ap, sym}
 use Rattle.std.proofs.lemmas.Bool.{ne_eqb}
 use Rattle.tspkt.specs.declared.stamped.Stamped.{Stamped}
 use Rattle.request.specs.declared.stream.Stream.{Stream}

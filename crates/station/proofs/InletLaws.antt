@@ -1,19 +1,19 @@
 -- What a station keeps of its inputs, from event to event.
-use Rattle.std.proofs.Common.{ℕ, ◌≡◌, ◌≢◌, ◌<◌, Bool, true, false, not, ltb, cond, List, [], ◌∷◌, ◌++◌, length, slice_get, Option, Some, None, refl, ap, sym, subst, ◌∙◌, arith, inl, inr, ◌⊎◌, append-nil}
+use Rattle.std.proofs.Common.{ℕ, ◌≡◌, ◌<◌, Bool, true, false, not, ltb, cond, List, [], ◌∷◌, ◌++◌, length, slice_get, Option, Some, None, refl, ap, sym, subst, ◌∙◌, inl, inr, append-nil}
 use Rattle.std.specs.Option.{option_to_list}
 use Rattle.std.proofs.lemmas.Bool.{false≢true, ltb-true}
 use Rattle.tspkt.specs.declared.stamped.Stamped.{Stamped}
 use Rattle.request.specs.declared.stream.Stream.{Stream}
 use Rattle.plan.specs.Build.{PlanValue}
 use Rattle.mux.specs.declared.event.Event.{Event}
-use Rattle.mux.specs.declared.event.Event.TheVariants.{Took, Full, Close, Slot}
+use Rattle.mux.specs.declared.event.Event.TheVariants.{Took, Full, Close}
 use Rattle.mux.specs.History.{History, with_event, taken, is_closed, last_stamp, full_noted, is_mapped_to}
 use Rattle.mux.specs.Lawful.{Closed, Stranger, Backward, refusal_of, is_mapped, is_queue_full}
 use Rattle.mux.specs.Lawful as refusals
 use Rattle.mux.specs.Answers.{NotesFull}
 use Rattle.station.specs.declared.inlet.Inlet.{Inlet}
 use Rattle.station.specs.Stations.{IsRefusedForGood, FullsAreOfNext, IsLawfulInlet, LeavesOthers}
-use Rattle.station.proofs.EventLaws.{Spares, took_spares, full_spares, close_spares, slot_spares, took_own, close_own, fulls_on, fulls_more, get_behind}
+use Rattle.station.proofs.EventLaws.{Spares, took_spares, full_spares, close_spares, took_own, close_own, fulls_on, fulls_more, get_behind}
 
 -- events of others
 

@@ -5,3 +5,5 @@ pub mod StationLaws
 pub mod OpeningLaws
 pub mod TakingLaws
 pub mod AdvancingLaws
+pub mod FaithfulLaws
+pub mod AgreementLaws

@@ -1,13 +1,12 @@
 -- Packets that are moved in, one after the other.
-use Rattle.std.proofs.Common.{ℕ, zero, suc, ◌+◌, ◌≡◌, ◌≢◌, ◌<◌, Bool, true, false, List, [], ◌∷◌, ◌++◌, length, set, slice_get, Option, Some, None, MatchBool, refl, ap, sym, subst, ◌∙◌, arith, inl, inr, ◌⊎◌, append-nil, append_assoc, length-append}
+use Rattle.std.proofs.Common.{ℕ, suc, ◌+◌, ◌≡◌, Bool, true, false, List, [], ◌∷◌, ◌++◌, length, set, slice_get, Option, Some, None, MatchBool, refl, ap, sym, subst, ◌∙◌, arith, append-nil, append_assoc, length-append}
 use Rattle.std.specs.Option.{option_to_list}
 use Rattle.tspkt.specs.declared.stamped.Stamped.{Stamped}
-use Rattle.mux.specs.declared.event.Event.{Event}
 use Rattle.mux.specs.declared.event.Event.TheVariants.{Took}
 use Rattle.mux.specs.History.{History, with_event}
 use Rattle.port.specs.Rings.{RingEndValue}
 use Rattle.station.specs.declared.inlet.Inlet.{Inlet}
-use Rattle.station.specs.Moving.{with_taken, TakesSome, TakesNext, EndsTaking, MovesIn}
+use Rattle.station.specs.Moving.{with_taken, TakesSome, TakesNext, MovesIn}
 use Rattle.station.specs.Ticking.{Moves, MovesAll}
 
 pub with_taken_behind : (i : ℕ) (items : List Stamped) (item : Stamped) (h : History) → with_taken i (items ++ item ∷ []) h ≡ with_event (with_taken i items h) (Took i item)

@@ -1,16 +1,13 @@
 -- A station of which nothing was taken or sent.
-use Rattle.std.proofs.Common.{ℕ, zero, suc, ◌≡◌, ◌<◌, ◌≤◌, List, [], ◌∷◌, ◌++◌, length, map, slice_get, false, true, Option, Some, None, refl, ap, sym, subst, ◌∙◌, arith, inl, inr}
+use Rattle.std.proofs.Common.{ℕ, zero, suc, ◌≡◌, List, [], ◌∷◌, length, map, slice_get, Some, refl, ap, subst, ◌∙◌, arith, inl, inr}
 use Rattle.std.proofs.lemmas.List.{length-map}
 use Rattle.std.proofs.lemmas.Option.{slice_get_within, slice_get_cases}
 use Rattle.tspkt.specs.declared.stamped.Stamped.{Stamped}
-use Rattle.request.specs.declared.stream.Stream.{Stream}
 use Rattle.plan.specs.Build.{PlanValue}
-use Rattle.mux.specs.declared.event.Event.{Event}
-use Rattle.mux.specs.declared.event.Event.TheVariants.{Full}
 use Rattle.mux.specs.History.{History, opened}
 use Rattle.port.specs.Rings.{PortValue, RingEndValue, IsNewRing, AreNewRings}
 use Rattle.station.specs.declared.inlet.Inlet.{Inlet}
-use Rattle.station.specs.Stations.{StationValue, FullsAreOfNext, IsLawfulInlet, IsLawfulStation}
+use Rattle.station.specs.Stations.{FullsAreOfNext, IsLawfulInlet, IsLawfulStation}
 use Rattle.station.specs.Opening.{new_inlet, IsFresh, IsOpened}
 
 no_fulls : (i : ℕ) (received : List Stamped) → FullsAreOfNext i received []

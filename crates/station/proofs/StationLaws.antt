@@ -1,8 +1,6 @@
 -- What a station keeps, from event to event.
-use Rattle.std.proofs.Common.{ℕ, zero, suc, ◌≡◌, ◌≢◌, ◌<◌, Bool, true, false, List, [], ◌∷◌, ◌++◌, length, map, set, slice_get, Option, Some, None, MatchBool, refl, ap, sym, subst, ◌∙◌, arith, inl, inr, ◌⊎◌, length-set}
+use Rattle.std.proofs.Common.{ℕ, zero, suc, ◌≡◌, ◌≢◌, Bool, true, false, List, [], ◌∷◌, length, set, slice_get, Some, MatchBool, refl, ap, sym, subst, ◌∙◌, inl, inr, length-set}
 use Rattle.std.proofs.lemmas.Bool.{cases_eq}
-use Rattle.std.proofs.lemmas.Option.{slice_get_within}
-use Rattle.mux.specs.declared.event.Event.{Event}
 use Rattle.mux.specs.declared.event.Event.TheVariants.{Slot}
 use Rattle.mux.specs.declared.content.Content.{Content}
 use Rattle.mux.specs.History.{History, Run, with_event}
@@ -12,8 +10,8 @@ use Rattle.mux.specs.declared.sending.Sending.TheVariants as sending
 use Rattle.port.specs.Rings.{RingEndValue}
 use Rattle.station.specs.declared.inlet.Inlet.{Inlet}
 use Rattle.station.specs.Stations.{IsLawfulInlet, IsLawfulStation, LeavesOthers, rings_of}
-use Rattle.station.specs.Moving.{TakesSome, MovesIn, EndsTaking, EndsBy, Ending, Nothing, Mark, HeldBack}
-use Rattle.station.specs.Ticking.{Moves, MovesAll}
+use Rattle.station.specs.Moving.{MovesIn, EndsBy, Ending, Nothing, Mark, HeldBack}
+use Rattle.station.specs.Ticking.{MovesAll}
 use Rattle.station.proofs.EventLaws.{slot_spares}
 use Rattle.station.proofs.InletLaws.{spared}
 

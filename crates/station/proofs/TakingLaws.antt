@@ -1,9 +1,8 @@
 -- One packet that is taken or held back.
-use Rattle.std.proofs.Common.{ℕ, ◌≡◌, Bool, true, false, List, [], ◌∷◌, ◌++◌, Option, Some, None, refl, ap, sym, subst, ◌∙◌, append-nil, is_some, ◌⊎◌, inl, inr}
+use Rattle.std.proofs.Common.{ℕ, ◌≡◌, true, false, [], ◌∷◌, ◌++◌, Option, Some, None, refl, ap, sym, subst, ◌∙◌, append-nil, is_some, ◌⊎◌, inl, inr}
 use Rattle.std.specs.Option.{option_to_list}
 use Rattle.std.proofs.lemmas.Option.{same_Some}
 use Rattle.tspkt.specs.declared.stamped.Stamped.{Stamped}
-use Rattle.mux.specs.declared.event.Event.{Event}
 use Rattle.mux.specs.declared.event.Event.TheVariants.{Took, Close}
 use Rattle.mux.specs.History.{History, with_event}
 use Rattle.port.specs.Rings.{RingEndValue}

@@ -4,3 +4,4 @@ pub mod Ticking
 pub mod Opening
 pub mod Settling
 pub mod Advancing
+pub mod Agreement

@@ -1,8 +1,7 @@
 -- How the packets of a ring come into the multiplex (profile).
-use Rattle.std.specs.Prelude.{◌≡◌, ◌⊎◌, ℕ, suc, List, [], ◌∷◌, ◌++◌, length, Bool, true, false, Some, None, MatchBool}
+use Rattle.std.specs.Prelude.{◌≡◌, ◌⊎◌, ℕ, List, [], ◌∷◌, ◌++◌, length, Bool, true, false, Some, None}
 use Rattle.std.specs.Option.{option_to_list}
 use Rattle.tspkt.specs.declared.stamped.Stamped.{Stamped}
-use Rattle.mux.specs.declared.event.Event.{Event}
 use Rattle.mux.specs.declared.event.Event.TheVariants.{Took, Close}
 use Rattle.mux.specs.History.{History, with_event}
 use Rattle.mux.specs.Lawful.{Full, refusal_of}

@@ -1,11 +1,11 @@
 -- A station of which nothing was taken or sent (profile).
-use Rattle.std.specs.Prelude.{◌≡◌, ℕ, List, [], length, map, false, None, Some}
+use Rattle.std.specs.Prelude.{◌≡◌, ℕ, List, [], length, false, None, Some}
 use Rattle.std.specs.List.{slice_get}
 use Rattle.plan.specs.Build.{PlanValue}
 use Rattle.mux.specs.History.{opened}
 use Rattle.port.specs.Rings.{PortValue, RingEndValue}
 use Rattle.station.specs.declared.inlet.Inlet.{Inlet}
-use Rattle.station.specs.Stations.{StationValue, rings_of}
+use Rattle.station.specs.Stations.{StationValue}
 
 -- an input of which nothing came
 abbrev pub new_inlet : RingEndValue → Inlet

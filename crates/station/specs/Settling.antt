@@ -1,5 +1,5 @@
 -- What became of the packets of a port (profile).
-use Rattle.std.specs.Prelude.{◌≡◌, ℕ, List, [], ◌++◌, length, true, Some}
+use Rattle.std.specs.Prelude.{◌≡◌, List, [], ◌++◌, length, true, Some}
 use Rattle.std.specs.List.{slice_get}
 use Rattle.std.specs.Option.{option_to_list}
 use Rattle.tspkt.specs.declared.stamped.Stamped.{Stamped}

@@ -1,9 +1,8 @@
 -- What a tick does (profile).
-use Rattle.std.specs.Prelude.{◌≡◌, ℕ, zero, suc, List, [], ◌∷◌, MatchBool}
+use Rattle.std.specs.Prelude.{◌≡◌, ℕ, suc, List, [], ◌∷◌, MatchBool}
 use Rattle.mux.specs.History.{History}
 use Rattle.mux.specs.Answers.{SendAnswers}
 use Rattle.mux.specs.declared.sending.Sending.{Sending}
-use Rattle.mux.specs.declared.sending.Sending.TheVariants.{Sent}
 use Rattle.station.specs.declared.inlet.Inlet.{Inlet}
 use Rattle.station.specs.Stations.{StationValue}
 use Rattle.station.specs.Moving.{MovesIn}

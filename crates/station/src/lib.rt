@@ -8,9 +8,11 @@
 
 mod advancing;
 mod inlet;
+mod laws;
 mod moving;
 mod settled;
 mod station;
 
+pub use laws::stations_agree;
 pub use settled::Settled;
 pub use station::Station;

@@ -24,7 +24,7 @@ use Rattle.serial.proofs.GivingLaws.{IsToldStop, same_bytes}
 use Rattle.serial.proofs.OutcomeLaws.{all_read}
 use Rattle.station.specs.Stations.{StationValue, IsLawfulInlet, IsRefusedForGood}
 use Rattle.threaded.proofs.CrewLaws.{IsServed, consumed}
-use Rattle.threaded.proofs.FaithfulLaws.{IsTakenOf, prefix_on, fulls_of_list}
+use Rattle.station.proofs.FaithfulLaws.{IsTakenOf, prefix_on, fulls_of_list}
 
 -- The station kept the input that the worker served, of a plan's input, and the worker had memory.
 pub record IsServedInput {R : Type 0} (remaining : R → Option (List ℕ)) (limit : ℕ) (p : PlanValue) (station : StationValue) (i : ℕ) (input : InputValue) (reader left : R) (report : Report) : Type 0 where

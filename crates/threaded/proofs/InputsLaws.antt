@@ -30,7 +30,7 @@ use Rattle.threaded.specs.Outcome.{IsInputSummary}
 use Rattle.threaded.specs.declared.ended.Ended.{Ended}
 use Rattle.threaded.proofs.ListLaws.{get_within}
 use Rattle.threaded.proofs.CrewLaws.{IsServed}
-use Rattle.threaded.proofs.FaithfulLaws.{IsTakenOf, faithful_to}
+use Rattle.station.proofs.FaithfulLaws.{IsTakenOf, faithful_to}
 use Rattle.threaded.proofs.GivenLaws.{IsServedInput, given_list, gives_of, taken_of}
 use Rattle.threaded.proofs.SummaryLaws.{told_stop, failure_told, input_summary, read_on}
 

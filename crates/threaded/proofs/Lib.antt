@@ -6,7 +6,6 @@ pub mod ReportLaws
 pub mod InputsLaws
 pub mod OutcomeLaws
 pub mod InputLaws
-pub mod FaithfulLaws
 pub mod GivenLaws
 pub mod SummaryLaws
 pub mod OutputLaws

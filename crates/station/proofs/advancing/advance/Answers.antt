@@ -1,4 +1,4 @@
-use Rattle.std.proofs.Common.{arith, ◌∙◌}
+use Rattle.std.proofs.Common.{arith}
 use Rattle.station.proofs.AdvancingLaws.{steps_on}
 use Rattle.station.proofs.advancing.advance.Goals as goal
 

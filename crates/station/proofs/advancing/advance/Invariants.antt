@@ -1,4 +1,4 @@
-use Rattle.std.proofs.Common.{ℕ, ◌≡◌, ◌+◌, ◌≤◌, vec_len, vec_capacity}
+use Rattle.std.proofs.Common.{◌≤◌, vec_len, vec_capacity}
 use Rattle.station.specs.Stations.{IsLawfulStation}
 use Rattle.station.specs.Advancing.{Steps}
 use Rattle.station.proofs.advancing.advance.Given as goal

@@ -1,11 +1,8 @@
-use Rattle.std.proofs.Common.{◌≡◌, Bool, true, false, Option, Some, None, refl, ap, sym, subst, ◌∙◌, inl, inr}
+use Rattle.std.proofs.Common.{◌≡◌, Bool, true, Some, None, refl, ap, sym, subst, ◌∙◌, inl, inr}
 use Rattle.std.specs.Option.{option_copied}
 use Rattle.std.proofs.lemmas.Bool.{false≢true}
-use Rattle.tspkt.specs.declared.stamped.Stamped.{Stamped}
-use Rattle.mux.specs.declared.event.Event.{Event}
 use Rattle.mux.specs.declared.event.Event.TheVariants.{Took, Close}
 use Rattle.mux.specs.declared.offered.Offered.{Offered}
-use Rattle.mux.specs.declared.offered.Offered.TheVariants as offered
 use Rattle.mux.specs.History.{History, with_event}
 use Rattle.mux.specs.Answers.{OfferAnswers}
 use Rattle.station.specs.declared.inlet.Inlet.{Inlet}

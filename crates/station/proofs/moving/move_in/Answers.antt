@@ -1,4 +1,4 @@
-use Rattle.std.proofs.Common.{◌≡◌, ◌+◌, length, arith, refl, ap, ◌∙◌, inl, inr}
+use Rattle.std.proofs.Common.{◌+◌, arith, refl, ap, ◌∙◌, inl, inr}
 use Rattle.station.proofs.InletLaws.{others_stay, others_others}
 use Rattle.station.proofs.MovingLaws.{takes_none, takes_on, moves_closed, moves_open}
 use Rattle.station.proofs.moving.move_in.Goals as goal

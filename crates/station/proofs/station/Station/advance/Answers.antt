@@ -1,5 +1,5 @@
-use Rattle.std.proofs.Common.{◌≡◌, ◌++◌, ap, sym, subst, ◌∙◌}
-use Rattle.mux.specs.History.{Run, History, emitted}
+use Rattle.std.proofs.Common.{◌++◌, ap, sym, ◌∙◌}
+use Rattle.mux.specs.History.{Run, emitted}
 use Rattle.station.specs.Stations.{StationValue, rings_of}
 use Rattle.station.proofs.AdvancingLaws.{steps_rings, steps_emit}
 use Rattle.station.proofs.station.Station.advance.Goals as goal

@@ -1,4 +1,4 @@
-use Rattle.std.proofs.Common.{◌≡◌, ap, sym, ◌∙◌}
+use Rattle.std.proofs.Common.{ap, sym, ◌∙◌}
 use Rattle.mux.specs.History.{Run}
 use Rattle.station.specs.Stations.{StationValue, rings_of}
 use Rattle.station.proofs.StationLaws.{lawful_sent, rings_stay}

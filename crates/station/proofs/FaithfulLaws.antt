@@ -1,5 +1,5 @@
 -- A lawful history takes its inputs' packets in their order, where what it took of each begins what the input gives.
-use Rattle.std.proofs.Common.{◌≡◌, ℕ, zero, suc, ◌<◌, ◌≤◌, Bool, true, false, ◌==◌, ◌||◌, if◌then◌else◌, eq-eqb, List, [], ◌∷◌, ◌++◌, length, Option, Some, None, refl, ap, ◌∙◌, sym, subst, inl, inr, ◌⊎◌, append_assoc, arith}
+use Rattle.std.proofs.Common.{◌≡◌, ℕ, zero, suc, ◌<◌, ◌≤◌, Bool, true, false, ◌==◌, ◌||◌, if◌then◌else◌, eq-eqb, List, [], ◌∷◌, ◌++◌, length, Some, refl, ap, ◌∙◌, sym, subst, inl, inr, append_assoc, arith}
 use Rattle.std.specs.List.{slice_get}
 use Rattle.std.proofs.lemmas.Bool.{cases_Bool, cases_lt, false≢true}
 use Rattle.std.proofs.lemmas.Bool.Decides.{nat_tests}
@@ -16,8 +16,8 @@ use Rattle.mux.specs.History.{taken, is_closed, is_mapped_to}
 use Rattle.mux.specs.Lawful.{IsLawful, Closed}
 use Rattle.mux.specs.Faithful.{PacketLists, IsNext, IsFaithful, IsPrefix}
 use Rattle.mux.proofs.Refusals.{is_closed_first}
-use Rattle.serial.proofs.FeedingLaws.{taken_other}
 use Rattle.station.specs.Stations.{FullsAreOfNext}
+use Rattle.station.proofs.EventLaws.{took_spares}
 
 -- a full queue was noted for the packet that came next
 abbrev FullsAreNext : PacketLists → List Event → Type 0
@@ -74,7 +74,7 @@ taken_within : (p : PlanValue) (h : List Event) (i : ℕ) → IsLawful p h → l
 taken_within p [] i lawful past = refl
 taken_within p (Took j item ∷ before) i lawful past =
     let inside = lawful.1.input in
-    taken_other j i (Took j item) before refl (λ same. absurd (omega (arith, inside, same, past))) ∙ taken_within p before i lawful.0 past
+    (took_spares j i before item (λ same. absurd (omega (arith, inside, same, past)))).taken_is ∙ taken_within p before i lawful.0 past
 taken_within p (Full j st ∷ before) i lawful past = taken_within p before i lawful.0 past
 taken_within p (Close j ∷ before) i lawful past = taken_within p before i lawful.0 past
 taken_within p (Slot c ∷ before) i lawful past = taken_within p before i lawful.0 past

@@ -1,0 +1,40 @@
+-- What stations send doesn't depend on how they go on: tick by tick, step by step, or both in turn (profile).
+use Rattle.std.specs.Prelude.{◌≡◌, ◌⊎◌, ℕ, true, Some}
+use Rattle.std.specs.List.{slice_get}
+use Rattle.tspkt.specs.declared.stamped.Stamped.{Stamped}
+use Rattle.plan.specs.Build.{PlanValue}
+use Rattle.mux.specs.History.{slots, emitted}
+use Rattle.mux.specs.Headline.{IsSound}
+use Rattle.mux.specs.Faithful.{PacketLists, IsPrefix}
+use Rattle.station.specs.declared.inlet.Inlet.{Inlet}
+use Rattle.station.specs.Stations.{StationValue, IsLawfulStation, IsRefusedForGood}
+
+-- what each station keeps, however it went on
+pub record IsStation (plan : PlanValue) (s : StationValue) : Type 0 where
+  pub plan_is : s.history.run.plan ≡ plan
+  pub sound : IsSound s.history
+  pub lawful : IsLawfulStation s.history s.inputs
+
+-- Through the rings come these packets, one list an input: what came out of an input's ring begins its list, and is all of it where
+-- the end mark came; and each of them can be taken in its turn.
+pub record IsGiven (lists : PacketLists) (s : StationValue) : Type 0 where
+  pub begins : (i : ℕ) (x : Inlet) → slice_get s.inputs i ≡ Some x → IsPrefix x.end.received (lists i)
+  pub whole : (i : ℕ) (x : Inlet) → slice_get s.inputs i ≡ Some x → x.end.is_ended ≡ true → lists i ≡ x.end.received
+  pub takeable : (i : ℕ) (x : Inlet) (item : Stamped)
+      → slice_get s.inputs i ≡ Some x → x.held ≡ Some item → IsRefusedForGood s.history i item → ⊥
+
+-- Of two stations of one plan that are given the same packets, what one sent begins what the other sent.
+abbrev pub StationsAgree : Type 0
+StationsAgree =
+    (plan : PlanValue) (lists : PacketLists) (a b : StationValue)
+    → IsStation plan a → IsGiven lists a → IsStation plan b → IsGiven lists b
+    → IsPrefix (emitted plan a.history.events) (emitted plan b.history.events)
+    ⊎ IsPrefix (emitted plan b.history.events) (emitted plan a.history.events)
+
+-- And where they sent as many slots they sent the same packets.
+abbrev pub SlotsAgree : Type 0
+SlotsAgree =
+    (plan : PlanValue) (lists : PacketLists) (a b : StationValue)
+    → IsStation plan a → IsGiven lists a → IsStation plan b → IsGiven lists b
+    → slots a.history.events ≡ slots b.history.events
+    → emitted plan a.history.events ≡ emitted plan b.history.events
