@@ -2,7 +2,7 @@
 
 ghost use Rattle.std.specs.Prelude.{◌≤◌, length, IfOk};
 ghost use Rattle.std.specs.List.{All};
-ghost use Rattle.tables.specs.Header.{IsHeader, IsSingleHeader};
+ghost use Rattle.tables.specs.Header.{IsHeader};
 ghost use Rattle.tables.specs.Pat.{IsPatRow};
 ghost use Rattle.tables.specs.Sdt.{IsSdtRow};
 
@@ -94,71 +94,5 @@ fn service_descriptions(rt: HostRuntime) -> Result<(), Fail> {
     let first = sdt_row(alloc, 0xFFFF, &[1, 0, 0, 0])?;
     let sdt = Sdt::new(header(), 2, sdt_rows(alloc, first)?);
     assert_eq!(rt; sdt.write(alloc).err(), Some(WriteFault::TooLarge));
-    Ok(())
-}
-
-fn single_header() -> Header
-    ensures { IsSingleHeader result }
-{
-    Header {
-        table_id_extension: 1,
-        version_number: 31,
-        current_next_indicator: true,
-        section_number: 0,
-        last_section_number: 0,
-    }
-}
-
-/// Four descriptors: 773 bytes, and the body of the last one.
-fn long_loop(alloc: Global, last: usize) -> Result<DescriptorLoop, AllocError> {
-    let body = [0; 255];
-    let mut descriptors = DescriptorLoop::new(alloc);
-    for _ in 0..3 {
-        descriptors.push(0xFE, &body)?;
-    }
-    descriptors.push(0xFE, &body[..last.min(255)])?;
-    Ok(descriptors)
-}
-
-#[test]
-fn program_maps(rt: HostRuntime) -> Result<(), Fail> {
-    let alloc = rt.alloc();
-    let pmt = Pmt::new(
-        single_header(),
-        0x1FFF,
-        long_loop(alloc, 235)?,
-        Vec::new(alloc),
-    );
-    let bytes = pmt.write(alloc)?;
-    assert_eq!(rt; bytes.len(), 1024);
-    let back = Pmt::read(alloc, &bytes)?;
-    assert_eq!(rt; back.pcr_pid(), 0x1FFF);
-    assert_eq!(rt; back.program_info().bytes(), pmt.program_info().bytes());
-
-    let pmt = Pmt::new(
-        single_header(),
-        0x1FFF,
-        long_loop(alloc, 236)?,
-        Vec::new(alloc),
-    );
-    assert_eq!(rt; pmt.write(alloc).err(), Some(WriteFault::TooLarge));
-    Ok(())
-}
-
-#[test]
-fn network_informations(rt: HostRuntime) -> Result<(), Fail> {
-    let alloc = rt.alloc();
-    let nit = Nit::new(header(), long_loop(alloc, 235)?, Vec::new(alloc));
-    let bytes = nit.write(alloc)?;
-    assert_eq!(rt; bytes.len(), 1024);
-    let back = Nit::read(alloc, &bytes)?;
-    assert!(rt; back.rows().is_empty());
-    assert_eq!(rt;
-        back.network_descriptors().bytes(),
-        nit.network_descriptors().bytes()
-    );
-
-    let nit = Nit::new(header(), long_loop(alloc, 236)?, Vec::new(alloc));
-    assert_eq!(rt; nit.write(alloc).err(), Some(WriteFault::TooLarge));
     Ok(())
 }
