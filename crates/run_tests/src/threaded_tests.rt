@@ -6,6 +6,8 @@ mod meeting;
 mod runs;
 mod shared_station;
 mod stops;
+mod turn_gates;
+mod turns;
 
 use crate::threaded_tests::gates::OpenGate;
 use crate::threaded_tests::runs::{Ran, readers, run_gated, run_in_one};
@@ -15,7 +17,6 @@ use plan::Plan;
 use reading::Stop;
 use serial::RunFault;
 use std::alloc::Global;
-use std::process::Abort;
 use std::sync::Wait;
 use std::test::Fail;
 use std::thread::Threads;
@@ -73,41 +74,6 @@ fn threads_write_the_same_through_rings_of_one_packet(rt: HostRuntime) -> Result
     assert_eq!(rt; bytes.as_slice(), serial_bytes.as_slice());
     assert_eq!(rt; summary.faults, 0);
     Ok(())
-}
-
-/// Fifty runs in turn, through queues and rings of so many packets, write what a run in one thread writes.
-fn run_fifty<T: Threads + Wait + Clock + Abort + Copy + Send + Drop + 'static>(
-    alloc: Global,
-    rt: T,
-    room: usize,
-) -> Result<()> {
-    let plan = plan_with_rings(alloc, room, room, &[0, 0])?;
-    let (serial_bytes, _) = run_in_one(alloc, plan.copy(alloc)?)?;
-    for run in 0..50 {
-        let (bytes, _) = run_open(alloc, rt, plan.copy(alloc)?, false, usize::MAX)?;
-        assert_eq!(rt; bytes.as_slice(), serial_bytes.as_slice(), "run {run}");
-    }
-    Ok(())
-}
-
-#[test]
-fn each_run_through_rings_of_one_packet_writes_the_same(rt: HostRuntime) -> Result<(), Fail> {
-    Ok(run_fifty(rt.alloc(), rt, 1)?)
-}
-
-#[test]
-fn each_run_through_rings_of_two_packets_writes_the_same(rt: HostRuntime) -> Result<(), Fail> {
-    Ok(run_fifty(rt.alloc(), rt, 2)?)
-}
-
-#[test]
-fn each_run_through_rings_of_four_packets_writes_the_same(rt: HostRuntime) -> Result<(), Fail> {
-    Ok(run_fifty(rt.alloc(), rt, 4)?)
-}
-
-#[test]
-fn each_run_through_rings_of_all_packets_writes_the_same(rt: HostRuntime) -> Result<(), Fail> {
-    Ok(run_fifty(rt.alloc(), rt, 64)?)
 }
 
 #[test]

@@ -1,6 +1,6 @@
 //! What a run in threads writes, beside one in one thread.
 
-ghost use Rattle.threaded.specs.EqualOutput.{ThreadsWriteTheSame, ThreadsAgree};
+ghost use Rattle.threaded.specs.EqualOutput.{ThreadsWriteTheSame, ThreadsAgree, BytesAreOfEveryHistory};
 
 /// A run in threads and one in one thread, of one plan, for as many slots, over equal known bytes write equal bytes, where
 /// nothing but their end stopped an input.
@@ -11,4 +11,10 @@ pub fn threads_write_the_same()
 /// So do two runs in threads, however their threads ran.
 pub fn threads_agree()
     ensures { ThreadsAgree }
+{}
+
+/// Such a run writes the packets of every lawful history that is faithful to the inputs' packets and finished at the run's
+/// slots.
+pub fn bytes_are_of_every_history()
+    ensures { BytesAreOfEveryHistory }
 {}

@@ -1,15 +1,16 @@
-//! A writer over memory, which fails at a call that a test chooses.
+//! A writer over memory, which fails at a write that a test chooses, and at each flush.
 
 use std::io;
 use std::io::{ErrorKind, Write};
 
-/// Keeps bytes, at most so many a write. The write with the number `fails_at`, from 0, takes none.
+/// Keeps bytes, at most so many a write. The write with the number `fails_at`, from 0, takes none, and no flush succeeds.
 #[derive(Drop)]
 pub struct TestWriter {
     pub bytes: Vec<u8>,
     pub step: usize,
     pub fails_at: usize,
     pub calls: usize,
+    pub flushes: usize,
 }
 
 impl TestWriter {
@@ -20,6 +21,7 @@ impl TestWriter {
             step: usize::MAX,
             fails_at: usize::MAX,
             calls: 0,
+            flushes: 0,
         }
     }
 }
@@ -39,6 +41,7 @@ impl Write for TestWriter {
     }
 
     fn flush(&mut self) -> io::Result<()> {
-        Ok(())
+        self.flushes = self.flushes.saturating_add(1);
+        Err(io::Error::from(ErrorKind::Other))
     }
 }

@@ -7,7 +7,7 @@ use std::alloc::Global;
 use std::test::Fail;
 
 /// The number of bytes that go out of so many packets, and whether all calls were Ok, where at most so many bytes are
-/// taken a write, and the write with this number takes none.
+/// taken a write, and the write with this number takes none. The device is flushed by no call.
 fn written(
     alloc: Global,
     packets: usize,
@@ -27,7 +27,11 @@ fn written(
         is_good = is_good && writer.put(&packet, &mut sink).is_ok();
     }
     is_good = is_good && writer.flush(&mut sink).is_ok();
-    Ok((sink.into_inner().bytes.len(), is_good))
+    let device = sink.into_inner();
+    if device.flushes > 0 {
+        return Err(Fail::from("the device was flushed"));
+    }
+    Ok((device.bytes.len(), is_good))
 }
 
 #[test]

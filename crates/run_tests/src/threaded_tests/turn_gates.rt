@@ -1,0 +1,52 @@
+//! Gates that hold their inputs back, so that the threads of a run come in other turns.
+
+use port::{Gate, Point};
+use rand_core::utils::NextWord;
+use rand_pcg::Pcg32;
+use std::thread;
+
+/// Lets other threads go first, so often.
+fn yield_often(turns: u32) {
+    for _ in 0..turns {
+        thread::yield_now();
+    }
+}
+
+/// A gate that lets other threads go first so often at each of its points. It never says no.
+#[derive(Drop)]
+pub struct YieldGate {
+    pub turns: u32,
+}
+
+impl Gate for YieldGate {
+    ghost stops = { λ g. 0 };
+
+    fn pass(&mut self, _at: Point) -> bool {
+        yield_often(self.turns);
+        true
+    }
+}
+
+/// The same with another number at each point, from 0 to 7: the next one of a generator.
+#[derive(Drop)]
+pub struct RandomGate {
+    generator: Pcg32,
+}
+
+impl RandomGate {
+    /// One whose generator starts with this state and stream.
+    pub fn new(state: u64, stream: u64) -> RandomGate {
+        RandomGate {
+            generator: Pcg32::new(state, stream),
+        }
+    }
+}
+
+impl Gate for RandomGate {
+    ghost stops = { λ g. 0 };
+
+    fn pass(&mut self, _at: Point) -> bool {
+        yield_often(self.generator.next_word() % 8);
+        true
+    }
+}

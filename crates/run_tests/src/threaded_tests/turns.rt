@@ -1,0 +1,101 @@
+//! Runs whose threads come in other turns: each writes what the run in one thread writes.
+
+use crate::threaded_tests::runs::{readers, run_gated, run_in_one};
+use crate::threaded_tests::turn_gates::{RandomGate, YieldGate};
+use anyhow::Result;
+use example::plan_with_rings;
+use plan::Plan;
+use port::Gate;
+use std::alloc::Global;
+use std::process::Abort;
+use std::sync::Wait;
+use std::test::Fail;
+use std::thread::Threads;
+use std::time::Clock;
+
+/// How often a gate lets other threads go first.
+const TURNS: [u32; 3] = [0, 1, 7];
+
+/// How many runs go through rings of one size.
+const RUNS: u64 = 250;
+
+/// The bytes that a run of two inputs with these gates writes, which ends well.
+fn written<
+    T: Threads + Wait + Clock + Copy + Send + Drop + 'static,
+    G: Gate + Send + Drop + 'static,
+>(alloc: Global, rt: T, plan: &Plan, gates: Vec<G>) -> Result<Vec<u8>> {
+    let plan = plan.copy(alloc)?;
+    let readers = readers(alloc, false)?;
+    let (bytes, result) = run_gated(alloc, rt, plan, 1_000, readers, gates, usize::MAX)?;
+    let _ = result?;
+    Ok(bytes)
+}
+
+/// Each pair of gates, through queues and rings of so many packets.
+fn run_pairs<T: Threads + Wait + Clock + Abort + Copy + Send + Drop + 'static>(
+    alloc: Global,
+    rt: T,
+    room: usize,
+) -> Result<()> {
+    let plan = plan_with_rings(alloc, room, room, &[0, 0])?;
+    let (serial_bytes, _) = run_in_one(alloc, plan.copy(alloc)?)?;
+    // Four table packets and ten of the inputs.
+    assert_eq!(rt; serial_bytes.len(), 2_632);
+    for pair in 0..9 {
+        let (first, second) = (TURNS[pair / 3], TURNS[pair % 3]);
+        let gates = vec![in alloc; YieldGate { turns: first }, YieldGate { turns: second }]?;
+        let bytes = written(alloc, rt, &plan, gates)?;
+        assert_eq!(rt; bytes.as_slice(), serial_bytes.as_slice(), "pair {pair}");
+    }
+    Ok(())
+}
+
+#[test]
+fn each_pair_of_gates_through_rings_of_one_packet_writes_the_same(
+    rt: HostRuntime,
+) -> Result<(), Fail> {
+    Ok(run_pairs(rt.alloc(), rt, 1)?)
+}
+
+#[test]
+fn each_pair_of_gates_through_rings_of_all_packets_writes_the_same(
+    rt: HostRuntime,
+) -> Result<(), Fail> {
+    Ok(run_pairs(rt.alloc(), rt, 64)?)
+}
+
+/// So many runs with random gates, through queues and rings of so many packets.
+fn run_random<T: Threads + Wait + Clock + Abort + Copy + Send + Drop + 'static>(
+    alloc: Global,
+    rt: T,
+    room: usize,
+) -> Result<()> {
+    let plan = plan_with_rings(alloc, room, room, &[0, 0])?;
+    let (serial_bytes, _) = run_in_one(alloc, plan.copy(alloc)?)?;
+    for run in 0..RUNS {
+        let gates = vec![in alloc; RandomGate::new(run, 0), RandomGate::new(run, 1)]?;
+        let bytes = written(alloc, rt, &plan, gates)?;
+        assert_eq!(rt; bytes.as_slice(), serial_bytes.as_slice(), "run {run}");
+    }
+    Ok(())
+}
+
+#[test]
+fn each_run_through_rings_of_one_packet_writes_the_same(rt: HostRuntime) -> Result<(), Fail> {
+    Ok(run_random(rt.alloc(), rt, 1)?)
+}
+
+#[test]
+fn each_run_through_rings_of_two_packets_writes_the_same(rt: HostRuntime) -> Result<(), Fail> {
+    Ok(run_random(rt.alloc(), rt, 2)?)
+}
+
+#[test]
+fn each_run_through_rings_of_four_packets_writes_the_same(rt: HostRuntime) -> Result<(), Fail> {
+    Ok(run_random(rt.alloc(), rt, 4)?)
+}
+
+#[test]
+fn each_run_through_rings_of_all_packets_writes_the_same(rt: HostRuntime) -> Result<(), Fail> {
+    Ok(run_random(rt.alloc(), rt, 64)?)
+}
