@@ -5,7 +5,7 @@ ghost use Rattle.words.specs.Ranges.{IsAllowedLength};
 
 use crate::commands::end;
 use crate::printing::{print_delays, print_end, print_summary};
-use crate::telling::tell_overfull;
+use crate::telling::{print_faults, tell_overfull};
 use crate::whole_run::run_plan;
 use files::{Files, OutputFile, open_output};
 use input_files::{ReadPlan, open_again, read_plan, stopped};
@@ -105,6 +105,7 @@ where
             let told = tell_run(&ran, is_standard, asked.delays, out, err);
             let status = end(told.and(named), out, err);
             let _ = print_end(&ran.summary, &ran.readers, err);
+            let _ = print_faults(&ran.summary, err);
             tell_overfull(&ran.plan, &ran.summary, asked, status, err)
         }
         Err(fault) => end(Err(fault), out, err),

@@ -5,6 +5,7 @@ use advice::{
     is_filled, late_by, left_rate, longest_period, pat_interval, run_seconds, sdt_interval,
     shortest_period, taken_rate,
 };
+use analyse::FaultKind;
 use mux::Counts;
 use plan::Plan;
 use serial::Summary;
@@ -26,6 +27,33 @@ pub(crate) fn print_rhythm<E: Write>(plan: &Plan, err: &mut E) -> io::Result<()>
     )?;
     writeln!(err, "period: may be {shortest} to {longest} slots")?;
     writeln!(err, "run: 1000000 slots take {seconds} s")
+}
+
+/// The kinds of faults, by their numbers.
+const KINDS: [FaultKind; 6] = [
+    FaultKind::TsSyncLoss,
+    FaultKind::SyncByteError,
+    FaultKind::PatError2,
+    FaultKind::ContinuityCountError,
+    FaultKind::PmtError2,
+    FaultKind::PidError,
+];
+
+/// Prints the faults that were told of the output of a run, where there are some: how many there are of each kind, and the first
+/// ten.
+pub(crate) fn print_faults<E: Write>(summary: &Summary, err: &mut E) -> io::Result<()> {
+    let counts = summary.fault_report.counts();
+    for kind in KINDS {
+        let count = counts.of(kind);
+        if count > 0 {
+            let name = kind.name();
+            writeln!(err, "faults: {count} of {kind} {name}")?;
+        }
+    }
+    for fault in summary.fault_report.first() {
+        writeln!(err, "faults: {fault}")?;
+    }
+    Ok(())
 }
 
 /// Whether a stream of a run waited more than a second, or filled its queue.

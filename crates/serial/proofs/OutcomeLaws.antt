@@ -25,6 +25,8 @@ use Rattle.mux.specs.Peaks.{IsPeak}
 use Rattle.mux.specs.Headline.{IsSound}
 use Rattle.mux.proofs.Emitted.{length-emitted}
 use Rattle.analyse.specs.Faults.{faults}
+use Rattle.fault_report.specs.ReportValue.{ReportValue}
+use Rattle.fault_report.specs.FaultReport.{IsReportOf}
 use Rattle.reading.specs.Failures.{FailsOnce}
 use Rattle.reading.specs.Takeable.{OriginValue, takeable, origin_of, CountsItems, EndsAtTaken}
 use Rattle.reading.specs.PacketReading.{BeginsTakeable, CountsTold}
@@ -398,13 +400,14 @@ summary_input remaining limit p h starts inputs summaries sources fed limited ar
 
 pub has_run : {R : Type 0} (remaining : R → Option (List ℕ)) (run : Run) (limit : ℕ) (starts : List (Option (List ℕ))) (r : SerialRun R) (before after : Option (List ℕ)) (s : Summary) (sources : List R)
     → run.limit ≤ 1099511627776 → IsRunning remaining run limit starts r → IsOver run r.mux.events → IsSound r.mux → Appends before after (bytes_of (emitted run.plan r.mux.events))
-    → AreReported r.mux.run.plan r.mux.events r.inputs.items s.inputs.items sources → ArePeaks r.mux.run.plan r.mux.events s.streams.items → IsCounts r.mux.events s.counts → s.faults ≡ r.output.faults
+    → AreReported r.mux.run.plan r.mux.events r.inputs.items s.inputs.items sources → ArePeaks r.mux.run.plan r.mux.events s.streams.items → IsCounts r.mux.events s.counts → s.faults ≡ r.output.faults → s.fault_report ≡ r.output.report
     → HasRun (record { run = run; events = r.mux.events }) limit starts (map remaining sources) before after s
-has_run remaining run limit starts r before after s sources few is over sound written reported peaks counts told =
+has_run remaining run limit starts r before after s sources few is over sound written reported peaks counts told same_report =
     let h = r.mux.events in
     let S : Run → Type 0 = λ v. IsSound (record { run = v; events = h }) in
     let A : Run → Type 0 = λ v. AreReported v.plan h r.inputs.items s.inputs.items sources in
     let K : Run → Type 0 = λ v. ArePeaks v.plan h s.streams.items in
+    let F : ReportValue → Type 0 = λ v. IsReportOf v (faults run.plan.request.rate run.plan.request.watch (emitted run.plan h)) in
     let sound_run = subst S is.run_is sound in
     let are = subst A is.run_is reported in
     record {
@@ -421,6 +424,7 @@ has_run remaining run limit starts r before after s sources few is over sound wr
         streams = subst K is.run_is peaks;
         counts = counts;
         faults = faults_exact run h s.faults sound_run.run.within few (told ∙ is.analysed.faults_are);
+        reported = subst F (sym same_report) is.analysed.reported;
       };
       read = all_read_on remaining limit run.plan h starts r.inputs.items s.inputs.items sources is.fed is.limited are;
     }

@@ -15,7 +15,9 @@ use Rattle.mux.specs.declared.event.Event.TheVariants.{Took, Full, Close, Slot}
 use Rattle.mux.specs.declared.content.Content.{Content}
 use Rattle.mux.specs.History.{Run, History, with_event, slots, emitted, packet_behind, taken, is_closed, full_noted}
 use Rattle.mux.specs.declared.slot.Slot.TheVariants.{Sent}
-use Rattle.mux.specs.Answers.{SlotAnswers, IsLeastUnready}
+use Rattle.mux.specs.declared.sending.Sending.{Sending}
+use Rattle.mux.specs.declared.sending.Sending.TheVariants as sending
+use Rattle.mux.specs.Answers.{SlotAnswers, SendAnswers, IsLeastUnready}
 use Rattle.tspkt.specs.declared.stamped.Stamped.{Stamped}
 use Rattle.serial.specs.Feeding.{HasGiven, Feeds, AreLimited, IsOfInput, turns_left}
 use Rattle.serial.specs.Giving.{TakesInOrder, KeepOrder}
@@ -347,6 +349,14 @@ pub sent_begun : (p : PlanValue) (old new : History) (packet : List ℕ) (before
     → Sends before a (bytes_of (emitted p old.events)) waiting → SendsBeginning a b (waiting ++ packet) → SendsBeginning before b (bytes_of (emitted p new.events))
 sent_begun p old new packet before a b waiting plan answer first second = (second.0, written_sent p old new packet before a b waiting second.0 plan answer first second.1)
 
+-- where no slot is sent nothing changes
+pub unsent_stays : (old : History) (answer : Sending) (new : History) → (answer ≡ sending.Sent → ⊥) → SendAnswers old answer new → new ≡ old
+unsent_stays old sending.Sent new unsent is = absurd (unsent refl)
+unsent_stays old (sending.NotReady i) new unsent is = is.0
+unsent_stays old sending.Done new unsent is = is.0
+unsent_stays old sending.RunFull new unsent is = is.0
+unsent_stays old sending.Memory new unsent is = is.0
+
 -- The buffer is written at the end.
 
 pub runs_flushed : {R : Type 0} (remaining : R → Option (List ℕ)) (run : Run) (limit : ℕ) (starts : List (Option (List ℕ))) (old : SerialRun R) (output : SlotWriter)
@@ -362,7 +372,7 @@ runs_flushed remaining run limit starts old output is same =
       piece = is.piece;
       in_order = is.in_order;
       needed = is.needed;
-      analysed = subst O (sym same) (record { seen = a.seen; rate_is = a.rate_is; period_is = a.period_is; faults_are = a.faults_are });
+      analysed = subst O (sym same) (record { seen = a.seen; rate_is = a.rate_is; period_is = a.period_is; faults_are = a.faults_are; reported = a.reported });
     }
 
 pub all_sent : (before a b : Option (List ℕ)) (given waiting : List ℕ) → Sends before a given waiting → Appends a b waiting → Appends before b given

@@ -8,6 +8,7 @@ use Rattle.tspkt.specs.declared.item.Item.{Item}
 use Rattle.tspkt.specs.declared.stamped.Stamped.{Stamped}
 use Rattle.request.specs.Request.{InputValue}
 use Rattle.analyse.specs.Faults.{faults}
+use Rattle.fault_report.specs.FaultReport.{IsReportOf}
 use Rattle.plan.specs.Build.{PlanValue}
 use Rattle.mux.specs.declared.event.Event.{Event}
 use Rattle.mux.specs.History.{History, taken, is_closed, emitted}
@@ -81,6 +82,7 @@ pub record IsSummary (limit : ℕ) (p : PlanValue) (h : List Event) (starts : Li
       → IsInputSummary limit p h i input start x
   pub streams : ArePeaks p h s.streams.items
   pub counts : IsCounts h s.counts
+  pub reported : IsReportOf s.fault_report (faults p.request.rate p.request.watch (emitted p h))
   pub faults : s.faults ≡ length (faults p.request.rate p.request.watch (emitted p h))
 
 -- The input's source was read on, from the bytes that it had to give at first to those that are left. What was taken of the

@@ -5,6 +5,7 @@ ghost use Rattle.mux.specs.Totals.{IsCounts};
 ghost use Rattle.serial.specs.Ending.{AreReported, ArePeaks};
 
 use crate::serial_input::SerialInput;
+use crate::slot_writer::SlotWriter;
 use crate::summary::{InputSummary, Summary};
 use mux::{Mux, Peak};
 use reading::Source;
@@ -44,18 +45,19 @@ pub(crate) fn end_streams(alloc: Global, mux: &Mux, streams: usize) -> Result<Ve
     Ok(peaks)
 }
 
-/// What became of a run, with so many faults told, and its readers. An input that wasn't closed is left.
+/// What became of a run whose packets went out by `output`, and its readers. An input that wasn't closed is left.
 pub(crate) fn end_run<R: Source + Drop>(
     alloc: Global,
     mux: &Mux,
     inputs: Vec<SerialInput<R>>,
-    faults: u64,
+    output: SlotWriter,
 ) -> Result<(Summary, Vec<R>), AllocError>
     requires { length inputs.items ≡ length mux.now.run.plan.request.inputs }
     ensures inputs { IfOk result (λ done. AreReported mux.now.run.plan mux.now.events inputs.items done.0.inputs.items done.1.items) }
     ensures streams { IfOk result (λ done. ArePeaks mux.now.run.plan mux.now.events done.0.streams.items) }
     ensures counts { IfOk result (λ done. IsCounts mux.now.events done.0.counts) }
-    ensures faults { IfOk result (λ done. done.0.faults ≡ faults) }
+    ensures faults { IfOk result (λ done. done.0.faults ≡ output.faults) }
+    ensures report { IfOk result (λ done. done.0.fault_report ≡ output.report) }
 {
     let streams = end_streams(alloc, mux, mux.plan().streams().len())?;
     let (inputs, readers) = end_inputs(alloc, mux, inputs)?;
@@ -63,7 +65,8 @@ pub(crate) fn end_run<R: Source + Drop>(
         inputs,
         streams,
         counts: mux.counts(),
-        faults,
+        faults: output.faults(),
+        fault_report: output.into_report(),
     };
     Ok((summary, readers))
 }

@@ -81,6 +81,7 @@ impl<R: Source + Drop> SerialRun<R> {
         ensures streams { IfOk result (λ done. ArePeaks self.mux.run.plan self.mux.events done.0.streams.items) }
         ensures counts { IfOk result (λ done. IsCounts self.mux.events done.0.counts) }
         ensures faults { IfOk result (λ done. done.0.faults ≡ self.output.faults) }
+        ensures report { IfOk result (λ done. done.0.fault_report ≡ self.output.report) }
     {
         let SerialRun {
             mux,
@@ -88,7 +89,7 @@ impl<R: Source + Drop> SerialRun<R> {
             output,
             ..
         } = self;
-        end_run(alloc, &mux, inputs, output.faults())
+        end_run(alloc, &mux, inputs, output)
     }
 
     /// Sends slots until nothing is left to send or the run has all its slots, and writes what is in the buffer.

@@ -4,6 +4,7 @@ use crate::packet_writer::PacketWriter;
 use crate::run_fault::RunFault;
 use crate::sink::Sink;
 use analyse::{Analyser, Fault};
+use fault_report::FaultReport;
 use std::alloc::{AllocError, Global};
 use tspkt::Packet;
 
@@ -15,6 +16,8 @@ pub struct SlotWriter {
     /// The faults of the packet that was analysed last.
     told: Vec<Fault>,
     faults: u64,
+    /// The first of all faults, and how many there are of each kind.
+    report: FaultReport,
 }
 
 impl SlotWriter {
@@ -35,6 +38,7 @@ impl SlotWriter {
             analyser: Analyser::new(alloc, rate, period),
             told: Vec::new(alloc),
             faults: 0,
+            report: FaultReport::new(),
         })
     }
 
@@ -45,8 +49,15 @@ impl SlotWriter {
         self.faults
     }
 
-    /// Analyses a packet and writes it. At want of memory the packet isn't taken: nothing is written, and what waits and the
-    /// count of faults are as they were; each later packet is refused for want of memory too. At a failed write the packet was
+    /// What is reported of the faults that were told.
+    pub fn into_report(self) -> FaultReport
+        ensures { result ≡ self.report }
+    {
+        self.report
+    }
+
+    /// Analyses a packet and writes it. At want of memory the packet isn't taken: nothing is written, and what waits and what is
+    /// said of the faults are as they were; each later packet is refused for want of memory too. At a failed write the packet was
     /// analysed, and nothing waits.
     pub fn put<W: Sink>(&mut self, packet: &Packet, sink: &mut W) -> Result<(), RunFault>
         ensures analysed { OnOk result ((rate period : ℕ) (slots : List (List ℕ))
@@ -61,7 +72,7 @@ impl SlotWriter {
         ensures refused { result ≡ Err RunFault.Memory → self.new.analyser.is_refused ≡ true }
         ensures still_refused { self.old.analyser.is_refused ≡ true → result ≡ Err RunFault.Memory }
         ensures stays { result ≡ Err RunFault.Memory
-            → (self.new.writer ≡ self.old.writer) × (self.new.faults ≡ self.old.faults) }
+            → (self.new.writer ≡ self.old.writer) × (self.new.faults ≡ self.old.faults) × (self.new.report ≡ self.old.report) }
         ensures failed_waiting { result ≡ Err RunFault.Write → self.new.writer ≡ [] }
         ensures failed_analysed { result ≡ Err RunFault.Write → (rate period : ℕ) (slots : List (List ℕ))
             → HasAnalysed self.old rate period slots
@@ -76,7 +87,8 @@ impl SlotWriter {
         }
     }
 
-    /// Analyses a packet. At an `Err`, which is want of memory, no fault is counted, and each later packet is refused too.
+    /// Analyses a packet. At an `Err`, which is want of memory, no fault is counted or reported, and each later packet is refused
+    /// too.
     fn analyse(&mut self, packet: &Packet) -> Result<(), AllocError>
         ensures analysed { OnOk result ((rate period : ℕ) (slots : List (List ℕ))
             → HasAnalysed self.old rate period slots
@@ -84,12 +96,13 @@ impl SlotWriter {
         ensures writer { self.new.writer ≡ self.old.writer }
         ensures refused { OnErr result (self.new.analyser.is_refused ≡ true) }
         ensures still_refused { self.old.analyser.is_refused ≡ true → IsErr result }
-        ensures stays { OnErr result (self.new.faults ≡ self.old.faults) }
+        ensures stays { OnErr result ((self.new.faults ≡ self.old.faults) × (self.new.report ≡ self.old.report)) }
     {
         self.told.clear();
         self.analyser.push_packet(packet, &mut self.told)?;
         let told = self.told.as_slice().len() as u64;
         self.faults = self.faults.saturating_add(told);
+        self.report.add_all(self.told.as_slice());
         Ok(())
     }
 

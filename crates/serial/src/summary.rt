@@ -1,5 +1,6 @@
 //! What became of a run.
 
+use fault_report::FaultReport;
 use mux::{Counts, Peak, Totals};
 use reading::Report;
 
@@ -23,4 +24,6 @@ pub struct Summary {
     pub counts: Counts,
     /// How many faults the analyser told of the output.
     pub faults: u64,
+    /// The first of these faults, and how many there are of each kind.
+    pub fault_report: FaultReport,
 }

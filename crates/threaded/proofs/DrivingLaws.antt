@@ -161,7 +161,7 @@ same_either (Err t) x y a b u v driven broken = broken.same
 analysed_flushed : (h : History) (b c : SlotWriter) → c ≡ record b { writer = [] } → HasAnalysedAll b h → HasAnalysedAll c h
 analysed_flushed h b c e is =
     let P : SlotWriter → Type 0 = λ o. HasAnalysedAll o h in
-    subst P (sym e) (record { seen = is.seen; rate_is = is.rate_is; period_is = is.period_is; faults_are = is.faults_are })
+    subst P (sym e) (record { seen = is.seen; rate_is = is.rate_is; period_is = is.period_is; faults_are = is.faults_are; reported = is.reported })
 
 pub driven_flushed : (x y : StationValue) (a b c : SlotWriter) (u v w : Option (List ℕ)) → GoesOn x y a b u v → IsOver y.history.run y.history.events → c ≡ record b { writer = [] } → Appends v w b.writer
     → IsDriven x y a c u w

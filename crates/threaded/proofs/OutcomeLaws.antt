@@ -15,6 +15,8 @@ use Rattle.mux.specs.History.{Run, History, slots, emitted}
 use Rattle.mux.specs.Plans.{IsMultiplexPlan}
 use Rattle.mux.proofs.Emitted.{length-emitted}
 use Rattle.analyse.specs.Faults.{faults}
+use Rattle.fault_report.specs.ReportValue.{ReportValue}
+use Rattle.fault_report.specs.FaultReport.{IsReportOf}
 use Rattle.port.specs.Rings.{RingId, PortValue}
 use Rattle.worker.specs.declared.worker.Worker.{Worker}
 use Rattle.station.specs.Stations.{StationValue, rings_of}
@@ -257,9 +259,9 @@ faults_exact run h told within few is =
 has_run : (p : PlanValue) (slots limit : ℕ) (opened station : StationValue) (ports : List PortValue) (a b : SlotWriter) (starts lefts : List (Option (List ℕ))) (before after : Option (List ℕ)) (s : Summary)
     → slots ≤ 1099511627776 → IsOpened p slots opened ports → a.writer ≡ [] → HasAnalysed a p.request.rate p.request.watch [] → IsDriven opened station a b before after → IsSound station.history
     → AreBegun p station.history.events starts → IsToldOfInputs limit p station.history.events starts lefts s.inputs.items
-    → length s.inputs.items ≡ length p.request.inputs → ArePeaks station.history.run.plan station.history.events s.streams.items → IsCounts station.history.events s.counts → s.faults ≡ b.faults
+    → length s.inputs.items ≡ length p.request.inputs → ArePeaks station.history.run.plan station.history.events s.streams.items → IsCounts station.history.events s.counts → s.faults ≡ b.faults → s.fault_report ≡ b.report
     → HasRun (record { run = record { plan = p; limit = slots }; events = station.history.events }) limit starts lefts before after s
-has_run p slots limit opened station ports a b starts lefts before after s few is waiting analysed driven sound taken told_inputs count peaks counts told =
+has_run p slots limit opened station ports a b starts lefts before after s few is waiting analysed driven sound taken told_inputs count peaks counts told same_report =
     let same = run_is p slots opened station ports is driven.same in
     let h = station.history.events in
     let run : Run = record { plan = p; limit = slots } in
@@ -270,6 +272,9 @@ has_run p slots limit opened station ports a b starts lefts before after s few i
     let F : Run → Type 0 = λ r. b.faults ≡ fault_count r.plan.request.rate r.plan.request.watch (emitted r.plan h) in
     let sound_run = subst S same sound in
     let within = sound_run.run.within in
+    let analysed_all = driven.analysed (analysed_yet p slots opened ports a is analysed) in
+    let Q : Run → Type 0 = λ r. IsReportOf b.report (faults r.plan.request.rate r.plan.request.watch (emitted r.plan h)) in
+    let T : ReportValue → Type 0 = λ v. IsReportOf v (faults p.request.rate p.request.watch (emitted p h)) in
     record {
       sound = sound_run;
       finished = finished run h within (subst O same driven.over);
@@ -282,7 +287,8 @@ has_run p slots limit opened station ports a b starts lefts before after s few i
         inputs = told_inputs.summaries;
         streams = subst K same peaks;
         counts = counts;
-        faults = faults_exact run h s.faults within few (told ∙ subst F same (driven.analysed (analysed_yet p slots opened ports a is analysed)).faults_are);
+        faults = faults_exact run h s.faults within few (told ∙ subst F same analysed_all.faults_are);
+        reported = subst T (sym same_report) (subst Q same analysed_all.reported);
       };
       read = told_inputs.read;
     }
@@ -323,7 +329,7 @@ run_ended {R} {G} remaining failures p slots limit opened readers gates seats ou
       has_run p slots limit opened e.station ready.ports output e.left (map remaining readers) (map (λ l. remaining l.0) lent) before after s few ready.opened waiting analysed e.driven e.sound
           (begun remaining failures limit p e.station readers e.ended each)
           (told_of_inputs remaining failures limit p e.station readers e.ended s.inputs.items lent (served_run remaining failures p slots limit opened readers gates seats output before after s lent ready of_readers of_gates e))
-          (e.reported.length_is ∙ count) e.peaks e.counts e.faults,
+          (e.reported.length_is ∙ count) e.peaks e.counts e.faults e.fault_report,
     )
 
 -- a failed read is told of an input exactly where its reader failed

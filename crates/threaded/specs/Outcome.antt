@@ -7,6 +7,7 @@ use Rattle.tspkt.specs.declared.item.Item.{Item}
 use Rattle.tspkt.specs.declared.stamped.Stamped.{Stamped}
 use Rattle.request.specs.Request.{InputValue}
 use Rattle.analyse.specs.Faults.{faults}
+use Rattle.fault_report.specs.FaultReport.{IsReportOf}
 use Rattle.plan.specs.Build.{PlanValue}
 use Rattle.mux.specs.declared.event.Event.{Event}
 use Rattle.mux.specs.History.{History, taken, is_closed, emitted}
@@ -64,6 +65,7 @@ pub record IsSummary (limit : ℕ) (p : PlanValue) (h : List Event) (starts : Li
       → IsInputSummary limit p h i input start x
   pub streams : ArePeaks p h s.streams.items
   pub counts : IsCounts h s.counts
+  pub reported : IsReportOf s.fault_report (faults p.request.rate p.request.watch (emitted p h))
   pub faults : s.faults ≡ length (faults p.request.rate p.request.watch (emitted p h))
 
 -- What a run of these sources makes, each of at most so many bytes, where it ends by itself: a history. It leaves them with
@@ -106,6 +108,7 @@ pub record RunsThrough {R G : Type 0} (remaining : R → Option (List ℕ)) (fai
   pub peaks : ArePeaks station.history.run.plan station.history.events s.streams.items
   pub counts : IsCounts station.history.events s.counts
   pub faults : s.faults ≡ left.faults
+  pub fault_report : s.fault_report ≡ left.report
 
 -- It failed: a beginning of what it sent went out. Its inputs had their workers, or nothing was taken of them.
 pub record IsCutShort {R G : Type 0} (remaining : R → Option (List ℕ)) (failures : R → ℕ) (limit : ℕ) (p : PlanValue) (opened : StationValue) (seats : List ((R × G) × PortValue)) (output : SlotWriter) (before after : Option (List ℕ)) : Type 0 where

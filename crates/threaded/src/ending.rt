@@ -9,7 +9,7 @@ ghost use Rattle.threaded.specs.Ending.{AreReported, wants_memory};
 use crate::ended::Ended;
 use mux::Peak;
 use reading::{Report, Stop};
-use serial::{InputSummary, Summary};
+use serial::{InputSummary, SlotWriter, Summary};
 use station::Station;
 use std::alloc::{AllocError, Global};
 
@@ -82,20 +82,21 @@ fn end_streams(alloc: Global, station: &Station, streams: usize) -> Result<Vec<P
     Ok(peaks)
 }
 
-/// What became of a run of so many streams, with so many faults told, and its readers and gates.
+/// What became of a run of so many streams, whose packets went out by `output`, and its readers and gates.
 pub(crate) fn end_run<R: Drop, G: Drop>(
     alloc: Global,
     station: &Station,
     ended: Vec<Ended<R, G>>,
     streams: usize,
-    faults: u64,
+    output: SlotWriter,
 ) -> Result<(Summary, Vec<(R, G)>), AllocError>
     requires inputs { length ended.items ≡ length station.now.history.run.plan.request.inputs }
     requires streams { streams ≡ length station.now.history.run.plan.request.streams }
     ensures inputs { IfOk result (λ done. AreReported station.now.history.run.plan station.now.history.events ended.items done.0.inputs.items done.1.items) }
     ensures streams { IfOk result (λ done. ArePeaks station.now.history.run.plan station.now.history.events done.0.streams.items) }
     ensures counts { IfOk result (λ done. IsCounts station.now.history.events done.0.counts) }
-    ensures faults { IfOk result (λ done. done.0.faults ≡ faults) }
+    ensures faults { IfOk result (λ done. done.0.faults ≡ output.faults) }
+    ensures report { IfOk result (λ done. done.0.fault_report ≡ output.report) }
 {
     let streams = end_streams(alloc, station, streams)?;
     let (inputs, lent) = end_inputs(alloc, station, ended)?;
@@ -103,7 +104,8 @@ pub(crate) fn end_run<R: Drop, G: Drop>(
         inputs,
         streams,
         counts: station.counts(),
-        faults,
+        faults: output.faults(),
+        fault_report: output.into_report(),
     };
     Ok((summary, lent))
 }

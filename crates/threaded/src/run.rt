@@ -166,5 +166,5 @@ fn run_opened<
     let _ = station.slots();
     let ended = worked?;
     let streams = plan.streams().len();
-    Ok(end_run(alloc, &station, ended, streams, output.faults())?)
+    Ok(end_run(alloc, &station, ended, streams, output)?)
 }

@@ -2,7 +2,7 @@
 
 use crate::tests::memory_files::{MemoryFiles, does, does_once};
 use crate::tests::whole_commands::{ENDED, LINES, ends, files};
-use example::{add_packets, input, service, settings};
+use example::{add_packets, eight_packets, input, service, settings};
 use std::alloc::{AllocError, Global};
 use std::test::Fail;
 
@@ -83,5 +83,26 @@ fn a_missing_key_is_told_with_its_line(rt: HostRuntime) -> Result<(), Fail> {
         let told = done.texts().1.lines().nth(2);
         assert_eq!(rt; told, Some(cause));
     }
+    Ok(())
+}
+
+/// The example's input, whose five packets have the counters 5, 5, 5, 6, 7, the first three equal: the third goes out in slot 6,
+/// one copy too many.
+#[test]
+fn faults_of_the_output_are_named(rt: HostRuntime) -> Result<(), Fail> {
+    let alloc = rt.alloc();
+    let mut bytes = eight_packets(alloc)?;
+    bytes.truncate(3 * 188);
+    add_packets(&mut bytes, &[5, 5, 5, 6, 7])?;
+    let mut files = MemoryFiles::new(alloc)?;
+    files.add("x.toml", example::PLAN.as_bytes())?;
+    files.add("x.ts", &bytes)?;
+    let done = does(rt, &RUN, &mut files)?;
+    let lines = LINES.replacen(alloc, "faults 0", "faults 1", 1)?;
+    let told = "end: all inputs ended
+faults: 1 of 1.4 Continuity_count_error
+faults: slot 6 1.4 0x0200
+";
+    ends(&rt, &done, 0, lines.as_str(), told);
     Ok(())
 }

@@ -1,4 +1,4 @@
-use Rattle.std.proofs.Common.{length, refl, ap, ◌∙◌}
+use Rattle.std.proofs.Common.{length, ap, ◌∙◌}
 use Rattle.plan.specs.Build.{PlanValue}
 use Rattle.serial.proofs.ending.end_run.Goals as goal
 
@@ -18,4 +18,7 @@ pub returns-clause-counts : goal.returns-clause-counts
 returns-clause-counts g c = c.counts.ensures
 
 pub returns-clause-faults : goal.returns-clause-faults
-returns-clause-faults g c = refl
+returns-clause-faults g c = c.faults.ensures
+
+pub returns-clause-report : goal.returns-clause-report
+returns-clause-report g c = c.into_report.ensures

@@ -37,7 +37,7 @@ returns-clause-runs g c =
     let told = c.in_ok-finish.ensures in (
       r.mux.events,
       has_run g.R.Source.remaining run c.args.limit starts r before after c.in_ok-finish.field-0.0 c.in_ok-finish.field-0.1.items c.requires.slots is
-          (subst O opened.running.run_is driven.over) c.slots.ensures.sound written told.inputs told.streams told.counts told.faults,
+          (subst O opened.running.run_is driven.over) c.slots.ensures.sound written told.inputs told.streams told.counts told.faults told.report,
       is.needed,
     )
 

@@ -8,3 +8,9 @@ returns-clause-streams g c = c.in_ok-streams.ensures
 
 pub returns-clause-counts : goal.returns-clause-counts
 returns-clause-counts g c = c.counts.ensures
+
+pub returns-clause-faults : goal.returns-clause-faults
+returns-clause-faults g c = c.faults.ensures
+
+pub returns-clause-report : goal.returns-clause-report
+returns-clause-report g c = c.into_report.ensures

@@ -31,7 +31,8 @@ returns-clause-ended g c =
       reported = told.inputs;
       peaks = told.streams;
       counts = told.counts;
-      faults = told.faults ∙ c.faults.ensures;
+      faults = told.faults;
+      fault_report = told.report;
     }
 
 pub returns-in_err-ended-clause-failed : goal.returns-in_err-ended-clause-failed

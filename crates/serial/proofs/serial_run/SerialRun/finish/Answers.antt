@@ -1,5 +1,3 @@
-use Rattle.std.proofs.Common.{◌≡◌, ℕ, subst}
-use Rattle.std.specs.Prelude.{IfOk}
 use Rattle.serial.proofs.serial_run.SerialRun.finish.Goals as goal
 
 pub end_run-requires : goal.end_run-requires
@@ -15,6 +13,7 @@ pub returns-clause-counts : goal.returns-clause-counts
 returns-clause-counts g c = c.end_run.ensures.counts
 
 pub returns-clause-faults : goal.returns-clause-faults
-returns-clause-faults g c =
-    let P : ℕ → Type 0 = λ n. IfOk c.end_run.result (λ done. done.0.faults ≡ n) in
-    subst P c.faults.ensures c.end_run.ensures.faults
+returns-clause-faults g c = c.end_run.ensures.faults
+
+pub returns-clause-report : goal.returns-clause-report
+returns-clause-report g c = c.end_run.ensures.report

@@ -1,4 +1,4 @@
-use Rattle.std.proofs.Common.{◌≡◌, length, refl, ap, ◌∙◌, sym, subst, arith}
+use Rattle.std.proofs.Common.{◌≡◌, length, refl, ap, ◌∙◌, sym, subst, inl, inr, arith}
 use Rattle.std.specs.List.{length_refill}
 use Rattle.std.specs.Vec.{with_items}
 use Rattle.mux.specs.History.{Run, History}
@@ -6,10 +6,10 @@ use Rattle.mux.proofs.Emitted.{last_sent}
 use Rattle.mux.proofs.Heads.{some_of, lent_last}
 use Rattle.plan.specs.Build.{PlanValue}
 use Rattle.serial.specs.Giving.{TakesInOrder}
-use Rattle.serial.specs.Running.{TakesAsNeeded, AreFed, AreHalted}
+use Rattle.serial.specs.Running.{TakesAsNeeded, IsRunning, AreFed, AreHalted}
 use Rattle.serial.proofs.HaltedLaws.{halted_fed, halted_running, unrefused_running}
 use Rattle.serial.proofs.SendingLaws.{on_err_always}
-use Rattle.serial.proofs.RunningLaws.{runs_sent, fewer_sent, written_sent, runs_pulled, fewer_pulled, fed_sent, order_sent, needed_sent, sent_begun}
+use Rattle.serial.proofs.RunningLaws.{runs_sent, fewer_sent, written_sent, unsent_stays, runs_pulled, fewer_pulled, fed_sent, order_sent, needed_sent, sent_begun}
 use Rattle.serial.proofs.serial_run.SerialRun.step.Goals as goal
 
 pub unwrap-packet-requires : goal.unwrap-packet-requires
@@ -98,3 +98,10 @@ pub returns-in_err-put-in-Sent-clause-unrefused : goal.returns-in_err-put-in-Sen
 returns-in_err-put-in-Sent-clause-unrefused g c e =
     let goes = c.requires in
     unrefused_running g.R.Source.remaining goes.0 goes.1 goes.2 c.args.self.now goes.3
+
+pub returns-in-Done-clause-runs : goal.returns-in-Done-clause-runs
+returns-in-Done-clause-runs g c run limit starts is =
+    let old = c.args.self.now in
+    let same = unsent_stays old.mux c.send_next.result c.send_next.new.self (elim c.in-Done.is [ inl e ↦ λ sent. cc | inr e ↦ λ sent. cc ]) c.send_next.ensures.answer in
+    let P : History → Type 0 = λ v. IsRunning g.R.Source.remaining run limit starts (record old { mux = v }) in
+    subst P (sym same) is

@@ -1,0 +1,3 @@
+pub mod FaultCounts
+pub mod ReportValue
+pub mod FaultReport
