@@ -82,7 +82,7 @@ impl<R: Read> KeptReader<R> {
 }
 
 impl<R: Read> Read for KeptReader<R> {
-    ghost use Rattle.std.specs.Prelude.{◌≡◌, ◌++◌, IfOk, OnErr, IsTrue, take};
+    ghost use Rattle.std.specs.Prelude.{◌≡◌, ◌++◌, IfOk, OnErr, IsErr, IsTrue, false, take};
     ghost use Rattle.std.specs.Io.{ReadsAtMost};
     ghost use Rattle.std.specs.Io.KnownBytes.{ReadConsumes};
     ghost use Rattle.input_files.specs.FileReading.{kept_bytes, kept_remaining, is_keeping, is_whole};
@@ -99,6 +99,7 @@ impl<R: Read> Read for KeptReader<R> {
             IfOk result (λ count. kept_bytes self.new ≡ kept_bytes self.old ++ take count buf.new) }
         ensures err { OnErr result (kept_bytes self.new ≡ kept_bytes self.old) }
         ensures keeping { is_keeping self.new ≡ is_keeping self.old }
+        ensures lost { is_whole self.old ≡ false → IsErr result × (self.new ≡ self.old) }
     {
         if let Some(error) = self.lost {
             return Err(error);

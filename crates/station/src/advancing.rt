@@ -1,6 +1,6 @@
 //! How a station goes on as far as its rings show.
 
-ghost use Rattle.std.specs.Prelude.{◌≡◌, ◌⊎◌, ◌+◌, ◌<◌, ◌≤◌, ◌++◌, ℕ, List, true, false, None, length, vec_len, vec_capacity, MatchOption};
+ghost use Rattle.std.specs.Prelude.{◌≡◌, ◌≢◌, ◌⊎◌, ◌+◌, ◌<◌, ◌≤◌, ◌++◌, ℕ, List, true, false, None, Some, length, vec_len, vec_capacity, MatchOption};
 ghost use Rattle.mux.specs.History.{History, is_closed};
 ghost use Rattle.station.specs.Stations.{IsLawfulInlet, IsLawfulStation, LeavesOthers, rings_of};
 ghost use Rattle.station.specs.Moving.{TakesNext, EndsTaking};
@@ -40,6 +40,7 @@ fn step(mux: &mut Mux, inlets: &mut Vec<Inlet>, sent: &mut Vec<Packet>) -> Optio
         × IsStep (record { history = mux.old; inputs = inlets.old.items }) (record { history = mux.new; inputs = inlets.new.items }) packets)
         (λ answer. (mux.new ≡ mux.old) × (inlets.new.items ≡ inlets.old.items) × (sent.new.items ≡ sent.old.items)
         × IsStuck answer (record { history = mux.new; inputs = inlets.new.items })) }
+    ensures unrefused { result ≢ Some Sending.Memory }
     ensures lawful { IsLawfulStation mux.new inlets.new.items }
     ensures room { (vec_len sent.new ≤ vec_len sent.old + 1) × (vec_capacity sent.old ≤ vec_capacity sent.new) }
 {
@@ -74,6 +75,7 @@ pub(crate) fn advance(
     requires room { most ≤ vec_capacity sent.old }
     ensures advances { Advances most (record { history = mux.old; inputs = inlets.old.items }) result
         (record { history = mux.new; inputs = inlets.new.items }) sent.new.items }
+    ensures unrefused { result ≢ Sending.Memory }
     ensures lawful { IsLawfulStation mux.new inlets.new.items }
     ensures room { vec_capacity sent.old ≤ vec_capacity sent.new }
 {

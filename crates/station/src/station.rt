@@ -1,6 +1,6 @@
 //! The station: its state, and its ticks.
 
-ghost use Rattle.std.specs.Prelude.{◌≡◌, ◌<◌, ◌≤◌, ◌^◌, ◌-◌, ◌++◌, Some, length, map, vec_capacity, IfOk, IfSome, option_copied};
+ghost use Rattle.std.specs.Prelude.{◌≡◌, ◌≢◌, ◌<◌, ◌≤◌, ◌^◌, ◌-◌, ◌++◌, Some, length, map, vec_capacity, IfOk, IfSome, option_copied};
 ghost use Rattle.std.specs.List.{slice_get};
 ghost use Rattle.request.specs.declared.stream.Stream.{Stream};
 ghost use Rattle.mux.specs.History.{slots, emitted, is_closed};
@@ -93,9 +93,10 @@ impl Station {
     /// Moves what the rings show into the multiplex, input 0 first, at most as many packets an input as a ring has room for,
     /// and then sends the next slot, where the multiplex can. A packet that isn't taken is held, and stays the next one of its
     /// input. An input is closed at its end mark, and where its next packet can never be taken: no stream has its PID, or its
-    /// time is before that of the packet taken before it.
+    /// time is before that of the packet taken before it. No memory is asked for, and `Memory` isn't answered.
     pub fn tick(&mut self) -> Sending
         ensures ticks { Ticks self.old result self.new }
+        ensures unrefused { result ≢ Sending.Memory }
         ensures rings { rings_of self.new.inputs ≡ rings_of self.old.inputs }
         ensures run { self.new.history.run ≡ self.old.history.run }
     {
@@ -111,6 +112,7 @@ impl Station {
     pub fn advance(&mut self, most: usize, sent: &mut Vec<Packet>) -> Sending
         requires { most ≤ vec_capacity sent.old }
         ensures advances { Advances most self.old result self.new sent.new.items }
+        ensures unrefused { result ≢ Sending.Memory }
         ensures emitted { emitted self.new.history.run.plan self.new.history.events
             ≡ emitted self.old.history.run.plan self.old.history.events ++ sent.new.items }
         ensures rings { rings_of self.new.inputs ≡ rings_of self.old.inputs }

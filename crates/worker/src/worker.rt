@@ -67,7 +67,7 @@ impl<R: Source + Drop, G: Gate + Drop> Worker<R, G> {
     /// or the gate says no. Then it sends the end mark, unless the gate said no. The gate is asked before each read, after each packet that went into the ring, and after each packet or end mark that found it full.
     ///
     /// It answers what was found in the input, the finished port, and the source and the gate. Of several causes that stop it
-    /// the first is told.
+    /// the first is told. The end mark was sent exactly where the gate never said no.
     pub fn run<T: Wait + Clock>(self, rt: &T) -> (Report, FinishedPort, R, G)
         ensures sent { (input : InputValue) → slice_get self.plan.request.inputs self.number ≡ Some input
             → HasWorked self.limit self.plan (origin_of self.number input) (R.remaining self.source) (R.remaining result.2)
@@ -79,6 +79,7 @@ impl<R: Source + Drop, G: Gate + Drop> Worker<R, G> {
         ensures unfailed { (result.0.stopped ≡ Some Stop.ReadFailed → ⊥)
             → R.failures result.2 ≡ R.failures self.source }
         ensures marked { result.1.is_ended ≡ false → StopsOnce (G.stops self.gate) (G.stops result.3) }
+        ensures heeded { result.1.is_ended ≡ true → G.stops result.3 ≡ G.stops self.gate }
     {
         let Worker {
             alloc,
