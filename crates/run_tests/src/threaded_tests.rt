@@ -2,6 +2,7 @@
 
 mod devices;
 mod gates;
+mod limits;
 mod meeting;
 mod runs;
 mod shared_station;

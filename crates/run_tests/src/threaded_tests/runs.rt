@@ -29,6 +29,9 @@ pub fn readers(alloc: Global, fails: bool) -> Result<Vec<ReadSource<TestReader>>
     Ok(vec![in alloc; ReadSource::new(first), ReadSource::new(second)]?)
 }
 
+/// How many bytes an input of a test may have.
+const LIMIT: u64 = 1_000_000;
+
 /// Runs two inputs in threads, for at most this many slots, to a writer that has room for so many bytes.
 pub fn run_gated<
     T: Threads + Wait + Clock + Copy + Send + Drop + 'static,
@@ -51,7 +54,7 @@ pub fn run_gated<
         bytes: Vec::new(alloc),
         room,
     });
-    let (sink, result) = run_threads(alloc, rt, plan, slots, 1_000_000, readers, gates, sink);
+    let (sink, result) = run_threads(alloc, rt, plan, slots, LIMIT, readers, gates, sink);
     let bytes = sink.into_inner().bytes;
     match result {
         Ok((summary, lent)) => Ok((bytes, Ok((summary, gates_of(alloc, lent)?)))),

@@ -88,9 +88,10 @@ fn send_and_tick<T: Wait + Abort>(
     }
 }
 
-/// Ticks a station in two threads, each of which sends the packets of an input too: the bytes that went out.
-fn bytes_of<T: Threads + Wait + Abort + Sync>(rt: &T, alloc: Global) -> Vec<u8> {
-    let plan = plan_with_rings(alloc, 1, 1, &[0, 0]).expect(rt, "a plan");
+/// Ticks a station in two threads, each of which sends the packets of an input too: the bytes that went out. Queues and rings
+/// have room for so many packets.
+fn bytes_of<T: Threads + Wait + Abort + Sync>(rt: &T, alloc: Global, room: usize) -> Vec<u8> {
+    let plan = plan_with_rings(alloc, room, room, &[0, 0]).expect(rt, "a plan");
     let (station, mut ports) = Station::open(alloc, plan, 1_000).expect(rt, "a station");
     let second = ports.pop().expect(rt, "two ports");
     let first = ports.pop().expect(rt, "two ports");
@@ -112,7 +113,9 @@ fn bytes_of<T: Threads + Wait + Abort + Sync>(rt: &T, alloc: Global) -> Vec<u8> 
 fn two_threads_tick_one_station(rt: HostRuntime) -> Result<(), Fail> {
     let alloc = rt.alloc();
     let (serial_bytes, _) = run_in_one(alloc, plan_of(alloc, 64, &[0, 0])?)?;
-    let bytes = bytes_of(&rt, alloc);
-    assert_eq!(rt; bytes.as_slice(), serial_bytes.as_slice());
+    for room in [1, 64] {
+        let bytes = bytes_of(&rt, alloc, room);
+        assert_eq!(rt; bytes.as_slice(), serial_bytes.as_slice());
+    }
     Ok(())
 }
