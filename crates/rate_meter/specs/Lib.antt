@@ -1,0 +1,6 @@
+pub mod Line
+pub mod Pace
+pub mod Readings
+pub mod Deviation
+pub mod Steps
+pub mod Meter

@@ -1,0 +1,140 @@
+//! The rate of a stream by its own clocks.
+
+use crate::clock::Clock;
+use crate::clocks::Clocks;
+use crate::measured::Measured;
+use crate::pid_counts::PidCounts;
+use crate::seen::Seen;
+use crate::stepper::Stepper;
+use std::alloc::{AllocError, Global};
+use std::marker::Model;
+use tspkt::MAX_LIMIT;
+
+/// Measures a stream that it is shown in pieces: how many packets each PID has, and at which rate it runs by each of its clocks.
+///
+/// Of each packet the first 12 bytes are looked at, and nothing is asked for but memory for a clock where its PID has its first
+/// PCR. Contracts see which packets were found, newest first.
+#[derive(Drop)]
+pub struct RateMeter {
+    stepper: Stepper,
+    counts: PidCounts,
+    clocks: Clocks,
+}
+
+impl Model for RateMeter {
+    ghost use Rattle.std.specs.Prelude.{◌≡◌};
+    ghost use Rattle.rate_meter.specs.Meter.{MeterValue};
+
+    ghost Value = { MeterValue };
+
+    ghost view = { λ m. record {
+      shown = record { step = m.stepper; seen = m.counts };
+      is_whole = m.clocks.is_whole;
+    } };
+
+    ghost invariant = { λ m. m.clocks.seen ≡ m.counts };
+}
+
+impl RateMeter {
+    ghost use Rattle.std.specs.Prelude.{◌≡◌, ◌+◌, ◌<◌, ◌≤◌, ◌∷◌, [], ℕ, Some, length, take, IsTrue, IfOk, IfSome, IfNone};
+    ghost use Rattle.tspkt.specs.declared.framer.TheConstants.{MAX_LIMIT};
+    ghost use Rattle.rate_meter.specs.Line.{within_64};
+    ghost use Rattle.rate_meter.specs.Steps.{shown};
+    ghost use Rattle.rate_meter.specs.Meter.{IsNoLonger, measured_of, new_meter, readings_of, packets_of, pid_rate_of, shown_piece};
+
+    /// One that was shown nothing.
+    pub fn new(alloc: Global) -> Result<RateMeter, AllocError>
+        ensures { IfOk result (λ m. m ≡ new_meter) }
+    {
+        Ok(RateMeter {
+            stepper: Stepper::new(),
+            counts: PidCounts::new(alloc)?,
+            clocks: Clocks::new(alloc),
+        })
+    }
+
+    /// A packet was seen.
+    fn see(&mut self, seen: Seen)
+        ensures step { self.new.shown.step ≡ self.old.shown.step }
+        ensures seen { self.new.shown.seen ≡ seen ∷ self.old.shown.seen }
+    {
+        self.counts.add(seen);
+        self.clocks.add(seen);
+    }
+
+    /// Takes bytes from the front of a piece, and answers how many.
+    fn advance(&mut self, piece: &[u8]) -> usize
+        requires some { 0 < length piece.now }
+        requires position { self.old.shown.step.position + length piece.now ≤ MAX_LIMIT }
+        ensures some { 0 < result }
+        ensures within { result ≤ length piece.now }
+        ensures position { self.new.shown.step.position ≡ self.old.shown.step.position + result }
+        ensures shown { self.new.shown ≡ shown self.old.shown (take result piece.now) }
+    {
+        let (count, seen) = self.stepper.step(piece);
+        if let Some(seen) = seen {
+            self.see(seen);
+        }
+        count
+    }
+
+    /// The stream goes on with this piece. One that would pass 140,737,488,355,328 bytes isn't looked at.
+    pub fn show(&mut self, piece: &[u8])
+        ensures { self.new.shown ≡ shown_piece piece.now self.old.shown }
+    {
+        if piece.len() as u64 > MAX_LIMIT.saturating_sub(self.stepper.position()) {
+            return;
+        }
+        let mut at = 0;
+        while at < piece.len() {
+            at += self.advance(&piece[at..]);
+        }
+    }
+
+    /// How many packets were found.
+    pub fn packets(&self) -> u64
+        ensures { result ≡ within_64 (length self.now.shown.seen) }
+    {
+        self.counts.packets()
+    }
+
+    /// How many of them have this PID, 0 to 0x1FFF.
+    pub fn packets_of(&self, pid: u16) -> u64
+        requires { pid < 8192 }
+        ensures { result ≡ within_64 (packets_of pid self.now.shown.seen) }
+    {
+        self.counts.of(pid)
+    }
+
+    /// The rate of a PID, 0 to 0x1FFF, where the stream runs at this rate, in its unit: as much of it as of the packets that were
+    /// found are that PID's, rounded to the nearest; 0 where none was found.
+    pub fn pid_rate(&self, rate: u64, pid: u16) -> u64
+        ensures { pid < 8192 → result ≡ pid_rate_of rate pid self.now.shown.seen }
+    {
+        self.counts.rate(rate, pid)
+    }
+
+    /// Whether each PID with PCRs has its clock: no more than 64 have PCRs, and no memory was refused.
+    pub fn is_whole(&self) -> bool
+        ensures { result ≡ self.now.is_whole }
+    {
+        self.clocks.is_whole()
+    }
+
+    /// The clock of a PID. None of a PID without PCRs, or whose clock was left out.
+    pub fn clock_of(&self, pid: u16) -> Option<&Clock>
+        ensures some { IfSome result (λ clock. clock.now ≡ readings_of pid self.now.shown.seen) }
+        ensures none { IfNone result (IsTrue self.now.is_whole → readings_of pid self.now.shown.seen ≡ []) }
+    {
+        self.clocks.of(pid)
+    }
+
+    /// What the clock with the most points says, of those that say a rate; none where no clock does.
+    pub fn measured(&self) -> Option<Measured>
+        ensures own { IfSome result (λ m. measured_of m.pid self.now.shown.seen ≡ Some m) }
+        ensures most { IsTrue self.now.is_whole → (pid : ℕ)
+            → IsNoLonger (measured_of pid self.now.shown.seen) result }
+    {
+        self.clocks.measured()
+    }
+}
