@@ -1,0 +1,11 @@
+//! The measuring of inputs while they are read: a source that shows its bytes to a rate meter, and what is said of the rates, in lines
+//! on standard error behind all others.
+#![tactic(auto)]
+
+mod metered;
+mod rate_lines;
+mod reading_on;
+
+pub use metered::{Metered, with_meters};
+pub use rate_lines::{print_measured, print_rates};
+pub use reading_on::read_on;

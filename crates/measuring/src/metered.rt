@@ -1,0 +1,108 @@
+//! A source that is measured.
+
+ghost use Rattle.std.specs.Prelude.{◌≡◌, length, map, IfOk};
+ghost use Rattle.measuring.specs.Metering.{source_of};
+
+use input_files::{FileIdentity, InputFile};
+use messages::FileCause;
+use rate_meter::{Measured, RateMeter};
+use reading::Source;
+use std::alloc::{AllocError, Global};
+use std::io;
+
+/// A source, and a meter that sees the bytes that are read from it. Without memory for a meter it is read all the same.
+#[derive(Drop)]
+pub struct Metered<R> {
+    source: R,
+    meter: Option<RateMeter>,
+}
+
+impl<R> Metered<R> {
+    ghost use Rattle.std.specs.Prelude.{◌≡◌, IfSome, option_copied};
+    ghost use Rattle.rate_meter.specs.Meter.{measured_of, new_meter};
+    ghost use Rattle.measuring.specs.Metering.{source_of, meter_of};
+
+    /// One of which nothing was read.
+    pub fn new(alloc: Global, source: R) -> Metered<R>
+        ensures source { source_of result ≡ source }
+        ensures meter { IfSome (meter_of result) (λ m. m ≡ new_meter) }
+    {
+        Metered {
+            source,
+            meter: RateMeter::new(alloc).ok(),
+        }
+    }
+
+    /// What measures it: none where there was no memory for it.
+    pub fn meter(&self) -> Option<&RateMeter>
+        ensures { option_copied result ≡ meter_of self.now }
+    {
+        self.meter.as_ref()
+    }
+
+    /// What the clock with the most points says of it, of those that say a rate.
+    pub fn measured(&self) -> Option<Measured> {
+        self.meter.as_ref()?.measured()
+    }
+}
+
+impl<R: Source> Source for Metered<R> {
+    ghost use Rattle.std.specs.Prelude.{◌≡◌, IfOk, OnOk, OnErr, take};
+    ghost use Rattle.std.specs.Io.{ReadsAtMost};
+    ghost use Rattle.std.specs.Io.KnownBytes.{ReadConsumes};
+    ghost use Rattle.reading.specs.Failures.{FailsOnce};
+    ghost use Rattle.measuring.specs.Metering.{IsShown, meter_of, metered_remaining, metered_failures};
+
+    ghost remaining = { metered_remaining R.remaining };
+
+    ghost failures = { metered_failures R.failures };
+
+    /// Reads, and shows what was read to the meter.
+    fn read(&mut self, piece: &mut [u8]) -> io::Result<usize>
+        ensures bound { ReadsAtMost result piece.new }
+        ensures bytes { ReadConsumes
+            (metered_remaining R.remaining self.old) (metered_remaining R.remaining self.new) result piece.new }
+        ensures ok { OnOk result (metered_failures R.failures self.new ≡ metered_failures R.failures self.old) }
+        ensures err { OnErr result
+            (FailsOnce (metered_failures R.failures self.old) (metered_failures R.failures self.new)) }
+
+        ensures shown { IfOk result (λ count. IsShown (take count piece.new) (meter_of self.old) (meter_of self.new)) }
+        ensures unread { OnErr result (meter_of self.new ≡ meter_of self.old) }
+    {
+        let count = self.source.read(piece)?;
+        if let Some(meter) = &mut self.meter {
+            meter.show(&piece[..count]);
+        }
+        Ok(count)
+    }
+}
+
+impl<R: InputFile> InputFile for Metered<R> {
+    fn identity(&self) -> Option<FileIdentity> {
+        self.source.identity()
+    }
+
+    fn length(&self) -> Option<u64> {
+        self.source.length()
+    }
+
+    fn head(&self) -> &[u8] {
+        self.source.head()
+    }
+
+    fn cause(&self) -> FileCause {
+        self.source.cause()
+    }
+}
+
+/// Each of these sources with a meter, in their order.
+pub fn with_meters<R: Drop>(alloc: Global, sources: Vec<R>) -> Result<Vec<Metered<R>>, AllocError>
+    ensures sources { IfOk result (λ all. map source_of all.items ≡ sources.items) }
+    ensures count { IfOk result (λ all. length all.items ≡ length sources.items) }
+{
+    let mut all = Vec::new(alloc);
+    for source in sources {
+        all.push(Metered::new(alloc, source))?;
+    }
+    Ok(all)
+}
