@@ -52,6 +52,13 @@ is 'it writes the same bytes' same serial.ts whole.ts
 cat out err > serial.totals
 is 'it prints the same' same serial.totals totals
 
+# What is said of rates: nothing of one that is as stated, and 1,000 of 1,001,000 are 999 in a million.
+run check --plan plan.toml
+is 'a check says what the services take' has err 'services: measured 1684077 bits a second of 3000000, the tables take 60000'
+sed 's|^rate = 1000000$|rate = 1001000|' plan.toml > slow.toml
+run run --plan slow.toml --out slow.ts
+is 'an input that is slower than stated is told' has err 'rate: input 0 runs at 1000000 bits a second by the PCRs of PID 0x0101, 999 ppm below the stated 1001000'
+
 # A plan with room, and one whose services take more than its rate leaves.
 run run --plan plan.toml --out strict.ts --strict
 is 'a strict run of a plan with room ends well' [ "$status" = 0 ]

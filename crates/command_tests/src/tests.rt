@@ -3,6 +3,7 @@
 mod delays;
 mod devices;
 mod memory_files;
+mod rates;
 mod runs;
 mod telling;
 mod whole_commands;

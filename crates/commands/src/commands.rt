@@ -5,8 +5,10 @@ use crate::run_command::{Asked, run};
 use crate::telling::print_rhythm;
 use analysis::StreamAnalysis;
 use files::Files;
-use input_files::{InputFile, read_plan};
+use input_files::{InputFile, ReadPlan, open_again, read_plan};
+use measuring::{Metered, print_measured, read_on, with_meters};
 use messages::CommandFault;
+use plan::Plan;
 use std::alloc::Global;
 use std::convert::AsStr;
 use std::io::Write;
@@ -153,11 +155,33 @@ fn check<F: Files, O: Write, E: Write>(
     out: &mut O,
     err: &mut E,
 ) -> Result<u8, CommandFault> {
-    let read = read_plan(alloc, files, plan)?;
-    print_plan(&read.plan, out)?;
+    let ReadPlan { plan, readers, .. } = read_plan(alloc, files, plan)?;
+    print_plan(&plan, out)?;
     out.flush()?;
-    let _ = print_rhythm(&read.plan, err);
+    let _ = print_rhythm(&plan, err);
+    let _ = match measure(alloc, files, &plan, readers) {
+        Ok(readers) => print_measured(&plan, &readers, err),
+        Err(_) => writeln!(err, "rate: the inputs can't be measured"),
+    };
     Ok(0)
+}
+
+/// Measures the inputs of a plan: each is read from its beginning again, at most 67,108,864 bytes, but for those that can be read
+/// only once; `first` has the readers from which their tables were read.
+fn measure<F: Files>(
+    alloc: Global,
+    files: &mut F,
+    plan: &Plan,
+    first: Vec<F::Reader>,
+) -> Result<Vec<Metered<F::Again>>, CommandFault> {
+    let readers = open_again(alloc, files, plan, first)?;
+    let mut readers = with_meters(alloc, readers)?;
+    for reader in readers.iter_mut() {
+        if reader.length().is_some() {
+            read_on(alloc, reader);
+        }
+    }
+    Ok(readers)
 }
 
 /// Tells the faults of a stream.

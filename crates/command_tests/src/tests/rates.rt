@@ -1,0 +1,199 @@
+//! What is said of the rates of inputs.
+//!
+//! The plan is the example's: an input that is stated to have 1,504,000 bits a second, so that a packet takes a millisecond, and a
+//! multiplex of that rate. Packet k of the input goes out in slot k, or in the next one if that has a table; tables go out in the slots
+//! 0, 2 and 4 of each hundred.
+
+use crate::tests::memory_files::{MemoryFiles, does};
+use crate::tests::whole_commands::ends;
+use std::alloc::{AllocError, Global};
+use std::test::Fail;
+use tspkt::{PCR_MODULUS, null};
+
+const RUN: [&str; 5] = ["run", "--plan", "x.toml", "--out", "out.ts"];
+
+const CHECK: [&str; 3] = ["check", "--plan", "x.toml"];
+
+/// The ticks of 167 packets at 1,507,008 bits a second: 167 * 1,504 * 27,000,000 / 1,507,008 is 4,500,000. That rate is 1,504,000
+/// and 2 in a thousand more.
+const STEP: u64 = 4_500_000;
+
+/// What is said of an input of that rate.
+const FAST: &str =
+    "rate: input 0 runs at 1507008 bits a second by the PCRs of PID 0x0101, 2000 ppm above the stated 1504000
+";
+
+/// A packet of PID 0x0101 with a PCR: the PCR, below its modulus, the discontinuity indicator, and the null packets behind it.
+type Pcr = (u64, bool, u32);
+
+/// Adds a packet of PID 0x0101 with this counter and PCR, and a payload.
+fn add_pcr(
+    bytes: &mut Vec<u8>,
+    counter: u8,
+    pcr: u64,
+    is_discontinuous: bool,
+) -> Result<(), AllocError> {
+    let (base, extension) = (pcr / 300 % 8_589_934_592, pcr % 300);
+    bytes.extend_from_slice(&[
+        0x47,
+        0x01,
+        0x01,
+        0x30 + counter % 16,
+        7,
+        if is_discontinuous { 0x90 } else { 0x10 },
+        (base / 33_554_432) as u8,
+        (base / 131_072 % 256) as u8,
+        (base / 512 % 256) as u8,
+        (base / 2 % 256) as u8,
+        (base % 2 * 128 + 0x7E + extension / 256) as u8,
+        (extension % 256) as u8,
+    ])?;
+    bytes.extend_from_slice(&[0xAA; 176])
+}
+
+/// The example's three packets of tables, a null packet, and packets with these PCRs: the first of them is the fifth packet in step.
+fn input_of(alloc: Global, pcrs: &[Pcr]) -> Result<Vec<u8>, AllocError> {
+    let mut bytes = Vec::new(alloc);
+    for packet in &example::tables(alloc)? {
+        bytes.extend_from_slice(packet.bytes())?;
+    }
+    bytes.extend_from_slice(null().bytes())?;
+    let mut counter = 0;
+    for (pcr, is_discontinuous, nulls) in pcrs {
+        add_pcr(&mut bytes, counter, *pcr, *is_discontinuous)?;
+        counter = (counter + 1) % 16;
+        for _ in 0..*nulls {
+            bytes.extend_from_slice(null().bytes())?;
+        }
+    }
+    Ok(bytes)
+}
+
+/// A plan's text, and an input with these PCRs.
+fn files_of(alloc: Global, text: &str, pcrs: &[Pcr]) -> Result<MemoryFiles, AllocError> {
+    let mut files = MemoryFiles::new(alloc)?;
+    files.add("x.toml", text.as_bytes())?;
+    files.add("x.ts", &input_of(alloc, pcrs)?)?;
+    Ok(files)
+}
+
+/// What follows the lines of the tables in a check.
+fn told_of_check(err: &str) -> Option<&str> {
+    Some(err.split_once("slots take 1000 s\n")?.1)
+}
+
+/// PCRs of a stream that runs fast: four, 167 packets apart, from this one on.
+fn fast(first: u64) -> [Pcr; 4] {
+    let pcr_at = |step: u64| (first % PCR_MODULUS + step * STEP) % PCR_MODULUS;
+    [
+        (pcr_at(0), false, 166),
+        (pcr_at(1), false, 166),
+        (pcr_at(2), false, 166),
+        (pcr_at(3), false, 0),
+    ]
+}
+
+/// 506 packets, those with PCRs at 4, 171, 338 and 505: 506 slots, six rounds of three tables. With a PCR that wraps it runs as fast.
+#[test]
+fn an_input_that_runs_fast_is_told(rt: HostRuntime) -> Result<(), Fail> {
+    let alloc = rt.alloc();
+    let lines =
+        "input 0 framed 506 malformed 0 unmapped 502 bad 0 losses 0 lost 0 taken 4 sent 4 queued 0
+slots 506 tables 18 elementary 4 null 484 faults 0
+";
+    let told = format!(in alloc; "end: all inputs ended\n{FAST}")?;
+    for first in [0, PCR_MODULUS - 2 * STEP] {
+        let mut files = files_of(alloc, example::PLAN, &fast(first))?;
+        ends(&rt, &does(rt, &RUN, &mut files)?, 0, lines, &told);
+    }
+    Ok(())
+}
+
+/// Three PCRs; two more, the first of which has the discontinuity indicator; and two more, ten seconds behind.
+#[test]
+fn splices_are_left_out(rt: HostRuntime) -> Result<(), Fail> {
+    let far = 1_000_000_000;
+    let pcrs = [
+        (far, false, 166),
+        (far + STEP, false, 166),
+        (far + 2 * STEP, false, 10),
+        (far + 2 * STEP + 100, true, 166),
+        (far + 3 * STEP + 100, false, 10),
+        (far - 270_000_000, false, 166),
+        (far - 270_000_000 + STEP, false, 0),
+    ];
+    let mut files = files_of(rt.alloc(), example::PLAN, &pcrs)?;
+    let done = does(rt, &RUN, &mut files)?;
+    assert_eq!(rt;
+        done.texts().1.split_once('\n').map(|(_, told)| told),
+        Some(FAST)
+    );
+    Ok(())
+}
+
+/// A second of 1,000 packets and one of 500, each with a PCR at its half: points at 0, 2, 4, 5 and 6 times 47,000 bytes and at 0 to
+/// 4 times 13,500,000 ticks. 5 * 81 - 17 * 17 is 116, 5 * 49 - 17 * 10 is 75, and 47,000 bytes a half second are 752,000 bits a
+/// second: 752,000 * 116 / 75 is 1,163,093.3. 1,505 packets, those with PCRs at 4, 504, 1,004, 1,254 and 1,504: 1,506 slots, since slot 1,504
+/// has a table, and sixteen rounds of three tables.
+#[test]
+fn an_input_of_variable_rate_is_told(rt: HostRuntime) -> Result<(), Fail> {
+    let half = 13_500_000;
+    let pcrs = [
+        (0, false, 499),
+        (half, false, 499),
+        (2 * half, false, 249),
+        (3 * half, false, 249),
+        (4 * half, false, 0),
+    ];
+    let lines =
+        "input 0 framed 1505 malformed 0 unmapped 1500 bad 0 losses 0 lost 0 taken 5 sent 5 queued 0
+slots 1506 tables 48 elementary 5 null 1453 faults 0
+";
+    let told = "end: all inputs ended
+rate: input 0 is of variable rate by the PCRs of PID 0x0101, 1163093 bits a second in all; the plan states 1504000 throughout
+";
+    let mut files = files_of(rt.alloc(), example::PLAN, &pcrs)?;
+    ends(&rt, &does(rt, &RUN, &mut files)?, 0, lines, told);
+    Ok(())
+}
+
+/// Four of 502 packets are the stream's: 1,507,008 * 4 / 502 is 12,008.03. Three of 100 slots are for tables: 45,120 of 1,504,000.
+#[test]
+fn a_check_says_what_the_services_take(rt: HostRuntime) -> Result<(), Fail> {
+    let alloc = rt.alloc();
+    let mut files = files_of(alloc, example::PLAN, &fast(0))?;
+    let done = does(rt, &CHECK, &mut files)?;
+    let sum = "services: measured 12008 bits a second of 1504000, the tables take 45120\n";
+    let told = format!(in alloc; "{FAST}{sum}")?;
+    assert_eq!(rt; told_of_check(done.texts().1), Some(told.as_str()));
+    let text = example::PLAN.replace(alloc, "leak = 2000000", "leak = 12007")?;
+    let done = does(rt, &CHECK, &mut files_of(alloc, &text, &fast(0))?)?;
+    let leak =
+        "leak: stream 0x0200 (input 0, PID 0x0101): 12007 bits a second, below its measured 12008\n";
+    let told = format!(in alloc; "{FAST}{sum}{leak}")?;
+    assert_eq!(rt; told_of_check(done.texts().1), Some(told.as_str()));
+    let text = example::PLAN.replace(alloc, "leak = 2000000", "leak = 12008")?;
+    let done = does(rt, &CHECK, &mut files_of(alloc, &text, &fast(0))?)?;
+    let told = format!(in alloc; "{FAST}{sum}")?;
+    assert_eq!(rt; told_of_check(done.texts().1), Some(told.as_str()));
+    Ok(())
+}
+
+/// An input of the stated rate, 27,000 ticks a packet: nothing is said of it but what the services take, 1,504,000 * 3 / 201 or
+/// 22,447.8 bits a second. With one PCR nothing is known.
+#[test]
+fn a_check_says_nothing_of_a_rate_that_is_as_stated(rt: HostRuntime) -> Result<(), Fail> {
+    let alloc = rt.alloc();
+    let pcrs = [
+        (0, false, 99),
+        (2_700_000, false, 99),
+        (5_400_000, false, 0),
+    ];
+    let done = does(rt, &CHECK, &mut files_of(alloc, example::PLAN, &pcrs)?)?;
+    let told = "services: measured 22448 bits a second of 1504000, the tables take 45120\n";
+    assert_eq!(rt; told_of_check(done.texts().1), Some(told));
+    let done = does(rt, &CHECK, &mut files_of(alloc, example::PLAN, &pcrs[..1])?)?;
+    let told = "rate: input 0 can't be measured: fewer than two PCRs were found\n";
+    assert_eq!(rt; told_of_check(done.texts().1), Some(told));
+    Ok(())
+}
