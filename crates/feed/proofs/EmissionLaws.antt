@@ -1,0 +1,28 @@
+-- Beginnings of an emission.
+use Rattle.std.proofs.Common.{◌≡◌, ℕ, ◌≤◌, zero, suc, List, [], ◌∷◌, take, slice_get, Some, arith, sym, subst}
+use Rattle.std.proofs.lemmas.List.{take-take}
+use Rattle.plan.specs.Build.{PlanValue}
+use Rattle.emission.specs.Emission.{IsEmission, MayGoOut}
+
+get_taken : {X : Type 0} (n : ℕ) (xs : List X) (k : ℕ) (x : X) → slice_get (take n xs) k ≡ Some x → slice_get xs k ≡ Some x
+get_taken zero xs k x e = cc
+get_taken (suc n) [] k x e = cc
+get_taken (suc n) (y ∷ xs) zero x e = e
+get_taken (suc n) (y ∷ xs) (suc k) x e = get_taken n xs k x e
+
+taken_below : {X : Type 0} (n : ℕ) (xs : List X) (k : ℕ) (x : X) → slice_get (take n xs) k ≡ Some x → k ≤ n
+taken_below zero xs k x e = absurd (cc)
+taken_below (suc n) [] k x e = absurd (cc)
+taken_below (suc n) (y ∷ xs) zero x e = omega arith
+taken_below (suc n) (y ∷ xs) (suc k) x e = let r = taken_below n xs k x e in omega arith
+
+pub nothing_sent : (p : PlanValue) → IsEmission p []
+nothing_sent p m q at = absurd (cc)
+
+pub emission_taken : (p : PlanValue) (out : List (List ℕ)) (n : ℕ) → IsEmission p out → IsEmission p (take n out)
+emission_taken p out n all m q at =
+    subst (λ (z : List (List ℕ)). MayGoOut p z q) (sym (take-take m n out (taken_below n out m q at))) (all m q (get_taken n out m q at))
+
+-- of the same plan and packets
+pub lawful_as : (p q : PlanValue) (xs ys : List (List ℕ)) → q ≡ p → ys ≡ xs → IsEmission p xs → IsEmission q ys
+lawful_as p q xs ys plan packets law = subst (λ (z : PlanValue × List (List ℕ)). IsEmission z.0 z.1) (λ i. (sym plan i, sym packets i)) law

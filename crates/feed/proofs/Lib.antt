@@ -1,0 +1,5 @@
+pub mod EmissionLaws
+pub mod StepLaws
+pub mod VersionLaws
+pub mod EndLaws
+pub mod ReadingLaws

@@ -1,0 +1,20 @@
+-- A reader that reads on.
+use Rattle.std.proofs.Common.{◌≡◌, ℕ, ◌+◌, ◌≤◌, zero, suc, List, [], ◌∷◌, ◌++◌, length, take, drop, refl, ap, arith}
+use mathlib.Core.List.{IsPrefix}
+
+as_many_taken : {X : Type 0} (most : ℕ) (xs : List X) → take (length (take most xs)) xs ≡ take most xs
+as_many_taken zero xs = refl
+as_many_taken (suc most) [] = refl
+as_many_taken (suc most) (x ∷ xs) = ap (λ ys. x ∷ ys) (as_many_taken most xs)
+
+-- what was read of a beginning, and at most so many behind it, is what was read of the whole
+pub read_on : {X : Type 0} (known all : List X) (count most : ℕ) → IsPrefix known all → count ≤ length known
+    → take (count + length (take most (drop count all))) all ≡ take count known ++ take most (drop count all)
+read_on known all zero most pre le = let e : 0 + length (take most all) ≡ length (take most all) = omega arith in rw e (as_many_taken most all)
+read_on [] all (suc count) most pre le = absurd (omega arith)
+read_on (x ∷ known) [] (suc count) most pre le = absurd (cc (pre.1))
+read_on (x ∷ known) (y ∷ all) (suc count) most pre le =
+    let head : x ≡ y = cc (pre.1) in
+    let rest = read_on known all count most (pre.0, cc (pre.1)) (omega arith) in
+    let e : suc count + length (take most (drop count all)) ≡ suc (count + length (take most (drop count all))) = omega arith in
+    rw e (cc (head, rest))
