@@ -88,11 +88,7 @@ fn stream_rate<R>(readers: &[Metered<R>], stream: &Stream) -> Option<u64> {
 }
 
 /// Says what the streams of a plan take in all, beside its rate, where all of them were measured.
-fn print_sum<R, E: Write>(
-    plan: &Plan,
-    readers: &[Metered<R>],
-    err: &mut E,
-) -> io::Result<()> {
+fn print_sum<R, E: Write>(plan: &Plan, readers: &[Metered<R>], err: &mut E) -> io::Result<()> {
     let mut sum = 0u64;
     for stream in plan.streams() {
         match stream_rate(readers, stream) {
@@ -109,11 +105,7 @@ fn print_sum<R, E: Write>(
 }
 
 /// Says of each stream of a plan whose buffer leaks more slowly than its packets come that it does.
-fn print_leaks<R, E: Write>(
-    plan: &Plan,
-    readers: &[Metered<R>],
-    err: &mut E,
-) -> io::Result<()> {
+fn print_leaks<R, E: Write>(plan: &Plan, readers: &[Metered<R>], err: &mut E) -> io::Result<()> {
     for stream in plan.streams() {
         let (output_pid, input, pid) = (stream.output_pid, stream.input, stream.pid);
         let leak = stream.leak;
