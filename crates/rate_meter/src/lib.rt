@@ -19,8 +19,6 @@ mod rate_meter;
 mod reading;
 mod seen;
 mod stepper;
-#[cfg(test)]
-mod tests;
 
 pub use clock::Clock;
 pub use deviation::{Deviation, deviation_of, off_by};
