@@ -56,7 +56,7 @@ is 'it prints the same' same serial.totals totals
 run check --plan plan.toml
 is 'a check says what the services take' has err 'services: measured 1684077 bits a second of 3000000, the tables take 60000'
 sed 's|^rate = 1000000$|rate = 1001000|' plan.toml > slow.toml
-run run --plan slow.toml --out slow.ts
+run check --plan slow.toml
 is 'an input that is slower than stated is told' has err 'rate: input 0 runs at 1000000 bits a second by the PCRs of PID 0x0101, 999 ppm below the stated 1001000'
 
 # A plan with room, and one whose services take more than its rate leaves.
@@ -138,6 +138,23 @@ echo before > more.ts
 is 'what was there is not overwritten' [ "$(head -c 7 more.ts)" = before ]
 "$program" run --plan plan.toml --out - < /dev/null 2> err >> north.ts
 is 'an input is no standard output' same north.ts north.kept
+
+# An input of as many bytes as it may have, and of one more; what is behind its packets are zeros that take no room.
+sed 's|"north.ts"|"long.ts"|' plan.toml > long.toml
+cp north.ts long.ts
+truncate -s 3154116609 long.ts
+for word in '' --serial; do
+    run run --plan long.toml --out long.out $word
+    is "an input past its limit fails $word" [ "$status" = 4 ]
+    is "it is named $word" [ "$(head -n 1 err)" = 'fault file long.ts' ]
+    is "it is told as too long $word" has err 'it has more than 3154116608 bytes'
+    is "its run leaves no output $word" absent long.out
+done
+truncate -s 3154116608 long.ts
+run run --plan long.toml --out long.out
+is 'an input to its limit is read' [ "$status" = 0 ]
+is 'its output is the same' same long.out whole.ts
+rm -f long.*
 
 # What can be read only once.
 sed 's|"north.ts"|"-"|' plan.toml > standard.toml

@@ -9,7 +9,6 @@ use crate::telling::{print_faults, tell_overfull};
 use crate::whole_run::run_plan;
 use files::{Files, OutputFile, open_output};
 use input_files::{ReadPlan, open_again, read_plan, stopped};
-use measuring::{Metered, print_rates, with_meters};
 use messages::CommandFault;
 use plan::Plan;
 use reading::Stop;
@@ -38,7 +37,7 @@ pub(crate) struct Asked<'a> {
     pub strict: bool,
 }
 
-/// What a run needs: a plan, what its inputs are read from, each with a meter, and what its output is written to.
+/// What a run needs: a plan, what its inputs are read from, and what its output is written to.
 struct Prepared<R, W> {
     plan: Plan,
     /// An equal plan, for the names of the inputs.
@@ -60,14 +59,14 @@ fn prepare<F: Files>(
     alloc: Global,
     files: &mut F,
     asked: &Asked,
-) -> Result<Prepared<Metered<F::Again>, F::Writer>, CommandFault>
+) -> Result<Prepared<F::Again, F::Writer>, CommandFault>
     ensures { IfOk result (λ p. length p.readers.items ≡ length p.plan.request.inputs) }
 {
     let read = read_plan(alloc, files, asked.plan)?;
     let identities = read.identities(alloc)?;
     let ReadPlan { plan, readers, .. } = read;
     let kept = plan.copy(alloc)?;
-    let readers = with_meters(alloc, open_again(alloc, files, &plan, readers)?)?;
+    let readers = open_again(alloc, files, &plan, readers)?;
     let (writer, _) = open_output(alloc, files, asked.out, &identities)?;
     Ok(Prepared {
         plan,
@@ -107,9 +106,7 @@ where
             let status = end(told.and(named), out, err);
             let _ = print_end(&ran.summary, &ran.readers, err);
             let _ = print_faults(&ran.summary, err);
-            let status = tell_overfull(&ran.plan, &ran.summary, asked, status, err);
-            let _ = print_rates(&ran.plan, &ran.readers, err);
-            status
+            tell_overfull(&ran.plan, &ran.summary, asked, status, err)
         }
         Err(fault) => end(Err(fault), out, err),
     };
@@ -124,11 +121,11 @@ fn run_prepared<T: Threads + Wait + Clock + Copy + Send + Drop + 'static, F: Fil
     rt: T,
     alloc: Global,
     files: &mut F,
-    prepared: Prepared<Metered<F::Again>, F::Writer>,
+    prepared: Prepared<F::Again, F::Writer>,
     asked: &Asked,
 ) -> (
     F::Writer,
-    Result<(Ran<Metered<F::Again>>, Result<u8, CommandFault>), CommandFault>,
+    Result<(Ran<F::Again>, Result<u8, CommandFault>), CommandFault>,
 )
 where
     F::Again: Send + 'static,
@@ -165,7 +162,7 @@ where
 fn name_output<F: Files>(
     alloc: Global,
     files: &mut F,
-    ran: &Ran<Metered<F::Again>>,
+    ran: &Ran<F::Again>,
     name: &str,
     limit: u64,
 ) -> Result<u8, CommandFault> {

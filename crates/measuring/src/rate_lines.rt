@@ -48,20 +48,6 @@ fn print_rate<E: Write>(
     }
 }
 
-/// Says of each input of a run what is wrong with its rate, if something is, where it was measured.
-pub fn print_rates<R, E: Write>(
-    plan: &Plan,
-    readers: &[Metered<R>],
-    err: &mut E,
-) -> io::Result<()> {
-    for (number, (input, reader)) in plan.inputs().iter().zip(readers.iter()).enumerate() {
-        if let Some(measured) = reader.measured() {
-            print_rate(number, measured, input.rate, err)?;
-        }
-    }
-    Ok(())
-}
-
 /// Says why the rate of an input isn't known.
 fn print_unmeasured<R: InputFile, E: Write>(
     number: usize,

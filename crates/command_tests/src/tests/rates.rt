@@ -1,16 +1,16 @@
 //! What is said of the rates of inputs.
 //!
 //! The plan is the example's: an input that is stated to have 1,504,000 bits a second, so that a packet takes a millisecond, and a
-//! multiplex of that rate. Packet k of the input goes out in slot k, or in the next one if that has a table; tables go out in the slots
-//! 0, 2 and 4 of each hundred.
+//! multiplex of that rate.
 
 use crate::tests::memory_files::{MemoryFiles, does};
-use crate::tests::whole_commands::ends;
 use std::alloc::{AllocError, Global};
+use std::process::Abort;
+use std::sync::Wait;
 use std::test::Fail;
+use std::thread::Threads;
+use std::time::Clock;
 use tspkt::{PCR_MODULUS, null};
-
-const RUN: [&str; 5] = ["run", "--plan", "x.toml", "--out", "out.ts"];
 
 const CHECK: [&str; 3] = ["check", "--plan", "x.toml"];
 
@@ -93,18 +93,23 @@ fn fast(first: u64) -> [Pcr; 4] {
     ]
 }
 
-/// 506 packets, those with PCRs at 4, 171, 338 and 505: 506 slots, six rounds of three tables. With a PCR that wraps it runs as fast.
+/// What is said first of an input with these PCRs.
+fn first_line<T: Abort + Threads + Wait + Clock + Copy + Send + Drop + 'static>(
+    rt: T,
+    alloc: Global,
+    pcrs: &[Pcr],
+) -> Result<String, AllocError> {
+    let done = does(rt, &CHECK, &mut files_of(alloc, example::PLAN, pcrs)?)?;
+    let told = told_of_check(done.texts().1).unwrap_or("");
+    format!(in alloc; "{}\n", told.lines().next().unwrap_or(""))
+}
+
+/// The same with a PCR that wraps.
 #[test]
 fn an_input_that_runs_fast_is_told(rt: HostRuntime) -> Result<(), Fail> {
-    let alloc = rt.alloc();
-    let lines =
-        "input 0 framed 506 malformed 0 unmapped 502 bad 0 losses 0 lost 0 taken 4 sent 4 queued 0
-slots 506 tables 18 elementary 4 null 484 faults 0
-";
-    let told = format!(in alloc; "end: all inputs ended\n{FAST}")?;
     for first in [0, PCR_MODULUS - 2 * STEP] {
-        let mut files = files_of(alloc, example::PLAN, &fast(first))?;
-        ends(&rt, &does(rt, &RUN, &mut files)?, 0, lines, &told);
+        let told = first_line(rt, rt.alloc(), &fast(first))?;
+        assert_eq!(rt; told.as_str(), FAST);
     }
     Ok(())
 }
@@ -122,19 +127,14 @@ fn splices_are_left_out(rt: HostRuntime) -> Result<(), Fail> {
         (far - 270_000_000, false, 166),
         (far - 270_000_000 + STEP, false, 0),
     ];
-    let mut files = files_of(rt.alloc(), example::PLAN, &pcrs)?;
-    let done = does(rt, &RUN, &mut files)?;
-    assert_eq!(rt;
-        done.texts().1.split_once('\n').map(|(_, told)| told),
-        Some(FAST)
-    );
+    let told = first_line(rt, rt.alloc(), &pcrs)?;
+    assert_eq!(rt; told.as_str(), FAST);
     Ok(())
 }
 
 /// A second of 1,000 packets and one of 500, each with a PCR at its half: points at 0, 2, 4, 5 and 6 times 47,000 bytes and at 0 to
 /// 4 times 13,500,000 ticks. 5 * 81 - 17 * 17 is 116, 5 * 49 - 17 * 10 is 75, and 47,000 bytes a half second are 752,000 bits a
-/// second: 752,000 * 116 / 75 is 1,163,093.3. 1,505 packets, those with PCRs at 4, 504, 1,004, 1,254 and 1,504: 1,506 slots, since slot 1,504
-/// has a table, and sixteen rounds of three tables.
+/// second: 752,000 * 116 / 75 is 1,163,093.3.
 #[test]
 fn an_input_of_variable_rate_is_told(rt: HostRuntime) -> Result<(), Fail> {
     let half = 13_500_000;
@@ -145,15 +145,11 @@ fn an_input_of_variable_rate_is_told(rt: HostRuntime) -> Result<(), Fail> {
         (3 * half, false, 249),
         (4 * half, false, 0),
     ];
-    let lines =
-        "input 0 framed 1505 malformed 0 unmapped 1500 bad 0 losses 0 lost 0 taken 5 sent 5 queued 0
-slots 1506 tables 48 elementary 5 null 1453 faults 0
+    let told = first_line(rt, rt.alloc(), &pcrs)?;
+    let variable =
+        "rate: input 0 is of variable rate by the PCRs of PID 0x0101, 1163093 bits a second in all; the plan states 1504000 throughout
 ";
-    let told = "end: all inputs ended
-rate: input 0 is of variable rate by the PCRs of PID 0x0101, 1163093 bits a second in all; the plan states 1504000 throughout
-";
-    let mut files = files_of(rt.alloc(), example::PLAN, &pcrs)?;
-    ends(&rt, &does(rt, &RUN, &mut files)?, 0, lines, told);
+    assert_eq!(rt; told.as_str(), variable);
     Ok(())
 }
 
