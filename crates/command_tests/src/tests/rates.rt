@@ -61,7 +61,7 @@ fn input_of(alloc: Global, pcrs: &[Pcr]) -> Result<Vec<u8>, AllocError> {
     let mut counter = 0;
     for (pcr, is_discontinuous, nulls) in pcrs {
         add_pcr(&mut bytes, counter, *pcr, *is_discontinuous)?;
-        counter = (counter + 1) % 16;
+        counter = counter.wrapping_add(1);
         for _ in 0..*nulls {
             bytes.extend_from_slice(null().bytes())?;
         }
