@@ -3,6 +3,7 @@
 mod delays;
 mod devices;
 mod memory_files;
+mod plan_causes;
 mod rates;
 mod runs;
 mod telling;

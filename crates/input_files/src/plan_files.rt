@@ -1,9 +1,11 @@
 //! A plan from its file and the files of its inputs.
 
-ghost use Rattle.std.specs.Prelude.{◌≡◌, ◌≤◌, ◌++◌, [], Ok, Some, true, false, length, map, is_some, IfOk, IfSome, OnOk};
+ghost use Rattle.std.specs.Prelude.{◌≡◌, ◌≤◌, ◌++◌, [], Ok, Some, true, false, length, map, is_some, IfOk, IfSome, IsSomeAnd, OnOk};
 ghost use Rattle.acquire.specs.Seen.{findings_of};
 ghost use Rattle.plan.specs.Build.{build_fault_of};
 ghost use Rattle.plan_causes.specs.Causes.{IsCauseOf, fault_of};
+ghost use Rattle.request.specs.Text.{text_parts};
+ghost use Rattle.request_causes.specs.Causes.{IsCauseOf as IsPartsCause, fault_of as parts_fault_of};
 
 use crate::file_identity::FileIdentity;
 use crate::input_file::InputFile;
@@ -14,7 +16,8 @@ use messages::{CommandFault, FileCause};
 use plan::Plan;
 use plan_causes::{PlanCause, cause_of};
 use reading::{INPUT_LIMIT, Source, Stop, StreamReader};
-use request::{PlanFault, Request};
+use request::{Parts, PlanFault, Request};
+use request_causes::{RequestCause, cause_of as parts_cause};
 use selection::seek;
 use std::alloc::{AllocError, Global};
 use std::str;
@@ -84,15 +87,42 @@ pub fn stopped<R: InputFile>(
     }
 }
 
-/// The request that a text writes. Where it is no plan's text, the fault says why.
+/// A cause of this fault of a plan's text, by the values that it writes. There is none of a text that is no plan's, and none of
+/// want of memory.
+fn cause_in_text(
+    alloc: Global,
+    fault: PlanFault,
+    text: &str,
+) -> Result<Option<RequestCause>, AllocError>
+    ensures cause { IfOk result (λ found. IfSome found
+        (λ cause. IsSomeAnd (text_parts text.now) (λ parts. IsPartsCause parts cause))) }
+    ensures fault { IfOk result (λ found. IfSome found (λ cause. parts_fault_of cause ≡ fault)) }
+{
+    match Parts::read(alloc, text) {
+        Ok(parts) => parts_cause(alloc, &parts, fault),
+        Err(_) => Ok(None),
+    }
+}
+
+/// The fault of a plan's text with the words of its cause.
+fn text_fault(alloc: Global, fault: PlanFault, text: &str) -> Result<CommandFault, AllocError> {
+    let words = match cause_in_text(alloc, fault, text)? {
+        Some(cause) => Some(format!(in alloc; "{cause}")?),
+        None if fault == PlanFault::BadText => text_cause(alloc, text)?,
+        None => None,
+    };
+    match words {
+        Some(words) => Ok(CommandFault::PlanCause(fault, words)),
+        None => Ok(CommandFault::from(fault)),
+    }
+}
+
+/// The request that a text writes. The fault says why the text is no plan's, or where its values are at fault, where there is
+/// memory for its words.
 fn request_of(alloc: Global, text: &str) -> Result<Request, CommandFault> {
     match Request::read(alloc, text) {
         Ok(request) => Ok(request),
-        Err(PlanFault::BadText) => match text_cause(alloc, text)? {
-            Some(cause) => Err(CommandFault::PlanCause(PlanFault::BadText, cause)),
-            None => Err(CommandFault::from(PlanFault::BadText)),
-        },
-        Err(fault) => Err(CommandFault::from(fault)),
+        Err(fault) => Err(text_fault(alloc, fault, text).unwrap_or(CommandFault::from(fault))),
     }
 }
 

@@ -336,64 +336,6 @@ fn a_plan_is_refused_by_the_number_of_its_fault(rt: HostRuntime) -> Result<(), F
     Ok(())
 }
 
-/// The program of the example's input has one stream, of type 0x02 on PID 0x0101. A round has the packets of PAT and PMT and
-/// one of the SDT or the NIT, with two slots each; 500 slots are half a second.
-const PLAN_CAUSES: [(&str, &str, &str); 5] = [
-    (
-        "program = 100",
-        "program = 101",
-        "fault 5 NoProgram
-a program is not in its input
-service 500 (input 0, program 101): the input's PAT has no such program, or its PMT was not found
-",
-    ),
-    (
-        "pid = 257",
-        "pid = 258",
-        "fault 8 RateMissing
-a stream of a program has no row in the plan
-service 500 (input 0, program 100): its PMT names PID 0x0101 (stream type 0x02), and no row has it
-",
-    ),
-    (
-        "leak = 2000000",
-        "leak = 2000000\n[[service.stream]]\npid = 258\nout = 513\nleak = 1000",
-        "fault 9 StreamUnknown
-a row of the plan names a stream that is not in its program
-service 500 (input 0, program 100): a row has PID 0x0102, and its PMT doesn't name it
-",
-    ),
-    (
-        "period = 100",
-        "period = 5",
-        "fault 11 RoundTooLong
-the tables do not fit into their period
-period is 5, at least 6
-",
-    ),
-    (
-        "period = 100",
-        "period = 501",
-        "fault 12 PeriodTooLong
-the period of the tables is too long
-period is 501, at most 500
-",
-    ),
-];
-
-#[test]
-fn a_refused_plan_is_told_where_it_is_at_fault(rt: HostRuntime) -> Result<(), Fail> {
-    let alloc = rt.alloc();
-    for (old, new, told) in PLAN_CAUSES {
-        let text = example::PLAN.replacen(alloc, old, new, 1)?;
-        let mut files = files(alloc)?;
-        files.add("p.toml", text.as_bytes())?;
-        let done = does(rt, &["check", "--plan", "p.toml"], &mut files)?;
-        ends(&rt, &done, 3, "", told);
-    }
-    Ok(())
-}
-
 /// A second service of the example's number, and one whose row of the example's PID has another output PID: both are told by
 /// the text alone, and neither as want of memory.
 #[test]

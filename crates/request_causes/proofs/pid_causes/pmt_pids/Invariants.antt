@@ -1,0 +1,7 @@
+use Rattle.std.proofs.Common.{◌≡◌, take, map}
+use Rattle.request.specs.Parts.{service_parts_value}
+use Rattle.request_causes.specs.Causes.{pmts_of}
+use Rattle.request_causes.proofs.pid_causes.pmt_pids.Given as goal
+
+abbrev pub invariant-loop-service : goal.invariant-loop-service
+invariant-loop-service l = l.pids.items ≡ pmts_of (map service_parts_value (take l.service-index l.services))
