@@ -7,11 +7,12 @@ use analysis::StreamAnalysis;
 use files::Files;
 use input_files::{InputFile, ReadPlan, open_again, read_plan};
 use measuring::{Metered, print_measured, read_on, with_meters};
-use messages::CommandFault;
+use messages::{CommandFault, FileCause};
 use plan::Plan;
+use rate_meter::RateMeter;
 use std::alloc::Global;
 use std::convert::AsStr;
-use std::io::Write;
+use std::io::{ErrorKind, Write};
 use std::sync::Wait;
 use std::thread::Threads;
 use std::time::Clock;
@@ -62,7 +63,7 @@ where
         Err(fault) => (print_line_fault(fault, out, err), None),
         Ok(Command::Check { plan }) => {
             let ended = check(alloc, files, plan, out, err);
-            (end(ended, out, err), None)
+            (end_over(plan, ended, out, err), None)
         }
         Ok(Command::Analyse { rate, period, file }) => {
             let ended = analyse(alloc, files, rate, period, file, out);
@@ -86,7 +87,7 @@ where
                 delays,
                 strict,
             };
-            run(rt, alloc, files, &asked, out, err)
+            run::<T, F, O, E, RateMeter>(rt, alloc, files, &asked, out, err)
         }
     }
 }
@@ -111,6 +112,37 @@ pub(crate) fn end<O: Write, E: Write>(
             let _ = fault.print(err);
             fault.status()
         }
+    }
+}
+
+/// The same of a command over the plan in this file. Where an input isn't there, it says from where names are taken.
+pub(crate) fn end_over<O: Write, E: Write>(
+    plan: &str,
+    ended: Result<u8, CommandFault>,
+    out: &mut O,
+    err: &mut E,
+) -> u8 {
+    let is_missing = match &ended {
+        Err(fault) => is_missing_input(plan, fault),
+        Ok(_) => false,
+    };
+    let status = end(ended, out, err);
+    if is_missing {
+        let _ = writeln!(
+            err,
+            "names in a plan are taken from the folder in which the program is called"
+        );
+    }
+    status
+}
+
+/// Whether a fault is that of a file that isn't there. It is an input then, unless it is the plan's: an output is made.
+fn is_missing_input(plan: &str, fault: &CommandFault) -> bool {
+    match fault {
+        CommandFault::File(name, FileCause::Open(error)) => {
+            error.kind() == ErrorKind::NotFound && name.as_str() != plan && !name.is_empty()
+        }
+        _ => false,
     }
 }
 
@@ -175,7 +207,7 @@ fn measure<F: Files>(
     first: Vec<F::Reader>,
 ) -> Result<Vec<Metered<F::Again>>, CommandFault> {
     let readers = open_again(alloc, files, plan, first)?;
-    let mut readers = with_meters(alloc, readers)?;
+    let mut readers: Vec<Metered<F::Again>> = with_meters(alloc, readers)?;
     for reader in readers.iter_mut() {
         if reader.length().is_some() {
             read_on(alloc, reader);

@@ -3,14 +3,16 @@
 ghost use Rattle.std.specs.Prelude.{◌≡◌, length, IfOk};
 ghost use Rattle.words.specs.Ranges.{IsAllowedLength};
 
-use crate::commands::end;
+use crate::commands::{end, end_over};
 use crate::printing::{print_delays, print_end, print_summary};
 use crate::telling::{print_faults, tell_overfull};
 use crate::whole_run::run_plan;
 use files::{Files, OutputFile, open_output};
-use input_files::{ReadPlan, open_again, read_plan, stopped};
+use input_files::{InputFile, ReadPlan, open_again, read_plan, stopped};
+use measuring::{Metered, print_wrong_rates, with_meters};
 use messages::CommandFault;
 use plan::Plan;
+use rate_meter::Meter;
 use reading::Stop;
 use serial::{RunFault, Summary};
 use std::alloc::Global;
@@ -76,12 +78,13 @@ fn prepare<F: Files>(
     })
 }
 
-/// Makes the multiplex of a plan, and prints what became of it.
+/// Makes the multiplex of a plan whose inputs have meters, and prints what became of it.
 pub(crate) fn run<
     T: Threads + Wait + Clock + Copy + Send + Drop + 'static,
     F: Files,
     O: Write,
     E: Write,
+    M: Meter + Send + Drop + 'static,
 >(
     rt: T,
     alloc: Global,
@@ -96,28 +99,43 @@ where
 {
     let prepared = match prepare(alloc, files, asked) {
         Ok(prepared) => prepared,
-        Err(fault) => return (end(Err(fault), out, err), None),
+        Err(fault) => return (end_over(asked.plan, Err(fault), out, err), None),
     };
     let is_standard = files.is_standard_output(asked.out);
-    let (writer, ran) = run_prepared(rt, alloc, files, prepared, asked);
+    let (writer, ran) = run_prepared::<T, F, M>(rt, alloc, files, prepared, asked);
     let status = match ran {
         Ok((ran, named)) => {
             let told = tell_run(&ran, is_standard, asked.delays, out, err);
             let status = end(told.and(named), out, err);
             let _ = print_end(&ran.summary, &ran.readers, err);
             let _ = print_faults(&ran.summary, err);
-            tell_overfull(&ran.plan, &ran.summary, asked, status, err)
+            let status = tell_overfull(&ran.plan, &ran.summary, asked, status, err);
+            tell_partial(files, err);
+            let _ = print_wrong_rates(&ran.plan, &ran.readers, err);
+            status
         }
-        Err(fault) => end(Err(fault), out, err),
+        Err(fault) => {
+            let status = end(Err(fault), out, err);
+            tell_partial(files, err);
+            status
+        }
     };
-    if let Some(partial) = files.partial() {
-        let _ = writeln!(err, "{partial}: the output so far");
-    }
     (status, Some(writer))
 }
 
+/// Says where an output stands that didn't get its name, if there is one.
+fn tell_partial<F: Files, E: Write>(files: &F, err: &mut E) {
+    if let Some(partial) = files.partial() {
+        let _ = writeln!(err, "{partial}: the output so far");
+    }
+}
+
 /// Makes the multiplex of a plan. A run that has ended by itself is answered with what became of its output.
-fn run_prepared<T: Threads + Wait + Clock + Copy + Send + Drop + 'static, F: Files>(
+fn run_prepared<
+    T: Threads + Wait + Clock + Copy + Send + Drop + 'static,
+    F: Files,
+    M: Meter + Send + Drop + 'static,
+>(
     rt: T,
     alloc: Global,
     files: &mut F,
@@ -125,7 +143,7 @@ fn run_prepared<T: Threads + Wait + Clock + Copy + Send + Drop + 'static, F: Fil
     asked: &Asked,
 ) -> (
     F::Writer,
-    Result<(Ran<F::Again>, Result<u8, CommandFault>), CommandFault>,
+    Result<(Ran<Metered<F::Again, M>>, Result<u8, CommandFault>), CommandFault>,
 )
 where
     F::Again: Send + 'static,
@@ -138,6 +156,9 @@ where
         readers,
         writer,
     } = prepared;
+    let Ok(readers) = with_meters(alloc, readers) else {
+        return (writer, Err(CommandFault::Memory));
+    };
     let (slots, limit) = (most_slots(asked.length), most_bytes(asked.length));
     let is_serial = asked.is_serial;
     match run_plan(rt, alloc, is_serial, plan, slots, limit, readers, writer) {
@@ -159,10 +180,10 @@ where
 }
 
 /// Gives the output of a run its name, where no input failed; each may have so many bytes.
-fn name_output<F: Files>(
+fn name_output<F: Files, R: InputFile>(
     alloc: Global,
     files: &mut F,
-    ran: &Ran<F::Again>,
+    ran: &Ran<R>,
     name: &str,
     limit: u64,
 ) -> Result<u8, CommandFault> {

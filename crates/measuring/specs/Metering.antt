@@ -1,27 +1,27 @@
 -- Sources whose bytes a meter sees (profile).
 use Rattle.std.specs.Prelude.{◌≡◌, ℕ, List, Option, Some, None}
-use Rattle.rate_meter.specs.declared.rate_meter.RateMeter.{RateMeter}
-use Rattle.rate_meter.specs.Meter.{MeterValue, shown_piece}
+use Rattle.rate_meter.specs.Meter.{shown_piece}
+use Rattle.rate_meter.specs.Steps.{Shown}
 use Rattle.measuring.specs.declared.metered.Metered.{Metered}
 
 -- what is read
-abbrev pub source_of : {R : Type 0} → Metered R → R
+abbrev pub source_of : {R M : Type 0} → Metered R M → R
 source_of m = m.source
 
 -- what measures it: none where there was no memory for it
-abbrev pub meter_of : {R : Type 0} → Metered R → Option RateMeter
+abbrev pub meter_of : {R M : Type 0} → Metered R M → Option M
 meter_of m = m.meter
 
 -- the bytes that it will give, where they are known
-abbrev pub metered_remaining : {R : Type 0} → (R → Option (List ℕ)) → Metered R → Option (List ℕ)
+abbrev pub metered_remaining : {R M : Type 0} → (R → Option (List ℕ)) → Metered R M → Option (List ℕ)
 metered_remaining remaining m = remaining m.source
 
 -- how often a read failed
-abbrev pub metered_failures : {R : Type 0} → (R → ℕ) → Metered R → ℕ
+abbrev pub metered_failures : {R M : Type 0} → (R → ℕ) → Metered R M → ℕ
 metered_failures failures m = failures m.source
 
--- a meter, where there is one, was shown this piece
-abbrev pub IsShown : List ℕ → Option MeterValue → Option MeterValue → Type 0
-IsShown piece None now = now ≡ None
-IsShown piece (Some before) None = ⊥
-IsShown piece (Some before) (Some now) = now.shown ≡ shown_piece piece before.shown
+-- a meter, where there is one, was shown this piece: `shown` is what a meter was shown
+abbrev pub IsShown : {M : Type 0} → (M → Shown) → List ℕ → Option M → Option M → Type 0
+IsShown shown piece None now = now ≡ None
+IsShown shown piece (Some before) None = ⊥
+IsShown shown piece (Some before) (Some now) = shown now ≡ shown_piece piece (shown before)

@@ -7,5 +7,5 @@ mod rate_lines;
 mod reading_on;
 
 pub use metered::{Metered, with_meters};
-pub use rate_lines::print_measured;
+pub use rate_lines::{print_measured, print_wrong_rates};
 pub use reading_on::read_on;

@@ -5,36 +5,36 @@ ghost use Rattle.measuring.specs.Metering.{source_of};
 
 use input_files::{FileIdentity, InputFile};
 use messages::FileCause;
-use rate_meter::{Measured, RateMeter};
+use rate_meter::{Measured, Meter, RateMeter};
 use reading::Source;
 use std::alloc::{AllocError, Global};
 use std::io;
 
 /// A source, and a meter that sees the bytes that are read from it. Without memory for a meter it is read all the same.
 #[derive(Drop)]
-pub struct Metered<R> {
+pub struct Metered<R, M = RateMeter> {
     source: R,
-    meter: Option<RateMeter>,
+    meter: Option<M>,
 }
 
-impl<R> Metered<R> {
+impl<R, M: Meter> Metered<R, M> {
     ghost use Rattle.std.specs.Prelude.{◌≡◌, IfSome, option_copied};
-    ghost use Rattle.rate_meter.specs.Meter.{measured_of, new_meter};
+    ghost use Rattle.rate_meter.specs.Meter.{new_meter};
     ghost use Rattle.measuring.specs.Metering.{source_of, meter_of};
 
     /// One of which nothing was read.
-    pub fn new(alloc: Global, source: R) -> Metered<R>
+    pub fn new(alloc: Global, source: R) -> Metered<R, M>
         ensures source { source_of result ≡ source }
-        ensures meter { IfSome (meter_of result) (λ m. m ≡ new_meter) }
+        ensures meter { IfSome (meter_of result) (λ m. M.shown m ≡ new_meter.shown) }
     {
         Metered {
             source,
-            meter: RateMeter::new(alloc).ok(),
+            meter: M::new(alloc).ok(),
         }
     }
 
     /// What measures it: none where there was no memory for it.
-    pub fn meter(&self) -> Option<&RateMeter>
+    pub fn meter(&self) -> Option<&M>
         ensures { option_copied result ≡ meter_of self.now }
     {
         self.meter.as_ref()
@@ -46,7 +46,7 @@ impl<R> Metered<R> {
     }
 }
 
-impl<R: Source> Source for Metered<R> {
+impl<R: Source, M: Meter> Source for Metered<R, M> {
     ghost use Rattle.std.specs.Prelude.{◌≡◌, IfOk, OnOk, OnErr, take};
     ghost use Rattle.std.specs.Io.{ReadsAtMost};
     ghost use Rattle.std.specs.Io.KnownBytes.{ReadConsumes};
@@ -66,7 +66,7 @@ impl<R: Source> Source for Metered<R> {
         ensures err { OnErr result
             (FailsOnce (metered_failures R.failures self.old) (metered_failures R.failures self.new)) }
 
-        ensures shown { IfOk result (λ count. IsShown (take count piece.new) (meter_of self.old) (meter_of self.new)) }
+        ensures shown { IfOk result (λ count. IsShown M.shown (take count piece.new) (meter_of self.old) (meter_of self.new)) }
         ensures unread { OnErr result (meter_of self.new ≡ meter_of self.old) }
     {
         let count = self.source.read(piece)?;
@@ -77,7 +77,7 @@ impl<R: Source> Source for Metered<R> {
     }
 }
 
-impl<R: InputFile> InputFile for Metered<R> {
+impl<R: InputFile, M: Meter> InputFile for Metered<R, M> {
     fn identity(&self) -> Option<FileIdentity> {
         self.source.identity()
     }
@@ -96,7 +96,10 @@ impl<R: InputFile> InputFile for Metered<R> {
 }
 
 /// Each of these sources with a meter, in their order.
-pub fn with_meters<R: Drop>(alloc: Global, sources: Vec<R>) -> Result<Vec<Metered<R>>, AllocError>
+pub fn with_meters<R: Drop, M: Meter + Drop>(
+    alloc: Global,
+    sources: Vec<R>,
+) -> Result<Vec<Metered<R, M>>, AllocError>
     ensures sources { IfOk result (λ all. map source_of all.items ≡ sources.items) }
     ensures count { IfOk result (λ all. length all.items ≡ length sources.items) }
 {

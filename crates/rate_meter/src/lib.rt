@@ -9,8 +9,10 @@
 mod clock;
 mod clocks;
 mod deviation;
+mod laws;
 mod line;
 mod measured;
+mod meter;
 mod pace;
 mod pid_clock;
 mod pid_counts;
@@ -22,8 +24,10 @@ mod stepper;
 
 pub use clock::Clock;
 pub use deviation::{Deviation, deviation_of, off_by};
+pub use laws::send_meter;
 pub use line::Line;
 pub use measured::Measured;
+pub use meter::Meter;
 pub use pace::Pace;
 pub use pid_clock::PidClock;
 pub use point::Point;

@@ -3,6 +3,7 @@
 use crate::clock::Clock;
 use crate::clocks::Clocks;
 use crate::measured::Measured;
+use crate::meter::Meter;
 use crate::pid_counts::PidCounts;
 use crate::seen::Seen;
 use crate::stepper::Stepper;
@@ -136,5 +137,25 @@ impl RateMeter {
             → IsNoLonger (measured_of pid self.now.shown.seen) result }
     {
         self.clocks.measured()
+    }
+}
+
+impl Meter for RateMeter {
+    ghost shown = { λ m. m.shown };
+
+    fn new(alloc: Global) -> Result<RateMeter, AllocError> {
+        RateMeter::new(alloc)
+    }
+
+    fn show(&mut self, piece: &[u8]) {
+        RateMeter::show(self, piece);
+    }
+
+    fn measured(&self) -> Option<Measured> {
+        RateMeter::measured(self)
+    }
+
+    fn pid_rate(&self, rate: u64, pid: u16) -> u64 {
+        RateMeter::pid_rate(self, rate, pid)
     }
 }

@@ -14,13 +14,15 @@ use tspkt::{PCR_MODULUS, null};
 
 const CHECK: [&str; 3] = ["check", "--plan", "x.toml"];
 
+const RUN: [&str; 5] = ["run", "--plan", "x.toml", "--out", "out.ts"];
+
 /// The ticks of 167 packets at 1,507,008 bits a second: 167 * 1,504 * 27,000,000 / 1,507,008 is 4,500,000. That rate is 1,504,000
 /// and 2 in a thousand more.
 const STEP: u64 = 4_500_000;
 
 /// What is said of an input of that rate.
 const FAST: &str =
-    "rate: input 0 runs at 1507008 bits a second by the PCRs of PID 0x0101, 2000 ppm above the stated 1504000
+    "rate: input 0 runs at 1507008 bits a second by the PCRs of PID 0x0101, 2000 ppm above the stated 1504000: state 1507008
 ";
 
 /// A packet of PID 0x0101 with a PCR: the PCR, below its modulus, the discontinuity indicator, and the null packets behind it.
@@ -104,12 +106,16 @@ fn first_line<T: Abort + Threads + Wait + Clock + Copy + Send + Drop + 'static>(
     format!(in alloc; "{}\n", told.lines().next().unwrap_or(""))
 }
 
-/// The same with a PCR that wraps.
+/// A check says it, and a run behind its end. The same with a PCR that wraps.
 #[test]
 fn an_input_that_runs_fast_is_told(rt: HostRuntime) -> Result<(), Fail> {
+    let alloc = rt.alloc();
+    let of_run = format!(in alloc; "end: all inputs ended\n{FAST}")?;
     for first in [0, PCR_MODULUS - 2 * STEP] {
-        let told = first_line(rt, rt.alloc(), &fast(first))?;
+        let told = first_line(rt, alloc, &fast(first))?;
         assert_eq!(rt; told.as_str(), FAST);
+        let done = does(rt, &RUN, &mut files_of(alloc, example::PLAN, &fast(first))?)?;
+        assert_eq!(rt; done.texts().1, of_run.as_str());
     }
     Ok(())
 }
@@ -147,7 +153,7 @@ fn an_input_of_variable_rate_is_told(rt: HostRuntime) -> Result<(), Fail> {
     ];
     let told = first_line(rt, rt.alloc(), &pcrs)?;
     let variable =
-        "rate: input 0 is of variable rate by the PCRs of PID 0x0101, 1163093 bits a second in all; the plan states 1504000 throughout
+        "rate: input 0 is of variable rate by the PCRs of PID 0x0101, 1163093 bits a second in all; the plan states 1504000 throughout: null packets have to make it constant first
 ";
     assert_eq!(rt; told.as_str(), variable);
     Ok(())
@@ -165,9 +171,12 @@ fn a_check_says_what_the_services_take(rt: HostRuntime) -> Result<(), Fail> {
     let text = example::PLAN.replace(alloc, "leak = 2000000", "leak = 12007")?;
     let done = does(rt, &CHECK, &mut files_of(alloc, &text, &fast(0))?)?;
     let leak =
-        "leak: stream 0x0200 (input 0, PID 0x0101): 12007 bits a second, below its measured 12008\n";
+        "leak: stream 0x0200 (input 0, PID 0x0101): 12007 bits a second, below its measured 12008: state more\n";
     let told = format!(in alloc; "{FAST}{sum}{leak}")?;
     assert_eq!(rt; told_of_check(done.texts().1), Some(told.as_str()));
+    let done = does(rt, &RUN, &mut files_of(alloc, &text, &fast(0))?)?;
+    let told = format!(in alloc; "end: all inputs ended\n{FAST}{leak}")?;
+    assert_eq!(rt; done.texts().1, told.as_str());
     let text = example::PLAN.replace(alloc, "leak = 2000000", "leak = 12008")?;
     let done = does(rt, &CHECK, &mut files_of(alloc, &text, &fast(0))?)?;
     let told = format!(in alloc; "{FAST}{sum}")?;
