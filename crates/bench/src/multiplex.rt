@@ -4,8 +4,8 @@ ghost use Rattle.std.specs.Prelude.{◌≤◌};
 ghost use Rattle.bench.specs.declared.workload.TheConstants.{MAX_STREAMS_AN_INPUT};
 
 use crate::workload::{INPUT_RATE, INPUTS, pids, plan};
-use anyhow::Result;
-use mux::{Mux, Offered, Sending};
+use anyhow::{Error, Result};
+use mux::{Counts, Mux, Offered, Sending};
 use std::alloc::Global;
 use std::rt::Clock;
 use std::time::Instant;
@@ -22,14 +22,29 @@ const LAST_PLACE: u64 = 3_000_000_000;
 pub fn run<R: Clock + Print + AllocGlobal>(rt: &R, streams_an_input: u8) -> Result<()>
     requires { streams_an_input ≤ MAX_STREAMS_AN_INPUT }
 {
-    let alloc = rt.alloc();
-    let mut mux = Mux::open(alloc, plan(alloc, streams_an_input)?, SLOTS)?;
-    let packets = packets(alloc, streams_an_input)?;
+    let packets = packets(rt.alloc(), streams_an_input)?;
+    let mut mux = opened(rt.alloc(), streams_an_input)?;
+    measure(rt, &mut mux, &packets)
+}
+
+/// The multiplex that is measured.
+fn opened(alloc: Global, streams_an_input: u8) -> Result<Mux>
+    requires { streams_an_input ≤ MAX_STREAMS_AN_INPUT }
+{
+    let plan = plan(alloc, streams_an_input)?;
+    Mux::open(alloc, plan, SLOTS).map_err(Error::from)
+}
+
+/// Drives a multiplex, and prints what it sent and in which time.
+fn measure<R: Clock + Print>(rt: &R, mux: &mut Mux, packets: &[Packet]) -> Result<()> {
     let start = Instant::now(rt)?;
-    drive(&mut mux, &packets);
+    drive(mux, packets);
     let nanoseconds = start.elapsed(rt)?.as_nanos();
-    let slots = mux.slots();
-    let counts = mux.counts();
+    print(rt, mux.slots(), mux.counts(), nanoseconds)
+}
+
+/// Prints how many slots were sent, what they carried, and the time a slot.
+fn print<R: Print>(rt: &R, slots: u64, counts: Counts, nanoseconds: u128) -> Result<()> {
     let (sent, tables) = (counts.elementary, counts.tables);
     let a_slot = nanoseconds / u128::from(slots.max(1));
     rt.println(format_args!(

@@ -4,8 +4,8 @@ ghost use Rattle.std.specs.Prelude.{◌≡◌, ◌<◌, ◌≤◌, length, IfOk}
 ghost use Rattle.mux.specs.declared.mux.TheConstants.{MAX_SLOTS};
 
 use acquire::Found;
-use anyhow::{Result, bail};
-use mux::Mux;
+use anyhow::{Error, Result, bail};
+use mux::{MAX_SLOTS, Mux};
 use plan::Plan;
 use request::Request;
 use section::{crc, packets_of};
@@ -89,14 +89,25 @@ fn find(alloc: Global, request: &Request, input: usize, packets: &[Packet]) -> R
     Ok(acquire.found())
 }
 
+/// What is found in the inputs of a request, each of which begins with these packets.
+fn find_all(alloc: Global, request: &Request, packets: &[Packet]) -> Result<Vec<Found>> {
+    let mut all = Vec::new(alloc);
+    for input in 0..request.inputs().len() {
+        all.push(find(alloc, request, input, packets)?)?;
+    }
+    Ok(all)
+}
+
+/// The plan of a request, whose inputs begin with these packets.
+fn build(alloc: Global, request: &Request, packets: &[Packet]) -> Result<Plan> {
+    let found = find_all(alloc, request, packets)?;
+    Plan::build(alloc, request, &found).map_err(Error::from)
+}
+
 /// The plan of this text, where each input begins with these packets.
 pub fn planned(alloc: Global, text: &str, packets: &[Packet]) -> Result<Plan> {
     let request = Request::read(alloc, text)?;
-    let mut found = Vec::new(alloc);
-    for input in 0..request.inputs().len() {
-        found.push(find(alloc, &request, input, packets)?)?;
-    }
-    Ok(Plan::build(alloc, &request, &found)?)
+    build(alloc, &request, packets)
 }
 
 /// A multiplex of a plan that has so many inputs, for at most this many slots.
@@ -108,4 +119,12 @@ pub fn open(alloc: Global, plan: Plan, inputs: usize, slots: u64) -> Result<Mux>
         bail!("the plan has another number of inputs");
     }
     Ok(Mux::open(alloc, plan, slots)?)
+}
+
+/// A multiplex of the example's plan, for as many slots as a run may have.
+pub(crate) fn opened(alloc: Global) -> Result<Mux>
+    ensures { IfOk result (λ m. length m.run.plan.request.inputs ≡ 1) }
+{
+    let tables = tables(alloc)?;
+    open(alloc, planned(alloc, PLAN, &tables)?, 1, MAX_SLOTS)
 }

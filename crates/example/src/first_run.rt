@@ -5,7 +5,7 @@ ghost use Rattle.std.specs.Prelude.{◌<◌, length};
 use crate::example_plan;
 use crate::input_packets::packets;
 use anyhow::{Result, bail};
-use mux::{MAX_SLOTS, Mux, Slot, Taken};
+use mux::{Mux, Slot, Taken};
 use std::alloc::Global;
 use tspkt::{Item, Packet, Stamped, frame, time};
 
@@ -34,11 +34,8 @@ fn take_all(alloc: Global, mux: &mut Mux, input: usize, bytes: Vec<u8>) -> Resul
     Ok(())
 }
 
-/// The packets of the first slots.
-pub fn first_slots(alloc: Global) -> Result<Vec<Packet>> {
-    let plan = example_plan::planned(alloc, example_plan::PLAN, &example_plan::tables(alloc)?)?;
-    let mut mux = example_plan::open(alloc, plan, 1, MAX_SLOTS)?;
-    take_all(alloc, &mut mux, 0, packets(alloc, &[0, 1, 2, 3, 4])?)?;
+/// The packets of the next slots.
+fn send(alloc: Global, mux: &mut Mux) -> Result<Vec<Packet>> {
     let mut sent = Vec::new(alloc);
     for _ in 0..SLOTS {
         let Slot::Sent(packet) = mux.slot() else {
@@ -47,4 +44,19 @@ pub fn first_slots(alloc: Global) -> Result<Vec<Packet>> {
         sent.push(packet)?;
     }
     Ok(sent)
+}
+
+/// The packets of the slots of a multiplex whose first input has these bytes.
+fn slots_of(alloc: Global, mux: &mut Mux, bytes: Vec<u8>) -> Result<Vec<Packet>>
+    requires { 0 < length mux.old.run.plan.request.inputs }
+{
+    take_all(alloc, mux, 0, bytes)?;
+    send(alloc, mux)
+}
+
+/// The packets of the first slots.
+pub fn first_slots(alloc: Global) -> Result<Vec<Packet>> {
+    let bytes = packets(alloc, &[0, 1, 2, 3, 4])?;
+    let mut mux = example_plan::opened(alloc)?;
+    slots_of(alloc, &mut mux, bytes)
 }

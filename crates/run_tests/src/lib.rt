@@ -3,12 +3,12 @@
 #![tactic(auto)]
 
 #[cfg(test)]
-mod example_tests;
-#[cfg(test)]
 mod mux_tests;
 #[cfg(test)]
 mod reading_tests;
 #[cfg(test)]
 mod serial_tests;
+#[cfg(test)]
+mod stamped_packets;
 #[cfg(test)]
 mod threaded_tests;

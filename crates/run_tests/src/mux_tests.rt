@@ -1,23 +1,281 @@
-//! A multiplex of one input with one stream, with numbers worked out on paper: a slot takes 27,000 ticks, and so does a packet
-//! of the input. Slots 0, 2 and 4 have tables.
+//! Multiplexes of the example's plans, with numbers worked out on paper: a slot takes 27,000 ticks, and so does a packet of an
+//! input; packet k of an input has the time of slot k. Tables go out in the slots 0, 2 and 4, 100, 102 and 104, and so on.
 
-mod one_input;
+mod call;
+mod driven;
+mod kept;
+mod table_slots;
 
-use crate::mux_tests::one_input::{OneInput, OneRecordedInput};
-use acquire::Found;
-use mux::{Counts, Offered, Peak, Sending, Slot, Taken, Totals};
+ghost use Rattle.std.specs.Prelude.{◌≤◌};
+ghost use Rattle.mux.specs.declared.mux.TheConstants.{MAX_SLOTS};
+
+use crate::mux_tests::call::{Answer, Call};
+use crate::mux_tests::driven::Driven;
+use crate::stamped_packets::{item, stamped};
+use example::plan_of;
+use mux::{Counts, Offered, Peak, Sending, Totals};
 use plan::Plan;
-use request::Request;
 use std::alloc::Global;
 use std::process::Abort;
-use tables::{Pmt, Sdt};
-use tspkt::{Packet, Stamped};
+use std::test::Fail;
 
-const PLAN: &str = "rate = 1504000
+/// What is called, and what is answered.
+type Row = (Call, Answer);
+
+/// A multiplex of a plan, opened for so many slots, answers as the rows say.
+fn answers(rt: &impl Abort, alloc: Global, plan: Plan, slots: u64, rows: &[Row]) -> Result<(), Fail>
+    requires { slots ≤ MAX_SLOTS }
+{
+    let mut mux = Driven::open(alloc, plan, slots)?;
+    for (call, answer) in rows {
+        assert_eq!(rt; mux.answer(*call), *answer, "{call:?}");
+    }
+    Ok(())
+}
+
+/// The first reason against a packet is answered, in this order: its input is closed, no stream has its PID, its time is before
+/// that of the packet before it, the queue of its stream is full. The queue has room for one packet.
+const REASONS: [Row; 9] = [
+    (
+        Call::Offer(0, 0x02, 0, 1_436),
+        Answer::Offered(Offered::Stranger),
+    ),
+    (
+        Call::Offer(0, 0x01, 1, 28_436),
+        Answer::Offered(Offered::Taken),
+    ),
+    (
+        Call::Offer(0, 0x02, 0, 1_436),
+        Answer::Offered(Offered::Stranger),
+    ),
+    (
+        Call::Offer(0, 0x01, 0, 28_435),
+        Answer::Offered(Offered::Backward),
+    ),
+    (
+        Call::Offer(0, 0x01, 2, 55_436),
+        Answer::Offered(Offered::Full),
+    ),
+    (Call::Close(0), Answer::Closed),
+    (
+        Call::Offer(0, 0x02, 0, 1_436),
+        Answer::Offered(Offered::Closed),
+    ),
+    (
+        Call::Offer(0, 0x01, 2, 55_436),
+        Answer::Offered(Offered::Closed),
+    ),
+    (Call::Send, Answer::Unsent(Sending::NotReady(1))),
+];
+
+/// A packet that is given away comes back with each refusal.
+const HANDED_BACK: [Row; 6] = [
+    (
+        Call::Take(0, 0x02, 3, 1_436),
+        Answer::Back(Offered::Stranger, 3, 1_436),
+    ),
+    (
+        Call::Take(0, 0x01, 1, 28_436),
+        Answer::Offered(Offered::Taken),
+    ),
+    (
+        Call::Take(0, 0x01, 0, 1_436),
+        Answer::Back(Offered::Backward, 0, 1_436),
+    ),
+    (
+        Call::Take(0, 0x01, 2, 55_436),
+        Answer::Back(Offered::Full, 2, 55_436),
+    ),
+    (Call::Close(0), Answer::Closed),
+    (
+        Call::Take(0, 0x01, 2, 55_436),
+        Answer::Back(Offered::Closed, 2, 55_436),
+    ),
+];
+
+#[test]
+fn the_first_reason_is_answered(rt: HostRuntime) -> Result<(), Fail> {
+    for rows in [REASONS.as_slice(), HANDED_BACK.as_slice()] {
+        answers(&rt, rt.alloc(), plan_of(rt.alloc(), 1, &[0, 0])?, 10, rows)?;
+    }
+    Ok(())
+}
+
+/// The packet waits for a slot, and the buffer, which empties faster than packets come, holds one byte behind it.
+const ONE_PACKET: [Row; 12] = [
+    (Call::Last, Answer::Nothing),
+    (
+        Call::Offer(0, 0x01, 0, 1_436),
+        Answer::Offered(Offered::Taken),
+    ),
+    (Call::Send, Answer::Unsent(Sending::NotReady(0))),
+    (Call::Close(0), Answer::Closed),
+    (Call::Send, Answer::Sent(0x0000, 0)),
+    (Call::Send, Answer::Sent(0x0200, 0)),
+    (Call::Last, Answer::Sent(0x0200, 0)),
+    (Call::Send, Answer::Unsent(Sending::Done)),
+    (Call::Slots, Answer::Slots(2)),
+    (
+        Call::Counts,
+        Answer::Counts(Counts {
+            tables: 1,
+            elementary: 1,
+            null: 0,
+        }),
+    ),
+    (Call::Level(0), Answer::Level(1_504_000)),
+    (
+        Call::Peak(0),
+        Answer::Peak(Peak {
+            delay: 27_000,
+            queued: 1,
+        }),
+    ),
+];
+
+const NO_PACKET: [Row; 4] = [
+    (Call::Send, Answer::Unsent(Sending::NotReady(0))),
+    (Call::Close(0), Answer::Closed),
+    (Call::Send, Answer::Unsent(Sending::Done)),
+    (Call::Slots, Answer::Slots(0)),
+];
+
+/// A full queue makes its input ready for one slot.
+const FULL: [Row; 8] = [
+    (
+        Call::Offer(0, 0x01, 0, 1_436),
+        Answer::Offered(Offered::Taken),
+    ),
+    (
+        Call::Take(0, 0x01, 1, 28_436),
+        Answer::Back(Offered::Full, 1, 28_436),
+    ),
+    (
+        Call::Offer(0, 0x01, 1, 28_436),
+        Answer::Offered(Offered::Full),
+    ),
+    (Call::Send, Answer::Sent(0x0000, 0)),
+    (Call::Slot, Answer::Unsent(Sending::NotReady(0))),
+    (
+        Call::Offer(0, 0x01, 1, 28_436),
+        Answer::Offered(Offered::Full),
+    ),
+    (Call::Slot, Answer::Sent(0x0200, 0)),
+    (
+        Call::Totals(0),
+        Answer::Totals(Totals {
+            taken: 1,
+            sent: 1,
+            queued: 0,
+        }),
+    ),
+];
+
+#[test]
+fn slots_go_out_once_the_input_is_ready(rt: HostRuntime) -> Result<(), Fail> {
+    for rows in [ONE_PACKET.as_slice(), NO_PACKET.as_slice(), FULL.as_slice()] {
+        answers(&rt, rt.alloc(), plan_of(rt.alloc(), 1, &[0])?, 10, rows)?;
+    }
+    Ok(())
+}
+
+const ONE_SLOT: [Row; 5] = [
+    (
+        Call::Offer(0, 0x01, 0, 1_436),
+        Answer::Offered(Offered::Taken),
+    ),
+    (
+        Call::Offer(0, 0x01, 1, 28_436),
+        Answer::Offered(Offered::Full),
+    ),
+    (Call::Send, Answer::Sent(0x0000, 0)),
+    (Call::Send, Answer::Unsent(Sending::RunFull)),
+    (
+        Call::Totals(0),
+        Answer::Totals(Totals {
+            taken: 1,
+            sent: 0,
+            queued: 1,
+        }),
+    ),
+];
+
+#[test]
+fn a_run_has_no_more_slots_than_it_was_opened_for(rt: HostRuntime) -> Result<(), Fail> {
+    answers(&rt, rt.alloc(), plan_of(rt.alloc(), 1, &[0])?, 1, &ONE_SLOT)
+}
+
+/// A multiplex of a plan that took packets 0 to 4 of each input, the last input first.
+fn with_five(alloc: Global, plan: Plan) -> Result<Driven, Fail> {
+    let inputs = plan.inputs().len();
+    let mut mux = Driven::open(alloc, plan, 1_000)?;
+    for input in (0..inputs).rev() {
+        for k in 0..5 {
+            let taken = mux.offer(input, &item(k).ok_or("no packet")?);
+            if taken != Answer::Offered(Offered::Taken) {
+                return Err(Fail::from("a packet was not taken"));
+            }
+        }
+    }
+    Ok(mux)
+}
+
+/// The packet last taken comes when slot 4 goes out, so one before it might still come.
+const FIVE_OF_ONE: [Row; 10] = [
+    (Call::Send, Answer::Sent(0x0000, 0)),
+    (Call::Send, Answer::Sent(0x0200, 0)),
+    (Call::Send, Answer::Sent(0x0100, 0)),
+    (Call::Send, Answer::Sent(0x0200, 1)),
+    (Call::Send, Answer::Unsent(Sending::NotReady(0))),
+    (Call::Close(0), Answer::Closed),
+    (Call::Slot, Answer::Sent(0x0011, 0)),
+    (Call::Slot, Answer::Sent(0x0200, 2)),
+    (Call::Slot, Answer::Sent(0x0200, 3)),
+    (Call::Slot, Answer::Sent(0x0200, 4)),
+];
+
+/// Packets of equal times go out by their PIDs.
+const FIVE_OF_TWO: [Row; 18] = [
+    (Call::Close(0), Answer::Closed),
+    (Call::Close(1), Answer::Closed),
+    (Call::Close(1), Answer::Closed),
+    (Call::Slot, Answer::Sent(0x0000, 0)),
+    (Call::Slot, Answer::Sent(0x0200, 0)),
+    (Call::Slot, Answer::Sent(0x0100, 0)),
+    (Call::Slot, Answer::Sent(0x0201, 0)),
+    (Call::Slot, Answer::Sent(0x0101, 0)),
+    (Call::Slot, Answer::Sent(0x0200, 1)),
+    (Call::Slot, Answer::Sent(0x0011, 0)),
+    (Call::Slot, Answer::Sent(0x0201, 1)),
+    (Call::Slot, Answer::Sent(0x0200, 2)),
+    (Call::Slot, Answer::Sent(0x0201, 2)),
+    (Call::Slot, Answer::Sent(0x0200, 3)),
+    (Call::Slot, Answer::Sent(0x0201, 3)),
+    (Call::Slot, Answer::Sent(0x0200, 4)),
+    (Call::Slot, Answer::Sent(0x0201, 4)),
+    (Call::Slot, Answer::Unsent(Sending::Done)),
+];
+
+#[test]
+fn packets_go_out_in_turn(rt: HostRuntime) -> Result<(), Fail> {
+    for (offsets, rows) in [
+        ([0].as_slice(), FIVE_OF_ONE.as_slice()),
+        ([0, 0].as_slice(), FIVE_OF_TWO.as_slice()),
+    ] {
+        let mut mux = with_five(rt.alloc(), plan_of(rt.alloc(), 64, offsets)?)?;
+        for (call, answer) in rows {
+            assert_eq!(rt; mux.answer(*call), *answer, "{call:?}");
+        }
+    }
+    Ok(())
+}
+
+/// The example plan with an input at four times the rate of the multiplex, whose stream's buffer leaks a quarter of it.
+const FAST_INPUT: &str = "rate = 1504000
 period = 100
 watch = 1000
 version = 0
-queue = 1
+queue = 64
 ring = 64
 transport_stream_id = 1
 original_network_id = 2
@@ -26,7 +284,7 @@ network_name = \"N\"
 transport_descriptors = \"\"
 [[input]]
 file = \"x.ts\"
-rate = 1504000
+rate = 6016000
 offset = 0
 [[service]]
 input = 0
@@ -36,121 +294,38 @@ pmt = 256
 [[service.stream]]
 pid = 257
 out = 512
-leak = 2000000
+leak = 376000
 ";
 
-/// The PMT of program 100: one stream, of video, on PID 0x0101 with the PCR.
-const PMT: [u8; 21] = [
-    0x02, 0xB0, 0x12, 0, 100, 0xC1, 0, 0, 0xE1, 0x01, 0xF0, 0x00, 0x02, 0xE1, 0x01, 0xF0, 0x00,
-    0x38, 0x7F, 0xDC, 0x51,
+/// The slots of this plan, and the level of the stream's buffer behind each. Two packets one behind the other fill the buffer, and a
+/// third waits for three slots, which are null: the bound is 512 bytes, 770,048,000, and a packet in slot 9 would reach 777,944,000.
+const LEVELS: [(u16, u8, u64); 11] = [
+    (0x0000, 0, 0),
+    (0x0200, 0, 212_440_000),
+    (0x0100, 0, 141_752_000),
+    (0x0200, 1, 353_816_000),
+    (0x0011, 0, 283_128_000),
+    (0x0200, 2, 495_192_000),
+    (0x0200, 3, 707_256_000),
+    (0x1FFF, 0, 636_568_000),
+    (0x1FFF, 0, 565_880_000),
+    (0x1FFF, 0, 495_192_000),
+    (0x0200, 4, 707_256_000),
 ];
 
-/// The SDT, with a service descriptor of program 100.
-const SDT: [u8; 27] = [
-    0x42, 0xF0, 0x18, 0, 7, 0xC1, 0, 0, 0, 9, 0xFF, 0, 100, 0xFC, 0x80, 7, 0x48, 5, 0x01, 1, b'A',
-    1, b'B', 0xA5, 0x2E, 0x15, 0xB4,
-];
-
-/// The times of the input's first packet and of slot 0, and of the second packet and slot 1: the tenth byte of each.
-const FIRST: u64 = 1_436;
-
-const SECOND: u64 = 28_436;
-
-fn plan(alloc: Global) -> Option<Plan> {
-    let request = Request::read(alloc, PLAN).ok()?;
-    let pmt = Pmt::read(alloc, &PMT).ok()?;
-    let sdt = Sdt::read(alloc, &SDT).ok()?;
-    let found = Found {
-        pmts: vec![in alloc; Some(pmt)].ok()?,
-        sdt: Some(vec![in alloc; sdt].ok()?),
-    };
-    Plan::build(alloc, &request, &[found]).ok()
-}
-
-/// A packet of the input with payload alone, of this PID and time.
-fn packet(rt: &impl Abort, pid: u8, stamp: u64) -> Stamped {
-    let mut bytes = [0xAA; 188];
-    bytes[0] = 0x47;
-    bytes[1] = 0x01;
-    bytes[2] = pid;
-    bytes[3] = 0x10;
-    Stamped {
-        packet: Packet::read(&bytes).expect(rt, "a packet"),
-        stamp,
+/// The input has 64 packets, which come 6,750 ticks apart.
+#[test]
+fn a_full_buffer_makes_its_packets_wait(rt: HostRuntime) -> Result<(), Fail> {
+    let alloc = rt.alloc();
+    let plan = example::planned(alloc, FAST_INPUT, &example::tables(alloc)?)?;
+    let mut mux = Driven::open(alloc, plan, 1_000)?;
+    for k in 0..64 {
+        let item = stamped(0x01, k, 6_750 * u64::from(k) + 359).ok_or("no packet")?;
+        assert_eq!(rt; mux.offer(0, &item), Answer::Offered(Offered::Taken));
     }
-}
-
-#[test]
-fn each_offer_is_answered(rt: HostRuntime) {
-    let mut mux = OneInput::open(rt.alloc(), 10).expect(&rt, "a multiplex");
-    assert_eq!(rt; mux.offer(&packet(&rt, 0x02, FIRST)), Offered::Stranger);
-    assert_eq!(rt; mux.offer(&packet(&rt, 0x01, FIRST)), Offered::Taken);
-    assert_eq!(rt; mux.offer(&packet(&rt, 0x01, FIRST - 1)), Offered::Backward);
-    assert_eq!(rt; mux.offer(&packet(&rt, 0x01, SECOND)), Offered::Full);
-    assert!(rt; mux.close());
-    assert_eq!(rt; mux.offer(&packet(&rt, 0x01, SECOND)), Offered::Closed);
-}
-
-#[test]
-fn slots_go_out_once_the_input_is_ready(rt: HostRuntime) {
-    let mut mux = OneInput::open(rt.alloc(), 10).expect(&rt, "a multiplex");
-    assert_eq!(rt; mux.last_pid(), None);
-    assert_eq!(rt; mux.offer(&packet(&rt, 0x01, FIRST)), Offered::Taken);
-    assert_eq!(rt; mux.send_next(), Sending::NotReady(0));
-    assert!(rt; mux.close());
-    assert_eq!(rt; mux.send_next(), Sending::Sent);
-    assert_eq!(rt; mux.last_pid(), Some(0x0000));
-    assert_eq!(rt; mux.send_next(), Sending::Sent);
-    assert_eq!(rt; mux.last_pid(), Some(0x0200));
-    assert_eq!(rt; mux.send_next(), Sending::Done);
-}
-
-#[test]
-fn a_run_has_no_more_slots_than_it_was_opened_for(rt: HostRuntime) {
-    let mut mux = OneInput::open(rt.alloc(), 1).expect(&rt, "a multiplex");
-    assert_eq!(rt; mux.offer(&packet(&rt, 0x01, FIRST)), Offered::Taken);
-    assert_eq!(rt; mux.offer(&packet(&rt, 0x01, SECOND)), Offered::Full);
-    assert_eq!(rt; mux.send_next(), Sending::Sent);
-    assert_eq!(rt; mux.send_next(), Sending::RunFull);
-    let waits = Totals {
-        taken: 1,
-        sent: 0,
-        queued: 1,
-    };
-    assert_eq!(rt; mux.totals(), waits);
-}
-
-/// The packet waits for a slot, and the buffer, which empties faster than packets come, holds one byte behind it.
-#[test]
-fn what_became_of_a_packet_is_told(rt: HostRuntime) {
-    let mut mux = OneInput::open(rt.alloc(), 2).expect(&rt, "a multiplex");
-    assert_eq!(rt; mux.offer(&packet(&rt, 0x01, FIRST)), Offered::Taken);
-    assert!(rt; mux.close());
-    assert_eq!(rt; mux.send_next(), Sending::Sent);
-    assert_eq!(rt; mux.send_next(), Sending::Sent);
-    let counts = Counts {
-        tables: 1,
-        elementary: 1,
-        null: 0,
-    };
-    assert_eq!(rt; mux.counts(), counts);
-    assert_eq!(rt; mux.slots(), 2);
-    assert_eq!(rt; mux.level(), 1_504_000);
-    let peak = Peak {
-        delay: 27_000,
-        queued: 1,
-    };
-    assert_eq!(rt; mux.peak(), peak);
-}
-
-#[test]
-fn what_was_sent_is_kept_where_it_is_asked_for(rt: HostRuntime) {
-    let mut mux = OneRecordedInput::open(rt.alloc()).expect(&rt, "a multiplex");
-    assert!(rt; matches!(&mux.take(packet(&rt, 0x01, SECOND)), Taken::Ok));
-    assert!(rt; matches!(&mux.take(packet(&rt, 0x01, SECOND)), Taken::Full(_)));
-    assert!(rt; matches!(&mux.slot(), Slot::Sent(_)));
-    assert!(rt; mux.close());
-    assert!(rt; matches!(&mux.slot(), Slot::Sent(_)));
-    assert!(rt; matches!(&mux.slot(), Slot::Done));
-    assert_eq!(rt; mux.pids(), Some((0x0000, 0x0200)));
+    for (pid, counter, level) in LEVELS {
+        assert_eq!(rt; mux.answer(Call::Send), Answer::Sent(pid, counter));
+        assert_eq!(rt; mux.answer(Call::Level(0)), Answer::Level(level));
+    }
+    Ok(())
 }

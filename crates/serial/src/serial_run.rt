@@ -55,13 +55,14 @@ impl<R: Source + Drop> SerialRun<R> {
         ensures waiting { IfOk result (λ r. r.output.writer ≡ []) }
         ensures failures { IfOk result (λ r. AllTellFailures R.failures (map R.failures readers.items) r.inputs.items) }
     {
-        let inputs = open_inputs(alloc, &plan, limit, readers)?;
+        let piece = vec![in alloc; 0; PIECE]?;
         let output = SlotWriter::new(alloc, plan.rate(), plan.request().watch())?;
+        let inputs = open_inputs(alloc, &plan, limit, readers)?;
         let mux = Mux::open(alloc, plan, slots)?;
         Ok(SerialRun {
             mux,
             inputs,
-            piece: vec![in alloc; 0; PIECE]?,
+            piece,
             output,
         })
     }

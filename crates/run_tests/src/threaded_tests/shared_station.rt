@@ -2,7 +2,7 @@
 
 ghost use Rattle.std.specs.Prelude.{◌≡◌, length};
 
-use crate::example_tests::helpers::item;
+use crate::stamped_packets::item;
 use crate::threaded_tests::runs::run_in_one;
 use example::{plan_of, plan_with_rings};
 use mux::Sending;
@@ -55,7 +55,7 @@ fn send_next(rt: &impl Abort, port: Port, first: u8, sent: &mut u8) -> Option<Po
             Err(back) => Some(back),
         };
     }
-    let mut next = item(rt, *sent, 0);
+    let mut next = item(*sent).expect(rt, "a packet");
     next.packet = next.packet.with_counter(first.wrapping_add(*sent) % 16);
     if port.offer(next).is_ok() {
         *sent = sent.saturating_add(1);

@@ -8,7 +8,7 @@ use Rattle.serial.proofs.serial_run.SerialRun.open.Goals as goal
 pub returns-clause-running : goal.returns-clause-running
 returns-clause-running g c =
     let p = c.args.plan in
-    let piece : 0 < length c.in_ok-vec.field-0.items = omega (arith, c.in_ok-vec.ensures.len, c.in_ok-vec.field-0.ok.0) in
+    let piece : 0 < length c.in_ok-piece.piece.items = omega (arith, c.in_ok-piece.ensures.len, c.in_ok-piece.piece.ok.0) in
     let P : ℕ → Type 0 = λ n. HasAnalysed c.in_ok-output.output n c.watch.result [] in
     let Q : ℕ → Type 0 = λ n. HasAnalysed c.in_ok-output.output p.request.rate n [] in
     let watch = c.watch.ensures.value ∙ ap (λ (v : RequestValue). v.watch) c.request.ensures.value in
