@@ -1,13 +1,25 @@
 //! Packets that are made here, after the layouts of the standards.
 
-use acquire::{Acquire, find_tables};
+use acquire::{Acquire, Found, find_tables};
 use section::packets_of;
-use std::alloc::Global;
+use std::alloc::{AllocError, Global};
 use std::test::Fail;
 use tspkt::Packet;
 
 /// The PID on which the PMTs of these tests are.
 const PMT_PID: u16 = 0x0100;
+
+/// A section that packets bring.
+#[derive(Clone, Copy, Debug)]
+enum Made {
+    /// A section of the PAT: its version, its section_number and last_section_number, and its one program.
+    Pat(u8, [u8; 2], u8),
+    /// The same in scrambled packets.
+    Scrambled(u8, [u8; 2], u8),
+    /// The PMT of a program.
+    Pmt(u8),
+    Sdt,
+}
 
 /// Adds the packets of a section with these eight bytes of header and this body: section_length and
 /// CRC_32 are put in.
@@ -57,6 +69,36 @@ fn add_sdt(alloc: Global, packets: &mut Vec<Packet>) -> Result<(), Fail> {
     add(alloc, packets, 0x0011, header, &body)
 }
 
+/// Adds the packets, scrambled.
+fn add_scrambled(packets: &mut Vec<Packet>, clear: &[Packet]) -> Result<(), Fail> {
+    for packet in clear {
+        let mut bytes = *packet.bytes();
+        bytes[3] = 0x80 + bytes[3] % 64;
+        packets.push(Packet::read(&bytes)?)?;
+    }
+    Ok(())
+}
+
+/// The packets of these sections.
+fn packets_of_all(alloc: Global, sections: &[Made]) -> Result<Vec<Packet>, Fail> {
+    let mut packets = Vec::new(alloc);
+    for made in sections {
+        match *made {
+            Made::Pat(version, numbers, program) => {
+                add_pat(alloc, &mut packets, version, numbers, program)?;
+            }
+            Made::Scrambled(version, numbers, program) => {
+                let mut clear = Vec::new(alloc);
+                add_pat(alloc, &mut clear, version, numbers, program)?;
+                add_scrambled(&mut packets, &clear)?;
+            }
+            Made::Pmt(program) => add_pmt(alloc, &mut packets, program)?,
+            Made::Sdt => add_sdt(alloc, &mut packets)?,
+        }
+    }
+    Ok(packets)
+}
+
 /// Whether the PMT of each program was found, in the packets of an input.
 fn pmts_found(alloc: Global, programs: &[u16], packets: &[Packet]) -> Result<Vec<bool>, Fail> {
     let mut found = Vec::new(alloc);
@@ -66,103 +108,135 @@ fn pmts_found(alloc: Global, programs: &[u16], packets: &[Packet]) -> Result<Vec
     Ok(found)
 }
 
+/// The sections of an input, programs, and whether the PMT of each is found.
+static ROWS: [(&str, &[Made], &[u16], &[bool]); 8] = [
+    // A PMT counts only behind the PAT that names its PID.
+    (
+        "a PMT before its PAT",
+        &[Made::Pmt(1), Made::Pat(0, [0, 0], 1)],
+        &[1],
+        &[false],
+    ),
+    (
+        "a PMT behind its PAT",
+        &[Made::Pmt(1), Made::Pat(0, [0, 0], 1), Made::Pmt(1)],
+        &[1, 2],
+        &[true, false],
+    ),
+    // A PAT of two sections is complete with both, in either order, and a new version begins anew.
+    (
+        "two versions",
+        &[
+            Made::Pat(0, [0, 1], 1),
+            Made::Pmt(1),
+            Made::Pat(1, [1, 1], 2),
+            Made::Pmt(2),
+        ],
+        &[1, 2],
+        &[false, false],
+    ),
+    (
+        "one version",
+        &[
+            Made::Pat(0, [0, 1], 1),
+            Made::Pmt(1),
+            Made::Pat(1, [1, 1], 2),
+            Made::Pmt(2),
+            Made::Pat(1, [0, 1], 1),
+            Made::Pmt(1),
+        ],
+        &[1, 2],
+        &[true, false],
+    ),
+    (
+        "two versions, the second section first",
+        &[
+            Made::Pat(0, [1, 1], 1),
+            Made::Pmt(1),
+            Made::Pat(1, [0, 1], 2),
+            Made::Pmt(2),
+        ],
+        &[1, 2],
+        &[false, false],
+    ),
+    (
+        "one version, the second section first",
+        &[
+            Made::Pat(0, [1, 1], 1),
+            Made::Pmt(1),
+            Made::Pat(1, [0, 1], 2),
+            Made::Pmt(2),
+            Made::Pat(1, [1, 1], 1),
+            Made::Pmt(1),
+        ],
+        &[1, 2],
+        &[true, false],
+    ),
+    // A row with program_number 0 names the network's PID: what is found there is no program's PMT.
+    (
+        "program_number 0",
+        &[Made::Pat(0, [0, 0], 0), Made::Pmt(0)],
+        &[0],
+        &[false],
+    ),
+    // A scrambled packet says nothing.
+    (
+        "a scrambled PAT",
+        &[Made::Scrambled(0, [0, 0], 1), Made::Pmt(1)],
+        &[1],
+        &[false],
+    ),
+];
+
+#[test]
+fn pmts_behind_pats(rt: HostRuntime) -> Result<(), Fail> {
+    let alloc = rt.alloc();
+    for (name, sections, programs, wanted) in &ROWS {
+        let packets = packets_of_all(alloc, sections)?;
+        let found = pmts_found(alloc, programs, &packets)?;
+        assert_eq!(rt; found.as_slice(), *wanted, "{name}");
+    }
+    Ok(())
+}
+
+/// What an acquisition of the programs answers to each packet, and what it found.
+fn acquired(
+    alloc: Global,
+    programs: &[u16],
+    packets: &[Packet],
+) -> Result<(Vec<bool>, Found), AllocError> {
+    let mut acquire = Acquire::new(alloc, programs)?;
+    let mut answers = Vec::new(alloc);
+    for packet in packets {
+        answers.push(acquire.push(packet)?)?;
+    }
+    Ok((answers, acquire.found()))
+}
+
+/// Whether the PMT of program 1 was found, and no other, and an SDT of one section.
+fn has_all(found: &Found) -> bool {
+    let is_pmt = match found.pmts.as_slice() {
+        [Some(pmt)] => pmt.header().table_id_extension == 1,
+        _ => false,
+    };
+    is_pmt
+        && found
+            .sdt
+            .as_ref()
+            .is_some_and(|sections| sections.len() == 1)
+}
+
+/// A PAT, the PMT of its program, and an SDT twice.
+const ALL: [Made; 4] = [Made::Pat(0, [0, 0], 1), Made::Pmt(1), Made::Sdt, Made::Sdt];
+
 /// The answer is true from the packet on that brings the last table. No program wants nothing.
 #[test]
 fn all_tables(rt: HostRuntime) -> Result<(), Fail> {
-    let alloc = rt.alloc();
-    let mut packets = Vec::new(alloc);
-    add_pat(alloc, &mut packets, 0, [0, 0], 1)?;
-    add_pmt(alloc, &mut packets, 1)?;
-    add_sdt(alloc, &mut packets)?;
-    add_sdt(alloc, &mut packets)?;
-    let mut acquire = Acquire::new(alloc, &[1])?;
-    let mut answers = Vec::new(alloc);
-    for packet in packets.iter() {
-        answers.push(acquire.push(packet)?)?;
-    }
+    let packets = packets_of_all(rt.alloc(), &ALL)?;
+    let (answers, found) = acquired(rt.alloc(), &[1], &packets)?;
     assert_eq!(rt; answers.as_slice(), [false, false, true, true].as_slice());
-    let found = acquire.found();
-    assert_eq!(rt; found.pmts.len(), 1);
-    let Some(Some(pmt)) = found.pmts.first() else {
-        return Err(Fail::from("no PMT"));
-    };
-    assert_eq!(rt; pmt.header().table_id_extension, 1);
-    let Some(sdts) = found.sdt.as_ref() else {
-        return Err(Fail::from("no SDT"));
-    };
-    assert_eq!(rt; sdts.len(), 1);
-    let Some(packet) = packets.first() else {
-        return Err(Fail::from("no packet"));
-    };
-    assert!(rt; Acquire::new(alloc, &[])?.push(packet)?);
-    Ok(())
-}
-
-/// A PMT counts only behind the PAT that names its PID.
-#[test]
-fn behind_the_pat(rt: HostRuntime) -> Result<(), Fail> {
-    let alloc = rt.alloc();
-    let mut packets = Vec::new(alloc);
-    add_pmt(alloc, &mut packets, 1)?;
-    add_pat(alloc, &mut packets, 0, [0, 0], 1)?;
-    assert_eq!(rt;
-        pmts_found(alloc, &[1], &packets)?.as_slice(),
-        [false].as_slice()
-    );
-    add_pmt(alloc, &mut packets, 1)?;
-    let found = pmts_found(alloc, &[1, 2], &packets)?;
-    assert_eq!(rt; found.as_slice(), [true, false].as_slice());
-    Ok(())
-}
-
-/// A PAT of two sections is complete with both, in either order, and a new version begins anew.
-#[test]
-fn two_sections(rt: HostRuntime) -> Result<(), Fail> {
-    let alloc = rt.alloc();
-    for numbers in [[0, 1], [1, 0]] {
-        let mut packets = Vec::new(alloc);
-        add_pat(alloc, &mut packets, 0, [numbers[0], 1], 1)?;
-        add_pmt(alloc, &mut packets, 1)?;
-        add_pat(alloc, &mut packets, 1, [numbers[1], 1], 2)?;
-        add_pmt(alloc, &mut packets, 2)?;
-        let found = pmts_found(alloc, &[1, 2], &packets)?;
-        assert_eq!(rt; found.as_slice(), [false, false].as_slice(), "two versions");
-        add_pat(alloc, &mut packets, 1, [numbers[0], 1], 1)?;
-        add_pmt(alloc, &mut packets, 1)?;
-        let found = pmts_found(alloc, &[1, 2], &packets)?;
-        assert_eq!(rt; found.as_slice(), [true, false].as_slice(), "one version");
-    }
-    Ok(())
-}
-
-/// A row with program_number 0 names the network's PID: what is found there is no program's PMT.
-#[test]
-fn no_program_has_number_0(rt: HostRuntime) -> Result<(), Fail> {
-    let alloc = rt.alloc();
-    let mut packets = Vec::new(alloc);
-    add_pat(alloc, &mut packets, 0, [0, 0], 0)?;
-    add_pmt(alloc, &mut packets, 0)?;
-    let found = pmts_found(alloc, &[0], &packets)?;
-    assert_eq!(rt; found.as_slice(), [false].as_slice());
-    Ok(())
-}
-
-/// A scrambled packet says nothing.
-#[test]
-fn scrambled(rt: HostRuntime) -> Result<(), Fail> {
-    let alloc = rt.alloc();
-    let mut clear = Vec::new(alloc);
-    add_pat(alloc, &mut clear, 0, [0, 0], 1)?;
-    let mut packets = Vec::new(alloc);
-    for packet in clear.iter() {
-        let mut bytes = *packet.bytes();
-        bytes[3] = 0x80 + bytes[3] % 64;
-        packets.push(Packet::read(&bytes)?)?;
-    }
-    add_pmt(alloc, &mut packets, 1)?;
-    assert_eq!(rt;
-        pmts_found(alloc, &[1], &packets)?.as_slice(),
-        [false].as_slice()
-    );
+    assert!(rt; has_all(&found));
+    let (answers, _) = acquired(rt.alloc(), &[], &packets)?;
+    assert_eq!(rt; answers.as_slice(), [true; 4].as_slice());
     Ok(())
 }

@@ -7,4 +7,3 @@ mod memory;
 mod plain;
 mod printing;
 mod streams;
-mod watches;

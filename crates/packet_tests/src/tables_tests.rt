@@ -9,7 +9,7 @@ mod sizes;
 use std::alloc::{AllocError, Global};
 use std::test::Fail;
 use tables::{
-    DescriptorLoop, Header, Nit, Pat, PatRow, Pmt, Sdt, SdtRow, ServiceDescriptor,
+    DescriptorLoop, Header, Nit, NitRow, Pat, PatRow, Pmt, PmtRow, Sdt, SdtRow, ServiceDescriptor,
     ServiceListEntry, TableFault, WriteFault, are_whole, has_ca_descriptor, push_network_name,
     push_service_list,
 };

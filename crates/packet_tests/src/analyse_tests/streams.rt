@@ -2,8 +2,6 @@
 
 use analyse::{Analyser, Fault, FaultKind};
 use std::alloc::{AllocError, Global};
-use std::process::Abort;
-use std::test::Fail;
 
 /// A section of a PAT: transport stream 1, network PID 0x0010, program 500 on PID 0x0100.
 pub const PAT: &[u8] = &[
@@ -56,17 +54,4 @@ pub fn faults_of(
         analyser.push(slot, &mut told)?;
     }
     Ok(told)
-}
-
-/// A stream of 1,504,000 bits a second, of which tables have to come within 500 slots, tells these faults.
-pub fn tells(
-    rt: &impl Abort,
-    alloc: Global,
-    period: u64,
-    slots: &[[u8; 188]],
-    faults: &[Fault],
-) -> Result<(), Fail> {
-    let told = faults_of(alloc, 1_504_000, period, slots)?;
-    assert_eq!(rt; told.as_slice(), faults);
-    Ok(())
 }

@@ -2,23 +2,35 @@
 
 use super::*;
 
+/// The entries of a service list.
+const ENTRIES: [ServiceListEntry; 2] = [
+    ServiceListEntry {
+        service_id: 500,
+        service_type: 1,
+    },
+    ServiceListEntry {
+        service_id: 0xFFFF,
+        service_type: 0x19,
+    },
+];
+
+/// A network's name and its service list, and a descriptor with no body.
+fn of_a_network(alloc: Global) -> Result<DescriptorLoop, AllocError> {
+    let mut descriptors = DescriptorLoop::new(alloc);
+    push_network_name(&mut descriptors, b"N")?;
+    push_service_list(&mut descriptors, &ENTRIES)?;
+    descriptors.push(0x09, &[])?;
+    Ok(descriptors)
+}
+
+/// The body of the first descriptor with this tag.
+fn first_body(descriptors: &DescriptorLoop, tag: u8) -> Option<&[u8]> {
+    descriptors.first(tag).map(|descriptor| descriptor.body)
+}
+
 #[test]
 fn in_a_loop(rt: HostRuntime) -> Result<(), Fail> {
-    let mut descriptors = DescriptorLoop::new(rt.alloc());
-    assert!(rt; !has_ca_descriptor(&descriptors));
-    push_network_name(&mut descriptors, b"N")?;
-    let entries = [
-        ServiceListEntry {
-            service_id: 500,
-            service_type: 1,
-        },
-        ServiceListEntry {
-            service_id: 0xFFFF,
-            service_type: 0x19,
-        },
-    ];
-    push_service_list(&mut descriptors, &entries)?;
-    descriptors.push(0x09, &[])?;
+    let descriptors = of_a_network(rt.alloc())?;
     assert_eq!(rt;
         descriptors.bytes(),
         [
@@ -27,46 +39,75 @@ fn in_a_loop(rt: HostRuntime) -> Result<(), Fail> {
         .as_slice()
     );
     assert!(rt; has_ca_descriptor(&descriptors));
-    let Some(name) = descriptors.first(0x40) else {
-        return Err(Fail::from("no network name"));
-    };
-    assert_eq!(rt; name.body, b"N".as_slice());
-    assert!(rt; descriptors.first(0x48).is_none());
+    assert_eq!(rt; first_body(&descriptors, 0x40), Some(b"N".as_slice()));
+    assert_eq!(rt; first_body(&descriptors, 0x48), None);
     Ok(())
+}
+
+/// A service descriptor: its type, its provider's name and its own.
+pub type Service = (u8, &'static [u8], &'static [u8]);
+
+/// Bytes, whether there is a CA descriptor among them, where they are whole descriptors, and the first service descriptor whose
+/// lengths fill it.
+static ROWS: [(&[u8], Option<bool>, Option<Service>); 7] = [
+    (&[], Some(false), None),
+    (&[0x09, 0, 0x48, 1, 7], Some(true), None),
+    (&[0x09], None, None),
+    (&[0x09, 1], None, None),
+    (&[0x09, 1, 0x48], Some(true), None),
+    (
+        &[0x48, 3, 1, 0, 1, 0x48, 4, 2, 0, 0, 0, 0x49, 3, 3, 0, 0],
+        Some(false),
+        None,
+    ),
+    (
+        &[
+            0x48, 3, 1, 0, 1, 0x48, 4, 2, 0, 0, 0, 0x49, 3, 3, 0, 0, 0x48, 4, 4, 1, 0x41, 0, 0x48,
+            3, 5, 0, 0,
+        ],
+        Some(false),
+        Some((4, b"A", b"")),
+    ),
+];
+
+/// Whether the first service descriptor that fits is this one.
+pub fn has_service(descriptors: &DescriptorLoop, wanted: Option<Service>) -> bool {
+    match (ServiceDescriptor::first_in(descriptors), wanted) {
+        (None, None) => true,
+        (Some(found), Some((service_type, provider, name))) => {
+            found.service_type == service_type
+                && found.service_provider_name == provider
+                && found.service_name == name
+        }
+        _ => false,
+    }
+}
+
+/// Whether the bytes are whole descriptors with these, or come back.
+fn are_read(
+    alloc: Global,
+    bytes: &[u8],
+    has_ca: Option<bool>,
+    service: Option<Service>,
+) -> Result<bool, AllocError> {
+    match DescriptorLoop::from_bytes(bytes.to_vec(alloc)?) {
+        Ok(descriptors) => {
+            Ok(
+                has_ca == Some(has_ca_descriptor(&descriptors))
+                    && has_service(&descriptors, service),
+            )
+        }
+        Err(back) => Ok(has_ca.is_none() && back.as_slice() == bytes),
+    }
 }
 
 /// Whole descriptors make a loop; the same bytes come back of any others.
 #[test]
 fn from_bytes(rt: HostRuntime) -> Result<(), Fail> {
-    let alloc = rt.alloc();
-    assert!(rt; are_whole(&[]) && are_whole(&[0x09, 0, 0x48, 1, 7]));
-    assert!(rt; !are_whole(&[0x09]) && !are_whole(&[0x09, 1]));
-    let Err(back) = DescriptorLoop::from_bytes([0x09, 1].to_vec(alloc)?) else {
-        return Err(Fail::from("a descriptor without its body"));
-    };
-    assert_eq!(rt; back.as_slice(), [0x09, 1].as_slice());
-    let Ok(descriptors) = DescriptorLoop::from_bytes([0x09, 1, 0x48].to_vec(alloc)?) else {
-        return Err(Fail::from("no loop"));
-    };
-    assert!(rt; has_ca_descriptor(&descriptors));
-    Ok(())
-}
-
-/// The first service descriptor whose lengths fill it is taken.
-#[test]
-fn services(rt: HostRuntime) -> Result<(), Fail> {
-    let mut descriptors = DescriptorLoop::new(rt.alloc());
-    descriptors.push(0x48, &[1, 0, 1])?;
-    descriptors.push(0x48, &[2, 0, 0, 0])?;
-    descriptors.push(0x49, &[3, 0, 0])?;
-    assert!(rt; ServiceDescriptor::first_in(&descriptors).is_none());
-    descriptors.push(0x48, &[4, 1, 0x41, 0])?;
-    descriptors.push(0x48, &[5, 0, 0])?;
-    let Some(service) = ServiceDescriptor::first_in(&descriptors) else {
-        return Err(Fail::from("no service"));
-    };
-    assert_eq!(rt; service.service_type, 4);
-    assert_eq!(rt; service.service_provider_name, b"A".as_slice());
-    assert!(rt; service.service_name.is_empty());
+    for (bytes, has_ca, service) in &ROWS {
+        assert!(rt; are_whole(bytes) == has_ca.is_some(), "{bytes:?}");
+        let are_read = are_read(rt.alloc(), bytes, *has_ca, *service)?;
+        assert!(rt; are_read, "{bytes:?}");
+    }
     Ok(())
 }

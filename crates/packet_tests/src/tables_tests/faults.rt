@@ -2,16 +2,6 @@
 
 use super::*;
 
-/// What a PAT, a PMT, an SDT and an NIT answer to the bytes.
-fn faults(alloc: Global, bytes: &[u8]) -> [Option<TableFault>; 4] {
-    [
-        Pat::read(alloc, bytes).err(),
-        Pmt::read(alloc, bytes).err(),
-        Sdt::read(alloc, bytes).err(),
-        Nit::read(alloc, bytes).err(),
-    ]
-}
-
 /// What the table with this table_id answers.
 fn fault(alloc: Global, table_id: u8, bytes: &[u8]) -> Option<TableFault> {
     match table_id {
@@ -22,114 +12,161 @@ fn fault(alloc: Global, table_id: u8, bytes: &[u8]) -> Option<TableFault> {
     }
 }
 
+/// Bytes, the table_id of the table that is asked, and its answer.
+static OF_BYTES: [(u8, &[u8], TableFault); 14] = [
+    // Too short even where the table_id is another one.
+    (0x00, &[0xFF, 0xB0], TableFault::Short),
+    (0x02, &[0xFF, 0xB0], TableFault::Short),
+    (0x40, &[0xFF, 0xB0], TableFault::Short),
+    (0x42, &[0xFF, 0xB0], TableFault::Short),
+    // Another table_id, even where section_length is wrong.
+    (0x00, &[0xFF, 0xB0, 0x00], TableFault::WrongId),
+    (0x02, &[0xFF, 0xB0, 0x00], TableFault::WrongId),
+    (0x40, &[0xFF, 0xB0, 0x00], TableFault::WrongId),
+    (0x42, &[0xFF, 0xB0, 0x00], TableFault::WrongId),
+    // The greatest length that is none.
+    (
+        0x00,
+        &[0x00, 0xF0, 0x08, 0, 0, 0, 0, 0, 0, 0, 0],
+        TableFault::BadLength,
+    ),
+    (
+        0x02,
+        &[0x02, 0xF0, 0x08, 0, 0, 0, 0, 0, 0, 0, 0],
+        TableFault::BadLength,
+    ),
+    (
+        0x40,
+        &[0x40, 0xF0, 0x08, 0, 0, 0, 0, 0, 0, 0, 0],
+        TableFault::BadLength,
+    ),
+    (
+        0x42,
+        &[0x42, 0xF0, 0x08, 0, 0, 0, 0, 0, 0, 0, 0],
+        TableFault::BadLength,
+    ),
+    // A PAT with another last byte, and without it.
+    (
+        0x00,
+        &[
+            0x00, 0xB0, 0x0D, 0x00, 0x01, 0xC1, 0x00, 0x00, 0x00, 0x01, 0xF0, 0x00, 0x2A, 0xB1,
+            0x04, 0xB3,
+        ],
+        TableFault::BadCrc,
+    ),
+    (
+        0x00,
+        &[
+            0x00, 0xB0, 0x0D, 0x00, 0x01, 0xC1, 0x00, 0x00, 0x00, 0x01, 0xF0, 0x00, 0x2A, 0xB1,
+            0x04,
+        ],
+        TableFault::BadLength,
+    ),
+];
+
+#[test]
+fn of_bytes(rt: HostRuntime) {
+    for (table_id, bytes, wanted) in &OF_BYTES {
+        let told = fault(rt.alloc(), *table_id, bytes);
+        assert!(rt; told == Some(*wanted), "{table_id} {bytes:?}");
+    }
+}
+
+/// A section: its second byte with section_length left out, its section_number and last_section_number, its body, how many
+/// times that stands in it, how many bytes are cut off, and what the last byte is changed by.
+type Damaged = (u8, [u8; 2], &'static [u8], u16, usize, u8);
+
+/// What the table answers to such a section.
+fn fault_of(
+    alloc: Global,
+    table_id: u8,
+    damaged: Damaged,
+) -> Result<Option<TableFault>, AllocError> {
+    let (second, numbers, part, times, cut, change) = damaged;
+    let mut body = Vec::new(alloc);
+    for _ in 0..times {
+        body.extend_from_slice(part)?;
+    }
+    let header = [table_id, second, 0, 0, 1, 0xC1, numbers[0], numbers[1]];
+    let mut section = section_with(alloc, header, &body)?;
+    let length = section.len().saturating_sub(cut);
+    section.truncate(length);
+    if let Some(last) = section.last_mut() {
+        *last ^= change;
+    }
+    Ok(fault(alloc, table_id, &section))
+}
+
+/// Sections that have the same fault in any table.
+static OF_ANY_TABLE: [(Damaged, TableFault); 6] = [
+    // One byte less, though its CRC is then wrong too.
+    (
+        (0xF0, [0, 0], &[0xE0, 0x10, 0xF0], 1, 1, 0),
+        TableFault::BadLength,
+    ),
+    // section_syntax_indicator is 0; and a wrong CRC, even where it is.
+    ((0x70, [0, 0], &[0xE0], 1, 0, 0), TableFault::BadHeader),
+    ((0x70, [0, 0], &[0xE0], 1, 0, 1), TableFault::BadCrc),
+    // A section_number above last_section_number, even where the body is none.
+    ((0xF0, [2, 1], &[0xE0], 1, 0, 0), TableFault::BadHeader),
+    // section_length of 1,022 is too long; 1,021 isn't, and the body is none.
+    ((0xF0, [0, 0], &[0xFF], 1013, 0, 0), TableFault::BadLength),
+    ((0xF0, [0, 0], &[0xFF], 1011, 0, 0), TableFault::BadLoop),
+];
+
 #[test]
 fn of_any_table(rt: HostRuntime) -> Result<(), Fail> {
-    let alloc = rt.alloc();
-    // Too short even where the table_id is another one.
-    assert_eq!(rt; faults(alloc, &[0xFF, 0xB0]), [Some(TableFault::Short); 4]);
-    // Another table_id, even where section_length is wrong.
-    assert_eq!(rt;
-        faults(alloc, &[0xFF, 0xB0, 0x00]),
-        [Some(TableFault::WrongId); 4]
-    );
     for table_id in [0x00, 0x02, 0x40, 0x42] {
-        let header = [table_id, 0xF0, 0, 0, 1, 0xC1, 0, 0];
-        let whole = section_with(alloc, header, &[0xE0, 0x10, 0xF0])?;
-
-        // One byte less, though its CRC is then wrong too; and the greatest length that is none.
-        let (cut, _) = whole.split_at(whole.len().min(14));
-        assert_eq!(rt; fault(alloc, table_id, cut), Some(TableFault::BadLength));
-        assert_eq!(rt;
-            fault(
-                alloc,
-                table_id,
-                &[table_id, 0xF0, 0x08, 0, 0, 0, 0, 0, 0, 0, 0]
-            ),
-            Some(TableFault::BadLength)
-        );
-
-        // A wrong CRC, even where section_syntax_indicator is 0.
-        let mut bad = section_with(alloc, [table_id, 0x70, 0, 0, 1, 0xC1, 0, 0], &[0xE0])?;
-        assert_eq!(rt; fault(alloc, table_id, &bad), Some(TableFault::BadHeader));
-        if let Some(last) = bad.last_mut() {
-            *last ^= 1;
+        for (damaged, wanted) in &OF_ANY_TABLE {
+            let told = fault_of(rt.alloc(), table_id, *damaged)?;
+            assert!(rt; told == Some(*wanted), "{table_id} {damaged:?}");
         }
-        assert_eq!(rt; fault(alloc, table_id, &bad), Some(TableFault::BadCrc));
-
-        // A section_number above last_section_number, even where the body is none.
-        let high = section_with(alloc, [table_id, 0xF0, 0, 0, 1, 0xC1, 2, 1], &[0xE0])?;
-        assert_eq!(rt; fault(alloc, table_id, &high), Some(TableFault::BadHeader));
     }
     Ok(())
 }
 
-#[test]
-fn of_sizes(rt: HostRuntime) -> Result<(), Fail> {
-    let alloc = rt.alloc();
-    let mut body = Vec::new(alloc);
-    for _ in 0..1013 {
-        body.push(0xFF)?;
-    }
-    for table_id in [0x00, 0x02, 0x40, 0x42] {
-        let header = [table_id, 0xF0, 0, 0, 1, 0xC1, 0, 0];
-        // section_length of 1,022 is too long; 1,021 isn't, and the body is none.
-        let long = section_with(alloc, header, &body)?;
-        assert_eq!(rt; fault(alloc, table_id, &long), Some(TableFault::BadLength));
-        let longest = section_with(alloc, header, body.split_at(body.len().min(1011)).0)?;
-        assert_eq!(rt; fault(alloc, table_id, &longest), Some(TableFault::BadLoop));
-    }
-    Ok(())
-}
-
-#[test]
-fn of_a_pmt_of_two_sections(rt: HostRuntime) -> Result<(), Fail> {
-    let header = [0x02, 0xB0, 0, 0, 1, 0xC1, 0, 1];
-    let bytes = section_with(rt.alloc(), header, &[0xE0, 0x10, 0xF0, 0x00])?;
-    assert_eq!(rt;
-        fault(rt.alloc(), 0x02, &bytes),
-        Some(TableFault::BadHeader)
-    );
-    Ok(())
-}
-
-/// Whether a table with this body has a fault in its loops.
-fn has_bad_loop(alloc: Global, table_id: u8, body: &[u8]) -> Result<bool, AllocError> {
-    let header = [table_id, 0xF0, 0, 0, 1, 0xC1, 0, 0];
-    let bytes = section_with(alloc, header, body)?;
-    Ok(fault(alloc, table_id, &bytes) == Some(TableFault::BadLoop))
-}
-
-#[test]
-fn of_loops(rt: HostRuntime) -> Result<(), Fail> {
-    let alloc = rt.alloc();
+/// Tables, each by its table_id and a body that has a fault in its loops.
+static BAD_LOOPS: [(u8, &[u8]); 17] = [
     // A row of three bytes.
-    assert!(rt; has_bad_loop(alloc, 0x00, &[0, 1, 0xF0])?);
-
+    (0x00, &[0, 1, 0xF0]),
     // A body without its lengths; a loop or a row that runs past the end; one byte behind the rows;
     // a descriptor that runs past its loop into the next row; and a loop of one byte.
-    assert!(rt; has_bad_loop(alloc, 0x02, &[0xE0, 0x10, 0xF0])?);
-    assert!(rt; has_bad_loop(alloc, 0x02, &[0xE0, 0x10, 0xF0, 0x01])?);
-    assert!(rt; has_bad_loop(alloc, 0x02, &[0xE0, 0x10, 0xF0, 0x00, 2, 0xE1, 0, 0xF0, 1])?);
-    assert!(rt; has_bad_loop(alloc, 0x02, &[0xE0, 0x10, 0xF0, 0x00, 2])?);
-    let past = [
-        0xE0, 0x10, 0xF0, 0x00, 2, 0xE1, 0, 0xF0, 2, 9, 1, 2, 0xE1, 0, 0xF0, 0,
-    ];
-    assert!(rt; has_bad_loop(alloc, 0x02, &past)?);
-    assert!(rt; has_bad_loop(alloc, 0x02, &[0xE0, 0x10, 0xF0, 0x01, 9])?);
-
+    (0x02, &[0xE0, 0x10, 0xF0]),
+    (0x02, &[0xE0, 0x10, 0xF0, 0x01]),
+    (0x02, &[0xE0, 0x10, 0xF0, 0x00, 2, 0xE1, 0, 0xF0, 1]),
+    (0x02, &[0xE0, 0x10, 0xF0, 0x00, 2]),
+    (
+        0x02,
+        &[
+            0xE0, 0x10, 0xF0, 0x00, 2, 0xE1, 0, 0xF0, 2, 9, 1, 2, 0xE1, 0, 0xF0, 0,
+        ],
+    ),
+    (0x02, &[0xE0, 0x10, 0xF0, 0x01, 9]),
     // The same of an SDT.
-    assert!(rt; has_bad_loop(alloc, 0x42, &[0, 2])?);
-    assert!(rt; has_bad_loop(alloc, 0x42, &[0, 2, 0xFF, 0, 1, 0xFC, 0x80])?);
-    assert!(rt; has_bad_loop(alloc, 0x42, &[0, 2, 0xFF, 0, 1, 0xFC, 0x80, 1])?);
-    let past = [0, 2, 0xFF, 0, 1, 0xFC, 0x80, 2, 9, 1, 0, 1, 0xFC, 0x80, 0];
-    assert!(rt; has_bad_loop(alloc, 0x42, &past)?);
-
+    (0x42, &[0, 2]),
+    (0x42, &[0, 2, 0xFF, 0, 1, 0xFC, 0x80]),
+    (0x42, &[0, 2, 0xFF, 0, 1, 0xFC, 0x80, 1]),
+    (
+        0x42,
+        &[0, 2, 0xFF, 0, 1, 0xFC, 0x80, 2, 9, 1, 0, 1, 0xFC, 0x80, 0],
+    ),
     // And of an NIT: its loop of transport streams may be neither longer nor shorter than its length.
-    assert!(rt; has_bad_loop(alloc, 0x40, &[0xF0])?);
-    assert!(rt; has_bad_loop(alloc, 0x40, &[0xF0, 0, 0xF0])?);
-    assert!(rt; has_bad_loop(alloc, 0x40, &[0xF0, 1, 9, 0xF0, 0])?);
-    assert!(rt; has_bad_loop(alloc, 0x40, &[0xF0, 0, 0xF0, 7, 0, 1, 0, 2, 0xF0, 0])?);
-    assert!(rt; has_bad_loop(alloc, 0x40, &[0xF0, 0, 0xF0, 5, 0, 1, 0, 2, 0xF0, 0])?);
-    assert!(rt; has_bad_loop(alloc, 0x40, &[0xF0, 0, 0xF0, 6, 0, 1, 0, 2, 0xF0, 1])?);
+    (0x40, &[0xF0]),
+    (0x40, &[0xF0, 0, 0xF0]),
+    (0x40, &[0xF0, 1, 9, 0xF0, 0]),
+    (0x40, &[0xF0, 0, 0xF0, 7, 0, 1, 0, 2, 0xF0, 0]),
+    (0x40, &[0xF0, 0, 0xF0, 5, 0, 1, 0, 2, 0xF0, 0]),
+    (0x40, &[0xF0, 0, 0xF0, 6, 0, 1, 0, 2, 0xF0, 1]),
+];
+
+#[test]
+fn of_loops_and_of_a_pmt_of_two_sections(rt: HostRuntime) -> Result<(), Fail> {
+    let alloc = rt.alloc();
+    for (table_id, body) in &BAD_LOOPS {
+        let told = fault_of(alloc, *table_id, (0xF0, [0, 0], body, 1, 0, 0))?;
+        assert_eq!(rt; told, Some(TableFault::BadLoop), "{table_id} {body:?}");
+    }
+    let two = (0xB0, [0, 1], [0xE0, 0x10, 0xF0, 0x00].as_slice(), 1, 0, 0);
+    assert_eq!(rt; fault_of(alloc, 0x02, two)?, Some(TableFault::BadHeader));
     Ok(())
 }

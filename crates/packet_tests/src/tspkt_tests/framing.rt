@@ -13,7 +13,7 @@ struct Row {
     items: &'static str,
 }
 
-const ROWS: [Row; 6] = [
+static ROWS: [Row; 6] = [
     Row {
         front: 0,
         packets: 4,
@@ -68,32 +68,22 @@ fn stream(alloc: Global, row: &Row) -> Result<Vec<u8>, Fail> {
     Ok(bytes)
 }
 
+/// What was told, in words.
 fn text(alloc: Global, items: &[Item]) -> Result<String, Fail> {
     let mut text = String::new(alloc);
     for item in items {
-        let one = match item {
+        let (word, number) = match item {
             Item::Packet(place, bytes) if bytes[0] == 0x47 && bytes[187] == 0xAA => {
-                format!(in alloc; "packet {place};")?
+                ("packet", *place)
             }
-            Item::Packet(place, _) => format!(in alloc; "wrong packet {place};")?,
-            Item::Bad(place) => format!(in alloc; "bad {place};")?,
-            Item::SyncLoss(place) => format!(in alloc; "sync loss {place};")?,
-            Item::Lost(count) => format!(in alloc; "lost {count};")?,
+            Item::Packet(place, _) => ("wrong packet", *place),
+            Item::Bad(place) => ("bad", *place),
+            Item::SyncLoss(place) => ("sync loss", *place),
+            Item::Lost(count) => ("lost", *count),
         };
-        text.push_str(one.as_str())?;
+        text.push_str(format!(in alloc; "{word} {number};")?.as_str())?;
     }
     Ok(text)
-}
-
-#[test]
-fn whole_streams(rt: HostRuntime) -> Result<(), Fail> {
-    let alloc = rt.alloc();
-    for row in &ROWS {
-        let pieces = vec![in alloc; stream(alloc, row)?]?;
-        let items = frame(alloc, &pieces)?;
-        assert_eq!(rt; text(alloc, &items)?.as_str(), row.items);
-    }
-    Ok(())
 }
 
 /// Feeds a piece; where that found no memory the framer is as it was, and is fed again.
@@ -112,77 +102,102 @@ fn finish(framer: Framer, items: &mut Vec<Item>) -> bool {
     }
 }
 
+/// What the framing of a row's stream tells.
+fn whole(alloc: Global, row: &Row) -> Result<String, Fail> {
+    let pieces = vec![in alloc; stream(alloc, row)?]?;
+    let items = frame(alloc, &pieces)?;
+    text(alloc, &items)
+}
+
+/// What a framer tells that is fed a row's stream in pieces of this size.
+fn in_pieces(alloc: Global, row: &Row, size: usize) -> Result<String, Fail> {
+    let bytes = stream(alloc, row)?;
+    let mut framer = Framer::new();
+    let mut items = Vec::new(alloc);
+    for piece in bytes.chunks(size.max(1)) {
+        feed(&mut framer, piece, &mut items)?;
+    }
+    if !finish(framer, &mut items) {
+        return Err(Fail::from("not finished"));
+    }
+    text(alloc, &items)
+}
+
 #[test]
-fn streams_in_pieces(rt: HostRuntime) -> Result<(), Fail> {
+fn streams_whole_and_in_pieces(rt: HostRuntime) -> Result<(), Fail> {
     let alloc = rt.alloc();
     for row in &ROWS {
+        assert_eq!(rt; whole(alloc, row)?.as_str(), row.items);
         for size in [1, 187, 188, 189] {
-            let bytes = stream(alloc, row)?;
-            let mut framer = Framer::new();
-            let mut items = Vec::new(alloc);
-            for piece in bytes.chunks(size) {
-                feed(&mut framer, piece, &mut items)?;
-            }
-            assert!(rt; finish(framer, &mut items));
-            assert_eq!(rt;
-                text(alloc, &items)?.as_str(),
-                row.items,
-                "in pieces of {size}"
-            );
+            let told = in_pieces(alloc, row, size)?;
+            assert_eq!(rt; told.as_str(), row.items, "in pieces of {size}");
         }
     }
     Ok(())
 }
 
+/// What is told behind four packets and a piece. A piece that is empty wants no memory, and isn't fed again.
+fn told_behind(alloc: Global, piece: &[u8]) -> Result<String, Fail> {
+    let mut framer = Framer::new();
+    let mut items = Vec::new(alloc);
+    feed(&mut framer, &stream(alloc, &ROWS[0])?, &mut items)?;
+    items.shrink_to_fit();
+    if piece.is_empty() {
+        framer.feed(piece, &mut items)?;
+    } else {
+        feed(&mut framer, piece, &mut items)?;
+    }
+    text(alloc, &items)
+}
+
 #[test]
 fn told_at_the_fifth_sync_byte(rt: HostRuntime) -> Result<(), Fail> {
-    let alloc = rt.alloc();
-    let mut framer = Framer::new();
-    let mut items = Vec::new(alloc);
-    feed(&mut framer, stream(alloc, &ROWS[0])?.as_slice(), &mut items)?;
-    assert_eq!(rt; items.len(), 0);
-    feed(&mut framer, &[0x47], &mut items)?;
-    assert_eq!(rt;
-        text(alloc, &items)?.as_str(),
-        "packet 0;packet 188;packet 376;packet 564;"
-    );
+    for (piece, items) in [
+        ([].as_slice(), ""),
+        (
+            [0x47].as_slice(),
+            "packet 0;packet 188;packet 376;packet 564;",
+        ),
+    ] {
+        assert_eq!(rt; told_behind(rt.alloc(), piece)?.as_str(), items);
+    }
     Ok(())
 }
 
-#[test]
-fn faults_have_texts(rt: HostRuntime) -> Result<(), Fail> {
-    let alloc = rt.alloc();
-    let much = format!(in alloc; "{}", FeedFault::TooMuch)?;
-    assert_eq!(rt; much.as_str(), "the input passes its limit");
-    let memory = format!(in alloc; "{}", FeedFault::Memory)?;
-    assert_eq!(rt; memory.as_str(), "no memory");
-    Ok(())
-}
-
-#[test]
-fn an_empty_piece_wants_no_memory(rt: HostRuntime) -> Result<(), Fail> {
-    let alloc = rt.alloc();
+/// What is told of a stream that ends at its limit, after a piece that passed it; and what that piece was answered.
+fn told_to_the_limit(alloc: Global) -> Result<(Result<(), FeedFault>, String), Fail> {
     let mut items = Vec::new(alloc);
-    let mut framer = Framer::new();
-    feed(&mut framer, stream(alloc, &ROWS[0])?.as_slice(), &mut items)?;
-    items.shrink_to_fit();
-    framer.feed(&[], &mut items)?;
-    assert_eq!(rt; items.len(), 0);
-    Ok(())
+    let mut framer = Framer::with_limit(940);
+    feed(&mut framer, &stream(alloc, &ROWS[1])?, &mut items)?;
+    let answer = framer.feed(&[0; 188], &mut items);
+    feed(&mut framer, &[0xAA; 187], &mut items)?;
+    if !finish(framer, &mut items) {
+        return Err(Fail::from("not finished"));
+    }
+    Ok((answer, text(alloc, &items)?))
 }
 
 #[test]
 fn a_stream_to_its_limit(rt: HostRuntime) -> Result<(), Fail> {
-    let alloc = rt.alloc();
-    let mut items = Vec::new(alloc);
-    let mut framer = Framer::with_limit(940);
-    feed(&mut framer, stream(alloc, &ROWS[1])?.as_slice(), &mut items)?;
-    assert_eq!(rt; framer.feed(&[0; 188], &mut items), Err(FeedFault::TooMuch));
-    feed(&mut framer, &[0xAA; 187], &mut items)?;
-    assert!(rt; finish(framer, &mut items));
+    let (answer, told) = told_to_the_limit(rt.alloc())?;
+    assert_eq!(rt; answer, Err(FeedFault::TooMuch));
     assert_eq!(rt;
-        text(alloc, &items)?.as_str(),
+        told.as_str(),
         "packet 0;packet 188;packet 376;packet 564;packet 752;"
     );
+    Ok(())
+}
+
+/// The text of a fault.
+fn printed(alloc: Global, fault: FeedFault) -> Result<String, Fail> {
+    Ok(format!(in alloc; "{fault}")?)
+}
+
+#[test]
+fn faults_have_texts(rt: HostRuntime) -> Result<(), Fail> {
+    let much = printed(rt.alloc(), FeedFault::TooMuch)?;
+    assert_eq!(rt; much.as_str(), "the input passes its limit");
+    let memory = printed(rt.alloc(), FeedFault::Memory)?;
+    assert_eq!(rt; memory.as_str(), "no memory");
     Ok(())
 }
