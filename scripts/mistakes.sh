@@ -15,14 +15,16 @@ cp "$top/examples/north.ts" "$top/examples/south.ts" .
 passed=0
 failed=0
 
-# has_lines STATUS: each line of the file `wanted` is one of `err`, and the first one of a refusal is the first there.
+# has_lines STATUS: each line of the file `wanted` is one of `err`, and the first one of a refusal is the first there. What was
+# measured is a number of any size.
 has_lines() {
     local line
+    sed -E 's/measured [0-9]+/measured N/' err > said
     if [ "$1" -ge 2 ] && [ "$(head -n 1 wanted)" != "$(head -n 1 err)" ]; then
         return 1
     fi
     while IFS= read -r line; do
-        grep -qxF -- "$line" err || return 1
+        grep -qxF -- "$line" said || return 1
     done < wanted
 }
 
@@ -193,10 +195,10 @@ rate: input 0 runs at 1000000 bits a second by the PCRs of PID 0x0101, 999 ppm b
 END
 done
 mistake 'a leak rate that is too low' 0 '0,/^leak = 2000000$/s||leak = 100000|' << 'END'
-leak: stream 0x0201 (input 0, PID 0x0102): 100000 bits a second, below its measured 102654: state more
+leak: stream 0x0201 (input 0, PID 0x0102): 100000 bits a second, below its measured N: state more
 END
 mistake 'a multiplex that is too slow' 0 's|^rate = 3000000$|rate = 1200000|' << 'END'
-services: measured 1684077 bits a second of 1200000, the tables take 24000
+services: measured N bits a second of 1200000, the tables take 24000
 overfull: the services take more than the 1176000 bits a second that rate 1200000 leaves after the tables: raise it, or leave a service out
 END
 cp mistake.toml full.toml
