@@ -1,12 +1,13 @@
 //! The runs of a plan: in threads, and in one thread alone.
 
-ghost use Rattle.std.specs.Prelude.{◌≡◌, ◌^◌, ◌≤◌, List, true, false, length, map, Err, IfOk, OnOk};
+ghost use Rattle.std.specs.Prelude.{◌≡◌, ◌^◌, ◌≤◌, List, true, false, length, map, Err, IfOk, IfErr, OnOk, OnErr};
 ghost use Rattle.tspkt.specs.declared.framer.TheConstants.{MAX_LIMIT};
 ghost use Rattle.mux.specs.declared.event.Event.{Event};
+ghost use Rattle.mux.specs.Plans.{IsMultiplexPlan};
 ghost use Rattle.reading.specs.Failures.{FailsOnce};
-ghost use Rattle.serial.specs.Outcome.{HasRun as HasRunInOneThread, FailuresAreTold};
+ghost use Rattle.serial.specs.Outcome.{HasRun as HasRunInOneThread, HasBegun as HasBegunInOneThread, FailuresAreTold};
 ghost use Rattle.serial.specs.Running.{TakesAsNeeded};
-ghost use Rattle.threaded.specs.Outcome.{HasRun as HasRunInThreads};
+ghost use Rattle.threaded.specs.Outcome.{HasRun as HasRunInThreads, HasBegun as HasBegunInThreads};
 
 use crate::open_gate::OpenGate;
 use plan::Plan;
@@ -22,7 +23,8 @@ use threaded::run_threads;
 /// `limit` bytes of each (up to 140,737,488,355,328), and writes the packet of each slot, at most so many slots (0 to 2^40).
 ///
 /// The writer comes back, and without a fault what became of the run and the readers, in their order. `Memory` is answered where
-/// memory or a thread was refused, and no write failed before, and `Write` where a write failed.
+/// memory or a thread was refused, and no write failed before, and `Write` where a write failed; what was written is then a
+/// beginning of a sound multiplex.
 pub(crate) fn run_plan<
     T: Threads + Wait + Clock + Copy + Send + Drop + 'static,
     R: Source + Send + Drop + 'static,
@@ -49,6 +51,13 @@ pub(crate) fn run_plan<
         × HasRunInThreads (record { run = record { plan = plan; limit = slots }; events = h }) limit
         (map R.remaining readers.items) (map R.remaining done.1.items)
         (W.contents writer) (W.contents result.0) done.0) }
+    ensures serial_begins { is_serial ≡ true → IfErr result.1 (λ fault. (h : List Event)
+        × HasBegunInOneThread R.remaining R.failures (record { run = record { plan = plan; limit = slots }; events = h }) limit
+        readers.items (W.contents writer) (W.contents result.0) fault
+        × TakesAsNeeded (record { plan = plan; limit = slots }) h) }
+    ensures threads_begins { is_serial ≡ false → OnErr result.1 ((h : List Event)
+        × HasBegunInThreads R.remaining R.failures (record { run = record { plan = plan; limit = slots }; events = h }) limit
+        readers.items (W.contents writer) (W.contents result.0)) }
     ensures readers { IfOk result.1 (λ done. length done.1.items ≡ length readers.items) }
     ensures read_failed { IfOk result.1 (λ done.
         FailuresAreTold R.failures readers.items done.1.items done.0.inputs.items) }
@@ -61,6 +70,14 @@ pub(crate) fn run_plan<
     } else {
         run_in_threads(rt, alloc, plan, slots, limit, readers, writer)
     }
+}
+
+/// What every plan keeps.
+fn known(plan: &Plan)
+    ensures { IsMultiplexPlan plan.now }
+{
+    let _ = plan.request().rate();
+    let _ = plan.rounds().rate();
 }
 
 /// Runs a plan with a thread for each input, whose gates never say no.
@@ -84,6 +101,9 @@ fn run_in_threads<
         × HasRunInThreads (record { run = record { plan = plan; limit = slots }; events = h }) limit
         (map R.remaining readers.items) (map R.remaining done.1.items)
         (W.contents writer) (W.contents result.0) done.0) }
+    ensures begins { OnErr result.1 ((h : List Event)
+        × HasBegunInThreads R.remaining R.failures (record { run = record { plan = plan; limit = slots }; events = h }) limit
+        readers.items (W.contents writer) (W.contents result.0)) }
     ensures readers { IfOk result.1 (λ done. length done.1.items ≡ length readers.items) }
     ensures read_failed { IfOk result.1 (λ done.
         FailuresAreTold R.failures readers.items done.1.items done.0.inputs.items) }
@@ -91,6 +111,7 @@ fn run_in_threads<
     ensures memory { result.1 ≡ Err RunFault.Memory → W.failures result.0 ≡ W.failures writer }
     ensures write_failed { result.1 ≡ Err RunFault.Write → FailsOnce (W.failures writer) (W.failures result.0) }
 {
+    known(&plan);
     let Ok(gates) = vec![in alloc; OpenGate; readers.len()] else {
         return (writer, Err(RunFault::Memory));
     };

@@ -1,5 +1,5 @@
 -- What an input gives that a worker served, and that it was taken so.
-use Rattle.std.proofs.Common.{◌≡◌, ℕ, ◌<◌, ◌≤◌, Bool, true, false, if◌then◌else◌, List, [], ◌∷◌, ◌++◌, length, Option, Some, None, refl, ap, ◌∙◌, sym, subst, inl, inr, append_assoc, arith}
+use Rattle.std.proofs.Common.{◌≡◌, ℕ, Bool, true, false, if◌then◌else◌, List, [], ◌∷◌, ◌++◌, Option, Some, None, refl, ap, ◌∙◌, sym, subst, inl, inr, append_assoc, arith}
 use Rattle.std.specs.List.{slice_get}
 use Rattle.std.specs.Option.{option_to_list}
 use Rattle.std.specs.Io.KnownBytes.{Consumes}
@@ -23,17 +23,17 @@ use Rattle.serial.proofs.FeedingLaws.{next_in_order}
 use Rattle.serial.proofs.GivingLaws.{IsToldStop, same_bytes}
 use Rattle.serial.proofs.OutcomeLaws.{all_read}
 use Rattle.station.specs.Stations.{StationValue, IsLawfulInlet, IsRefusedForGood}
+use Rattle.threaded.specs.Giving.{GivesSome}
 use Rattle.threaded.proofs.CrewLaws.{IsServed, consumed}
 use Rattle.station.proofs.FaithfulLaws.{IsTakenOf, prefix_on, fulls_of_list}
 
--- The station kept the input that the worker served, of a plan's input, and the worker had memory.
+-- The station kept the input that the worker served, of a plan's input.
 pub record IsServedInput {R : Type 0} (remaining : R → Option (List ℕ)) (limit : ℕ) (p : PlanValue) (station : StationValue) (i : ℕ) (input : InputValue) (reader left : R) (report : Report) : Type 0 where
   pub served : IsServed remaining limit p station i input reader left report
   pub kept : IsLawfulInlet station.history i served.inlet
   pub plan_is : station.history.run.plan ≡ p
   pub input_is : slice_get p.request.inputs i ≡ Some input
   pub ranges : IsInput input
-  pub had_memory : report.stopped ≡ Some Memory → ⊥
 
 -- no packet that a worker sent is refused for good
 unrefused : {R : Type 0} (remaining : R → Option (List ℕ)) (limit : ℕ) (p : PlanValue) (station : StationValue) (i : ℕ) (input : InputValue) (reader left : R) (report : Report) (item : Stamped)
@@ -104,18 +104,18 @@ is_cut None = false
 is_cut (Some Gate) = false
 is_cut (Some ReadFailed) = true
 is_cut (Some TooMuch) = true
-is_cut (Some Memory) = false
+is_cut (Some Memory) = true
 
 -- all that an input gives: what was sent of it where it was cut short, else all that can be taken
 abbrev pub given_list : List Stamped → List Stamped → Option Stop → List Stamped
 given_list sent all stopped = if is_cut stopped then sent else all
 
-whole_list : (sent all : List Stamped) (told : Option (Option Stop)) (stopped : Option Stop) → IsToldStop told stopped → (told ≡ Some (Some ReadFailed) → ⊥) → (told ≡ Some (Some TooMuch) → ⊥) → given_list sent all stopped ≡ all
-whole_list sent all told None is unfailed fits = refl
-whole_list sent all told (Some Gate) is unfailed fits = refl
-whole_list sent all told (Some ReadFailed) is unfailed fits = absurd (unfailed (is.failed refl))
-whole_list sent all told (Some TooMuch) is unfailed fits = absurd (fits (is.too_much refl))
-whole_list sent all told (Some Memory) is unfailed fits = refl
+whole_list : (sent all : List Stamped) (told : Option (Option Stop)) (stopped : Option Stop) → IsToldStop told stopped → (stopped ≡ Some Memory → ⊥) → (told ≡ Some (Some ReadFailed) → ⊥) → (told ≡ Some (Some TooMuch) → ⊥) → given_list sent all stopped ≡ all
+whole_list sent all told None is had unfailed fits = refl
+whole_list sent all told (Some Gate) is had unfailed fits = refl
+whole_list sent all told (Some ReadFailed) is had unfailed fits = absurd (unfailed (is.failed refl))
+whole_list sent all told (Some TooMuch) is had unfailed fits = absurd (fits (is.too_much refl))
+whole_list sent all told (Some Memory) is had unfailed fits = absurd (had refl)
 
 begins_list : (xs sent all : List Stamped) (stopped : Option Stop) → IsPrefix xs sent → IsPrefix sent all → IsPrefix xs (given_list sent all stopped)
 begins_list xs sent all stopped a b = elim (is_cut stopped) as (λ v. IsPrefix xs (if v then sent else all)) [ true ↦ a | false ↦ prefix_on xs sent all a b ]
@@ -128,17 +128,17 @@ pub list_is : (p : PlanValue) (starts : List (Option (List ℕ))) (i : ℕ) (inp
     → packet_lists p starts i ≡ takeable p (origin_of i input) (framed 188 all)
 list_is p starts i input all at from = ap (λ v. packet_list p i v (slice_get starts i)) at ∙ ap (packet_list p i (Some input)) from
 
-pub gives_of : {R : Type 0} (remaining : R → Option (List ℕ)) (limit : ℕ) (p : PlanValue) (station : StationValue) (i : ℕ) (input : InputValue) (reader left : R) (report : Report) (starts lefts : List (Option (List ℕ))) (stops : List (Option Stop)) (all : List ℕ)
+gives_of : {R : Type 0} (remaining : R → Option (List ℕ)) (limit : ℕ) (p : PlanValue) (station : StationValue) (i : ℕ) (input : InputValue) (reader left : R) (report : Report) (starts lefts : List (Option (List ℕ))) (stops : List (Option Stop)) (all : List ℕ)
     → (x : IsServedInput remaining limit p station i input reader left report) → slice_get starts i ≡ Some (Some all) → remaining reader ≡ Some all → slice_get lefts i ≡ Some (remaining left)
-    → IsToldStop (slice_get stops i) report.stopped → Gives p starts lefts stops i (given_list x.served.sent (packet_lists p starts i) report.stopped)
-gives_of remaining limit p station i input reader left report starts lefts stops all x from start to told =
+    → IsToldStop (slice_get stops i) report.stopped → (report.stopped ≡ Some Memory → ⊥) → Gives p starts lefts stops i (given_list x.served.sent (packet_lists p starts i) report.stopped)
+gives_of remaining limit p station i input reader left report starts lefts stops all x from start to told had =
     let s = x.served in
     let list = packet_lists p starts i in
     let is = list_is p starts i input all x.input_is from in
     let P : List Stamped → Type 0 = IsPrefix s.sent in
     let front : IsPrefix s.sent list = subst P (sym is) (sent_begins remaining limit p station i input reader left report all s start) in
     record {
-      whole = λ unfailed fits. whole_list s.sent list (slice_get stops i) report.stopped told unfailed fits;
+      whole = λ unfailed fits. whole_list s.sent list (slice_get stops i) report.stopped told had unfailed fits;
       failed = λ e input' first last bytes at first_is last_is used.
           let failed = told.was_failed e in
           let same_input : input ≡ input' = same_Some input input' (sym x.input_is ∙ at) in
@@ -155,6 +155,19 @@ gives_of remaining limit p station i input reader left report starts lefts stops
       begins = list_begins s.sent list report.stopped front;
     }
 
+-- where a worker wanted memory some of it
+pub gives_some_of : {R : Type 0} (remaining : R → Option (List ℕ)) (limit : ℕ) (p : PlanValue) (station : StationValue) (i : ℕ) (input : InputValue) (reader left : R) (report : Report) (starts lefts : List (Option (List ℕ))) (stops : List (Option Stop)) (all : List ℕ)
+    → (x : IsServedInput remaining limit p station i input reader left report) → slice_get starts i ≡ Some (Some all) → remaining reader ≡ Some all → slice_get lefts i ≡ Some (remaining left)
+    → IsToldStop (slice_get stops i) report.stopped → (report.stopped ≡ Some Memory → slice_get stops i ≡ Some (Some Memory))
+    → GivesSome p starts lefts stops i (given_list x.served.sent (packet_lists p starts i) report.stopped)
+gives_some_of remaining limit p station i input reader left report starts lefts stops all x from start to told wanted =
+    let list = packet_lists p starts i in
+    let P : List Stamped → Type 0 = IsPrefix x.served.sent in
+    record {
+      given = λ other. gives_of remaining limit p station i input reader left report starts lefts stops all x from start to told (λ e. other (wanted e));
+      begins = list_begins x.served.sent list report.stopped (subst P (sym (list_is p starts i input all x.input_is from)) (sent_begins remaining limit p station i input reader left report all x.served start));
+    }
+
 closed_list : {R : Type 0} (remaining : R → Option (List ℕ)) (limit : ℕ) (p : PlanValue) (station : StationValue) (i : ℕ) (input : InputValue) (reader left : R) (report : Report) (all : List ℕ) (list : List Stamped) (stopped : Option Stop)
     → (x : IsServedInput remaining limit p station i input reader left report) → remaining reader ≡ Some all → list ≡ takeable p (origin_of i input) (framed 188 all) → is_closed i station.history.events ≡ true
     → report.stopped ≡ stopped → given_list x.served.sent list stopped ≡ taken i station.history.events
@@ -165,7 +178,7 @@ closed_list remaining limit p station i input reader left report all list (Some 
     absurd (false≢true (sym (x.served.unmarked e) ∙ b.is_ended))
 closed_list remaining limit p station i input reader left report all list (Some ReadFailed) x start is shut e = sent_taken remaining limit p station i input reader left report x shut
 closed_list remaining limit p station i input reader left report all list (Some TooMuch) x start is shut e = sent_taken remaining limit p station i input reader left report x shut
-closed_list remaining limit p station i input reader left report all list (Some Memory) x start is shut e = absurd (x.had_memory e)
+closed_list remaining limit p station i input reader left report all list (Some Memory) x start is shut e = sent_taken remaining limit p station i input reader left report x shut
 
 pub taken_of : {R : Type 0} (remaining : R → Option (List ℕ)) (limit : ℕ) (p : PlanValue) (station : StationValue) (i : ℕ) (input : InputValue) (reader left : R) (report : Report) (starts : List (Option (List ℕ))) (all : List ℕ)
     → (x : IsServedInput remaining limit p station i input reader left report) → slice_get starts i ≡ Some (Some all) → remaining reader ≡ Some all

@@ -1,11 +1,7 @@
 -- What is told of all inputs of a run, each of which a worker served.
-use Rattle.std.proofs.Common.{◌≡◌, ℕ, ◌<◌, ◌≤◌, false, true, List, [], ◌++◌, length, map, Option, Some, None, option_map, refl, ap, ◌∙◌, sym, subst, inl, inr, ◌⊎◌, arith}
-use Rattle.std.specs.Prelude.{IsSome}
+use Rattle.std.proofs.Common.{◌≡◌, ℕ, List, length, map, Option, Some, option_map, ap, ◌∙◌, sym, subst, arith}
 use Rattle.std.specs.List.{slice_get}
-use Rattle.std.proofs.lemmas.Bool.{cases_lt}
-use Rattle.std.proofs.lemmas.List.{append-nil}
 use Rattle.std.proofs.lemmas.Option.{slice_get_within, same_Some, slice_get-map}
-use Rattle.tspkt.specs.declared.stamped.Stamped.{Stamped}
 use Rattle.request.specs.Request.{InputValue, IsInput}
 use Rattle.plan.specs.Build.{PlanValue}
 use Rattle.mux.specs.declared.event.Event.{Event}
@@ -13,12 +9,12 @@ use Rattle.mux.specs.Lawful.{IsLawful}
 use Rattle.mux.specs.Totals.{IsTotals}
 use Rattle.mux.specs.Headline.{IsSound}
 use Rattle.mux.specs.Plans.{IsMultiplexPlan}
-use Rattle.mux.specs.Faithful.{PacketLists, IsFaithful}
 use Rattle.reading.specs.Failures.{FailsOnce}
+use Rattle.reading.specs.declared.report.Report.{Report}
 use Rattle.reading.specs.declared.stop.Stop.{Stop}
-use Rattle.reading.specs.declared.stop.Stop.TheVariants.{ReadFailed}
-use Rattle.serial.specs.Feeding.{packet_lists, AreKnown}
-use Rattle.serial.specs.Giving.{Gives, TakesWhatIsGiven}
+use Rattle.reading.specs.declared.stop.Stop.TheVariants.{ReadFailed, Memory}
+use Rattle.serial.specs.Feeding.{AreKnown}
+use Rattle.serial.specs.Giving.{TakesWhatIsGiven}
 use Rattle.serial.specs.Outcome.{AreReadOn, IsReadOn, FailuresAreTold, IsFailureTold, stops_of}
 use Rattle.serial.specs.declared.summary.InputSummary.{InputSummary}
 use Rattle.serial.proofs.OpeningLaws.{from_map}
@@ -30,9 +26,9 @@ use Rattle.threaded.specs.Outcome.{IsInputSummary}
 use Rattle.threaded.specs.declared.ended.Ended.{Ended}
 use Rattle.threaded.proofs.ListLaws.{get_within}
 use Rattle.threaded.proofs.CrewLaws.{IsServed}
-use Rattle.station.proofs.FaithfulLaws.{IsTakenOf, faithful_to}
-use Rattle.threaded.proofs.GivenLaws.{IsServedInput, given_list, gives_of, taken_of}
-use Rattle.threaded.proofs.SummaryLaws.{told_stop, failure_told, input_summary, read_on}
+use Rattle.threaded.proofs.GivenLaws.{IsServedInput}
+use Rattle.threaded.proofs.ComingLaws.{CameOf, takes_what_came}
+use Rattle.threaded.proofs.SummaryLaws.{told_stop, stopped_before, failure_told, input_summary, read_on}
 
 -- The worker of an input read this reader, and this became of it.
 pub record IsServedAt {R G : Type 0} (remaining : R → Option (List ℕ)) (failures : R → ℕ) (limit : ℕ) (p : PlanValue) (station : StationValue) (readers : List R) (ended : List (Ended R G)) (i : ℕ) (input : InputValue) : Type 0 where
@@ -51,23 +47,6 @@ pub record IsToldOfInputs (limit : ℕ) (p : PlanValue) (h : List Event) (starts
       → IsInputSummary limit p h i input start x
   pub read : AreReadOn limit p h starts lefts inputs
 
-known : (start : Option (List ℕ)) → IsSome start → (all : List ℕ) × (start ≡ Some all)
-known None h = let bad : false ≡ true = h in cc
-known (Some all) h = (all, refl)
-
--- the lists of the inputs that there are, and those of no input
-abbrev pick : (n : ℕ) → ((i : ℕ) → i < n → List Stamped) → PacketLists → (i : ℕ) → (i < n) ⊎ (n ≤ i) → List Stamped
-pick n lists others i (inl inside) = lists i inside
-pick n lists others i (inr past) = others i
-
--- an input that is none gives nothing
-gives_past : (p : PlanValue) (starts lefts : List (Option (List ℕ))) (stops : List (Option Stop)) (i : ℕ) → length p.request.inputs ≤ i → Gives p starts lefts stops i (packet_lists p starts i)
-gives_past p starts lefts stops i past = record {
-  whole = λ unfailed fits. refl;
-  failed = λ e input start left bytes at from to used. absurd (omega (arith, slice_get_within p.request.inputs i input at, past));
-  begins = ([], sym (append-nil (packet_lists p starts i)));
-}
-
 -- A run whose inputs workers served, and what is told of it.
 pub record IsServedRun {R G : Type 0} (remaining : R → Option (List ℕ)) (failures : R → ℕ) (limit : ℕ) (p : PlanValue) (station : StationValue) (readers : List R) (ended : List (Ended R G)) (inputs : List InputSummary) (lent : List (R × G)) : Type 0 where
   pub each : (i : ℕ) (input : InputValue) → slice_get p.request.inputs i ≡ Some input → IsServedAt remaining failures limit p station readers ended i input
@@ -77,6 +56,20 @@ pub record IsServedRun {R G : Type 0} (remaining : R → Option (List ℕ)) (fai
   pub had_memory : HadMemory ended
   pub reported : AreReported station.history.run.plan station.history.events ended inputs lent
   pub count : length ended ≡ length p.request.inputs
+
+-- the station kept an input that its worker served
+pub served_input : {R G : Type 0} (remaining : R → Option (List ℕ)) (failures : R → ℕ) (limit : ℕ) (p : PlanValue) (station : StationValue) (readers : List R) (ended : List (Ended R G)) (i : ℕ) (input : InputValue)
+    → slice_get p.request.inputs i ≡ Some input → (x : IsServedAt remaining failures limit p station readers ended i input) → station.history.run.plan ≡ p → IsSound station.history → IsLawfulStation station.history station.inputs
+    → IsServedInput remaining limit p station i input x.reader x.end.reader x.end.report
+served_input remaining failures limit p station readers ended i input at x plan_is sound kept =
+    let plan : IsMultiplexPlan p = subst IsMultiplexPlan plan_is sound.plan in
+    record {
+      served = x.served;
+      kept = kept.each i x.served.inlet x.served.inlet_is;
+      plan_is = plan_is;
+      input_is = at;
+      ranges = all_at IsInput p.request.inputs i input plan.request.inputs at;
+    }
 
 -- an input of it
 record IsServedWith {R G : Type 0} (remaining : R → Option (List ℕ)) (failures : R → ℕ) (limit : ℕ) (p : PlanValue) (station : StationValue) (readers : List R) (ended : List (Ended R G)) (inputs : List InputSummary) (lent : List (R × G)) (i : ℕ) (input : InputValue) : Type 0 where
@@ -101,19 +94,11 @@ served_with : {R G : Type 0} (remaining : R → Option (List ℕ)) (failures : R
 served_with {R} {G} remaining failures limit p station readers ended inputs lent run i input at =
     let x = run.each i input at in
     let told = get_within inputs i (omega (arith, slice_get_within p.request.inputs i input at, run.reported.length_is, run.count)) in
-    let plan : IsMultiplexPlan p = subst IsMultiplexPlan run.plan_is run.sound.plan in
     let left : R × G → Option (List ℕ) = λ l. remaining l.0 in
     let reader : R × G → R = λ l. l.0 in
     record {
       at = x;
-      served = record {
-        served = x.served;
-        kept = run.kept.each i x.served.inlet x.served.inlet_is;
-        plan_is = run.plan_is;
-        input_is = at;
-        ranges = all_at IsInput p.request.inputs i input plan.request.inputs at;
-        had_memory = run.had_memory i x.end x.end_is;
-      };
+      served = served_input remaining failures limit p station readers ended i input at x run.plan_is run.sound run.kept;
       start_is = slice_get-map remaining readers i ∙ ap (option_map remaining) x.reader_is;
       left_is = lent_at left ended lent i x.end run.reported.lent_is x.end_is;
       came_back = lent_at reader ended lent i x.end run.reported.lent_is x.end_is;
@@ -130,52 +115,38 @@ module _ {R G : Type 0} (remaining : R → Option (List ℕ)) (failures : R → 
   abbrev lefts : List (Option (List ℕ))
   lefts = map (λ l. remaining l.0) lent
 
-  abbrev input_at : (i : ℕ) → i < length p.request.inputs → (input : InputValue) × (slice_get p.request.inputs i ≡ Some input)
-  input_at i inside = get_within p.request.inputs i inside
-
-  abbrev with_at : (i : ℕ) (inside : i < length p.request.inputs) → IsServedWith remaining failures limit p station readers ended inputs lent i (input_at i inside).0
-  with_at i inside = served_with remaining failures limit p station readers ended inputs lent run i (input_at i inside).0 (input_at i inside).1
-
-  -- what an input gives
-  abbrev list_at : (i : ℕ) → i < length p.request.inputs → List Stamped
-  list_at i inside = (let x = with_at i inside in given_list x.served.served.sent (packet_lists p starts i) x.at.end.report.stopped)
-
-  abbrev lists : PacketLists
-  lists i = pick (length p.request.inputs) list_at (packet_lists p starts) i (cases_lt i (length p.request.inputs))
-
-  bytes_at : AreKnown starts → (i : ℕ) (inside : i < length p.request.inputs) → (all : List ℕ) × (remaining (with_at i inside).at.reader ≡ Some all)
-  bytes_at are i inside = known (remaining (with_at i inside).at.reader) (are i (remaining (with_at i inside).at.reader) (with_at i inside).start_is)
-
-  gives_at : AreKnown starts → (i : ℕ) (inside : i < length p.request.inputs) → Gives p starts lefts (stops_of inputs) i (list_at i inside)
-  gives_at are i inside =
-      let x = with_at i inside in
-      let b = bytes_at are i inside in
+  came_of : (i : ℕ) (input : InputValue) → slice_get p.request.inputs i ≡ Some input → CameOf remaining limit p station starts lefts (stops_of inputs) i input
+  came_of i input at =
+      let x = served_with remaining failures limit p station readers ended inputs lent run i input at in
       let stop : InputSummary → Option Stop = λ s. s.report.stopped in
-      gives_of remaining limit p station i (input_at i inside).0 x.at.reader x.at.end.reader x.at.end.report starts lefts (stops_of inputs) b.0 x.served (x.start_is ∙ ap Some b.1) b.1 x.left_is
-      (told_stop station.history.events i x.at.end.report x.told.report (slice_get (stops_of inputs) i) x.last (slice_get-map stop inputs i ∙ ap (option_map stop) x.told_is))
+      record {
+        reader = x.at.reader;
+        left = x.at.end.reader;
+        report = x.at.end.report;
+        served = x.served;
+        start_is = x.start_is;
+        left_is = x.left_is;
+        told = told_stop station.history.events i x.at.end.report x.told.report (slice_get (stops_of inputs) i) x.last (slice_get-map stop inputs i ∙ ap (option_map stop) x.told_is);
+        wanted = λ e. absurd (run.had_memory i x.at.end x.at.end_is e);
+      }
 
-  taken_at : AreKnown starts → (i : ℕ) (inside : i < length p.request.inputs) → IsTakenOf station.history.events i (list_at i inside)
-  taken_at are i inside =
-      let x = with_at i inside in
-      let b = bytes_at are i inside in
-      taken_of remaining limit p station i (input_at i inside).0 x.at.reader x.at.end.reader x.at.end.report starts b.0 x.served (x.start_is ∙ ap Some b.1) b.1
+  -- no input's worker wanted memory
+  had_memory : (i : ℕ) → slice_get (stops_of inputs) i ≡ Some (Some Memory) → ⊥
+  had_memory i is =
+      let stop : InputSummary → Option Stop = λ s. s.report.stopped in
+      let l = from_map stop inputs i (Some Memory) is in
+      let input = get_within p.request.inputs i (omega (arith, slice_get_within inputs i l.0 l.1, run.reported.length_is, run.count)) in
+      let x = served_with remaining failures limit p station readers ended inputs lent run i input.0 input.1 in
+      let told : x.told.report.stopped ≡ Some Memory = ap stop (same_Some x.told l.0 (sym x.told_is ∙ l.1)) ∙ l.2 in
+      let same = stopped_before station.history.events i x.at.end.report x.told.report Memory x.last told (λ bad. cc) in
+      run.had_memory i x.at.end x.at.end_is (ap (λ (r : Report). r.stopped) (sym same) ∙ told)
 
   takes_what_is_given : AreKnown starts → TakesWhatIsGiven p starts lefts (stops_of inputs) station.history.events
   takes_what_is_given are =
-      let n = length p.request.inputs in
       let plan : IsMultiplexPlan p = subst IsMultiplexPlan run.plan_is run.sound.plan in
-      let lawful : IsLawful p station.history.events = subst (λ v. IsLawful v station.history.events) run.plan_is run.sound.run.lawful in (
-        lists,
-        λ i. elim (cases_lt i n) as (λ c. Gives p starts lefts (stops_of inputs) i (pick n list_at (packet_lists p starts) i c)) [
-          | inl inside ↦ gives_at are i inside
-          | inr past ↦ gives_past p starts lefts (stops_of inputs) i past
-        ],
-        faithful_to p lists station.history.events plan.request lawful
-            (λ i here. elim (cases_lt i n) as (λ c. IsTakenOf station.history.events i (pick n list_at (packet_lists p starts) i c)) [
-              | inl inside ↦ taken_at are i inside
-              | inr past ↦ absurd (omega (arith, here, past))
-            ]),
-      )
+      let lawful : IsLawful p station.history.events = subst (λ v. IsLawful v station.history.events) run.plan_is run.sound.run.lawful in
+      let all = takes_what_came remaining limit p station starts lefts (stops_of inputs) came_of plan lawful are in
+      (all.0, λ i. (all.1 i).given (had_memory i), all.2)
 
   pub told_of_inputs : IsToldOfInputs limit p station.history.events starts lefts inputs
   told_of_inputs = record {
@@ -186,7 +157,7 @@ module _ {R G : Type 0} (remaining : R → Option (List ℕ)) (failures : R → 
         let mine : x.told ≡ s = same_Some x.told s (sym x.told_is ∙ told) in
         let P : Option (List ℕ) → Type 0 = λ v. IsInputSummary limit p station.history.events i input v s in
         let Q : InputSummary → Type 0 = λ v. IsInputSummary limit p station.history.events i input (remaining x.at.reader) v in
-        subst P first (subst Q mine (input_summary remaining limit p station i input x.at.reader x.at.end.reader x.at.end.report x.told x.served x.last (subst (λ v. IsTotals v i station.history.events x.told.totals) run.plan_is (run.reported.totals i x.told x.told_is))));
+        subst P first (subst Q mine (input_summary remaining limit p station i input x.at.reader x.at.end.reader x.at.end.report x.told x.served (run.had_memory i x.at.end x.at.end_is) x.last (subst (λ v. IsTotals v i station.history.events x.told.totals) run.plan_is (run.reported.totals i x.told x.told_is))));
     read = λ i input start left s at from to told.
         let x = served_with remaining failures limit p station readers ended inputs lent run i input at in
         let first : remaining x.at.reader ≡ start = same_Some (remaining x.at.reader) start (sym x.start_is ∙ from) in

@@ -9,3 +9,5 @@ pub mod InputLaws
 pub mod GivenLaws
 pub mod SummaryLaws
 pub mod OutputLaws
+pub mod ComingLaws
+pub mod BegunLaws

@@ -1,6 +1,8 @@
 -- Lists that grow by one, and that are gone through.
-use Rattle.std.proofs.Common.{◌≡◌, ℕ, zero, suc, ◌<◌, List, [], ◌∷◌, ◌++◌, length, drop, map, Some, refl, ap, ◌∙◌, arith, length-append}
-use Rattle.std.specs.List.{slice_get}
+use Rattle.std.proofs.Common.{◌≡◌, ℕ, zero, suc, ◌<◌, List, [], ◌∷◌, ◌++◌, length, drop, map, Some, option_map, refl, ap, sym, ◌∙◌, arith, length-append}
+use Rattle.std.specs.List.{slice_get, zip}
+use Rattle.std.proofs.lemmas.Option.{slice_get-map}
+use Rattle.std.proofs.lemmas.Slice.Zip.{firsts-zip, seconds-zip}
 
 -- one more of a list
 pub map_push : {X Y : Type 0} (f : X → Y) (xs : List X) (x : X) → map f (xs ++ x ∷ []) ≡ map f xs ++ f x ∷ []
@@ -23,3 +25,15 @@ pub get_within : {X : Type 0} (xs : List X) (i : ℕ) → i < length xs → (x :
 get_within [] i l = absurd (omega (arith, l))
 get_within (x ∷ xs) zero l = (x, refl)
 get_within (x ∷ xs) (suc i) l = get_within xs i (omega (arith, l))
+
+-- what stands in both of two lists
+
+pub firsts_at : {A B : Type 0} (xs : List A) (ys : List B) (i : ℕ) (p : A × B) → length ys ≡ length xs → slice_get (zip xs ys) i ≡ Some p → slice_get xs i ≡ Some p.0
+firsts_at {A} {B} xs ys i p size at =
+    let first : A × B → A = λ q. q.0 in
+    ap (λ v. slice_get v i) (sym (firsts-zip xs ys size)) ∙ (slice_get-map first (zip xs ys) i ∙ ap (option_map first) at)
+
+pub seconds_at : {A B : Type 0} (xs : List A) (ys : List B) (i : ℕ) (p : A × B) → length ys ≡ length xs → slice_get (zip xs ys) i ≡ Some p → slice_get ys i ≡ Some p.1
+seconds_at {A} {B} xs ys i p size at =
+    let second : A × B → B = λ q. q.1 in
+    ap (λ v. slice_get v i) (sym (seconds-zip xs ys size)) ∙ (slice_get-map second (zip xs ys) i ∙ ap (option_map second) at)

@@ -4,7 +4,7 @@ use Rattle.std.specs.List.{slice_get, zip}
 use Rattle.std.proofs.lemmas.Option.{slice_get_within, same_Some, slice_get-map}
 use Rattle.std.proofs.lemmas.List.{length-map}
 use Rattle.std.proofs.Math.Nat.{min-eq_left}
-use Rattle.std.proofs.lemmas.Slice.Zip.{length-zip, firsts-zip, seconds-zip}
+use Rattle.std.proofs.lemmas.Slice.Zip.{length-zip}
 use Rattle.std.specs.Io.KnownBytes.{Appends}
 use Rattle.request.specs.Request.{InputValue}
 use Rattle.plan.specs.Build.{PlanValue}
@@ -19,7 +19,7 @@ use Rattle.fault_report.specs.ReportValue.{ReportValue}
 use Rattle.fault_report.specs.FaultReport.{IsReportOf}
 use Rattle.port.specs.Rings.{RingId, PortValue}
 use Rattle.worker.specs.declared.worker.Worker.{Worker}
-use Rattle.station.specs.Stations.{StationValue, rings_of}
+use Rattle.station.specs.Stations.{StationValue, IsLawfulStation, rings_of}
 use Rattle.station.specs.Opening.{IsOpened, IsFresh}
 use Rattle.station.specs.declared.inlet.Inlet.{Inlet}
 use Rattle.serial.specs.Running.{AreBegun, IsOver, TakesAsNeeded}
@@ -38,13 +38,13 @@ use Rattle.serial.specs.declared.summary.Summary.{Summary}
 use Rattle.threaded.specs.Opening.{IsReady}
 use Rattle.threaded.specs.Driving.{output_of, HasAnalysedAll, IsSameRun, BreaksOff, IsDriven}
 use Rattle.reading.specs.Failures.{FailsOnce}
-use Rattle.reading.specs.declared.stop.Stop.TheVariants.{ReadFailed}
 use Rattle.serial.specs.Outcome.{FailuresAreTold}
 use Rattle.threaded.specs.Outcome.{HasRun, HasBegun, RunsThrough, IsCutShort}
 use Rattle.threaded.specs.declared.ended.Ended.{Ended}
 use Rattle.threaded.specs.declared.run_gate.RunGate.{RunGate}
-use Rattle.threaded.proofs.ListLaws.{get_within}
+use Rattle.threaded.proofs.ListLaws.{get_within, firsts_at, seconds_at}
 use Rattle.threaded.proofs.CrewLaws.{served, served_begins}
+use Rattle.threaded.proofs.BegunLaws.{AreLeft, nothing_left, all_left}
 use Rattle.threaded.proofs.InputsLaws.{IsServedAt, IsServedRun, IsToldOfInputs, told_of_inputs, all_failures_told}
 
 -- readers, gates and ports of as many inputs
@@ -55,16 +55,6 @@ pub record AreOfInputs {R G : Type 0} (n : ℕ) (readers : List R) (gates : List
 
 abbrev pub seats_of : {R G : Type 0} → List R → List G → List PortValue → List ((R × G) × PortValue)
 seats_of readers gates ports = zip (zip readers gates) ports
-
-firsts_at : {A B : Type 0} (xs : List A) (ys : List B) (i : ℕ) (p : A × B) → length ys ≡ length xs → slice_get (zip xs ys) i ≡ Some p → slice_get xs i ≡ Some p.0
-firsts_at {A} {B} xs ys i p size at =
-    let first : A × B → A = λ q. q.0 in
-    ap (λ v. slice_get v i) (sym (firsts-zip xs ys size)) ∙ (slice_get-map first (zip xs ys) i ∙ ap (option_map first) at)
-
-seconds_at : {A B : Type 0} (xs : List A) (ys : List B) (i : ℕ) (p : A × B) → length ys ≡ length xs → slice_get (zip xs ys) i ≡ Some p → slice_get ys i ≡ Some p.1
-seconds_at {A} {B} xs ys i p size at =
-    let second : A × B → B = λ q. q.1 in
-    ap (λ v. slice_get v i) (sym (seconds-zip xs ys size)) ∙ (slice_get-map second (zip xs ys) i ∙ ap (option_map second) at)
 
 zip_size : {A B : Type 0} (xs : List A) (ys : List B) (n : ℕ) → length xs ≡ n → length ys ≡ n → length (zip xs ys) ≡ n
 zip_size xs ys n a b = omega (arith, length-zip xs ys, a, b)
@@ -161,14 +151,20 @@ begun remaining failures limit p station readers ended each i input all at start
     served_begins remaining limit p station i input x.reader x.end.reader x.end.report all x.served (ap remaining (sym same) ∙ r.2)
 
 -- a run that took nothing
-pub begun_nothing : (run : Run) (starts : List (Option (List ℕ))) (before : Option (List ℕ)) → IsMultiplexPlan run.plan → run.limit ≤ 1099511627776
-    → HasBegun (record { run = run; events = [] }) starts before before
-begun_nothing run starts before plan few = record {
-  sound = sound_nothing run.plan run.limit plan few;
-  begun = λ i input all at start. (takeable run.plan (origin_of i input) (framed 188 all), refl);
-  needed = tt;
-  written = ([], nothing_sent run.plan [] before [] refl refl);
-}
+pub begun_nothing : {R : Type 0} (remaining : R → Option (List ℕ)) (failures : R → ℕ) (run : Run) (limit : ℕ) (readers : List R) (before : Option (List ℕ)) → IsMultiplexPlan run.plan → run.limit ≤ 1099511627776
+    → HasBegun remaining failures (record { run = run; events = [] }) limit readers before before
+begun_nothing remaining failures run limit readers before plan few =
+    let inputs = nothing_left remaining failures limit run.plan readers in
+    record {
+      sound = sound_nothing run.plan run.limit plan few;
+      begun = λ i input all at start. (takeable run.plan (origin_of i input) (framed 188 all), refl);
+      needed = tt;
+      written = ([], nothing_sent run.plan [] before [] refl refl);
+      lefts = inputs.lefts;
+      count = inputs.count;
+      left = inputs.left;
+      faithful = inputs.faithful;
+    }
 
 -- The run's plan and slots are those of its station.
 
@@ -230,11 +226,25 @@ pub worked_count : {R G : Type 0} (remaining : R → Option (List ℕ)) (failure
 worked_count remaining failures p slots limit opened station readers gates seats ended ready of_readers of_gates have =
     have.count ∙ (have.all ∙ ready_count p slots readers gates opened seats ready of_readers of_gates)
 
+-- what is left of the inputs
+left_stopped : {R G : Type 0} (remaining : R → Option (List ℕ)) (failures : R → ℕ) (p : PlanValue) (slots limit : ℕ) (opened station : StationValue) (readers : List R) (gates : List G) (seats : List ((R × G) × PortValue))
+    → IsReady p slots readers gates opened seats → length readers ≡ length p.request.inputs → length gates ≡ length p.request.inputs
+    → ((ended : List (Ended R G)) × HaveWorked remaining failures limit p station seats ended) ⊎ (station ≡ opened)
+    → station.history.run.plan ≡ p → IsSound station.history → IsLawfulStation station.history station.inputs → AreLeft remaining failures limit p station.history.events readers
+left_stopped remaining failures p slots limit opened station readers gates seats ready of_readers of_gates (inl have) plan_is sound kept =
+    all_left remaining failures limit p station readers have.0 (all_served remaining failures p slots limit opened station readers gates seats have.0 ready of_readers of_gates have.1) plan_is sound kept
+    (worked_count remaining failures p slots limit opened station readers gates seats have.0 ready of_readers of_gates have.1 ∙ sym of_readers)
+left_stopped remaining failures p slots limit opened station readers gates seats ready of_readers of_gates (inr same) plan_is sound kept =
+    let none : station.history.events ≡ [] = ap (λ (s : StationValue). s.history.events) same ∙ ap (λ (h : History). h.events) ready.opened.history in
+    let P : List Event → Type 0 = λ h. AreLeft remaining failures limit p h readers in
+    subst P (sym none) (nothing_left remaining failures limit p readers)
+
 -- a run that failed
-has_begun : (p : PlanValue) (slots : ℕ) (opened station : StationValue) (ports : List PortValue) (output : SlotWriter) (starts : List (Option (List ℕ))) (before after : Option (List ℕ))
-    → IsOpened p slots opened ports → output.writer ≡ [] → BreaksOff opened station output before after → IsSound station.history → AreBegun p station.history.events starts
-    → HasBegun (record { run = record { plan = p; limit = slots }; events = station.history.events }) starts before after
-has_begun p slots opened station ports output starts before after is waiting broken sound taken =
+has_begun : {R : Type 0} (remaining : R → Option (List ℕ)) (failures : R → ℕ) (p : PlanValue) (slots limit : ℕ) (opened station : StationValue) (ports : List PortValue) (output : SlotWriter) (readers : List R) (before after : Option (List ℕ))
+    → IsOpened p slots opened ports → output.writer ≡ [] → BreaksOff opened station output before after → IsSound station.history → AreBegun p station.history.events (map remaining readers)
+    → AreLeft remaining failures limit p station.history.events readers
+    → HasBegun remaining failures (record { run = record { plan = p; limit = slots }; events = station.history.events }) limit readers before after
+has_begun remaining failures p slots limit opened station ports output readers before after is waiting broken sound taken inputs =
     let same = run_is p slots opened station ports is broken.same in
     let S : Run → Type 0 = λ r. IsSound (record { run = r; events = station.history.events }) in
     let W : Run → Type 0 = λ r. SendsBeginning before after (bytes_of (emitted r.plan station.history.events)) in
@@ -243,6 +253,10 @@ has_begun p slots opened station ports output starts before after is waiting bro
       begun = taken;
       needed = needed_run p slots opened station ports is broken.same;
       written = subst W same (broken.begun before (nothing_yet p slots opened ports output before is waiting));
+      lefts = inputs.lefts;
+      count = inputs.count;
+      left = inputs.left;
+      faithful = inputs.faithful;
     }
 
 -- so many faults fit into 64 bits
@@ -298,12 +312,14 @@ has_run p slots limit opened station ports a b starts lefts before after s few i
 pub run_failed : {R G : Type 0} (remaining : R → Option (List ℕ)) (failures : R → ℕ) (p : PlanValue) (slots limit : ℕ) (opened : StationValue) (readers : List R) (gates : List G) (seats : List ((R × G) × PortValue)) (output : SlotWriter) (before after : Option (List ℕ))
     → IsReady p slots readers gates opened seats → length readers ≡ length p.request.inputs → length gates ≡ length p.request.inputs → output.writer ≡ []
     → IsCutShort remaining failures limit p opened seats output before after
-    → (h : List Event) × HasBegun (record { run = record { plan = p; limit = slots }; events = h }) (map remaining readers) before after
-run_failed remaining failures p slots limit opened readers gates seats output before after ready of_readers of_gates waiting f = (
-  f.station.history.events,
-  has_begun p slots opened f.station ready.ports output (map remaining readers) before after ready.opened waiting f.broken f.sound
-      (begun_stopped remaining failures p slots limit opened f.station readers gates seats ready of_readers of_gates f.stopped),
-)
+    → (h : List Event) × HasBegun remaining failures (record { run = record { plan = p; limit = slots }; events = h }) limit readers before after
+run_failed remaining failures p slots limit opened readers gates seats output before after ready of_readers of_gates waiting f =
+    let plan_is = ap (λ (r : Run). r.plan) (run_is p slots opened f.station ready.ports ready.opened f.broken.same) in (
+      f.station.history.events,
+      has_begun remaining failures p slots limit opened f.station ready.ports output readers before after ready.opened waiting f.broken f.sound
+          (begun_stopped remaining failures p slots limit opened f.station readers gates seats ready of_readers of_gates f.stopped)
+          (left_stopped remaining failures p slots limit opened f.station readers gates seats ready of_readers of_gates f.stopped plan_is f.sound f.lawful),
+    )
 
 served_run : {R G : Type 0} (remaining : R → Option (List ℕ)) (failures : R → ℕ) (p : PlanValue) (slots limit : ℕ) (opened : StationValue) (readers : List R) (gates : List G) (seats : List ((R × G) × PortValue)) (output : SlotWriter) (before after : Option (List ℕ)) (s : Summary) (lent : List (R × G))
     → IsReady p slots readers gates opened seats → length readers ≡ length p.request.inputs → length gates ≡ length p.request.inputs → (e : RunsThrough remaining failures limit p opened seats output before after s lent)

@@ -1,7 +1,6 @@
 -- What is said of an input that a worker served.
-use Rattle.std.proofs.Common.{◌≡◌, ℕ, ◌<◌, ◌≤◌, Bool, true, false, List, [], ◌∷◌, ◌++◌, length, Option, Some, None, refl, ap, ◌∙◌, sym, subst, inl, inr, ◌⊎◌, append_assoc, arith}
+use Rattle.std.proofs.Common.{◌≡◌, ℕ, true, false, List, ◌++◌, length, Option, Some, None, refl, ap, ◌∙◌, sym, subst, inl, inr, ◌⊎◌, append_assoc, arith}
 use Rattle.std.specs.Prelude.{IsSome}
-use Rattle.std.specs.List.{slice_get}
 use Rattle.std.specs.Option.{option_to_list}
 use Rattle.std.proofs.lemmas.Bool.{cases_Bool, false≢true}
 use Rattle.std.proofs.lemmas.Option.{none-some, same_Some}
@@ -14,8 +13,8 @@ use Rattle.mux.specs.declared.event.Event.{Event}
 use Rattle.mux.specs.History.{taken, is_closed}
 use Rattle.mux.specs.Totals.{IsTotals}
 use Rattle.reading.specs.Failures.{FailsOnce}
-use Rattle.reading.specs.Takeable.{OriginValue, origin_of, takeable, CountsItems}
-use Rattle.reading.specs.PacketReading.{CountsTold}
+use Rattle.reading.specs.Takeable.{OriginValue, origin_of, CountsItems}
+use Rattle.reading.specs.PacketReading.{BeginsTakeable}
 use Rattle.reading.specs.declared.report.Report.{Report}
 use Rattle.reading.specs.declared.stop.Stop.{Stop}
 use Rattle.reading.specs.declared.stop.Stop.TheVariants.{Gate, ReadFailed, TooMuch, Memory}
@@ -112,8 +111,9 @@ failure_told failures old new h i worker report last failed unfailed = (
 -- What is said of it.
 
 counted : {R : Type 0} (remaining : R → Option (List ℕ)) (limit : ℕ) (p : PlanValue) (station : StationValue) (i : ℕ) (input : InputValue) (reader left : R) (report : Report) (s : InputSummary) (all : List ℕ)
-    → (x : IsServedInput remaining limit p station i input reader left report) → IsLast station.history.events i report s.report → remaining reader ≡ Some all → IsCounted p station.history.events i input all s
-counted remaining limit p station i input reader left report s all x last known =
+    → (x : IsServedInput remaining limit p station i input reader left report) → (report.stopped ≡ Some Memory → ⊥) → IsLast station.history.events i report s.report → remaining reader ≡ Some all
+    → IsCounted p station.history.events i input all s
+counted remaining limit p station i input reader left report s all x had last known =
     let c = x.served.has.counted in
     let took = taken i station.history.events in
     let held = option_to_list x.served.inlet.held in
@@ -133,11 +133,11 @@ counted remaining limit p station i input reader left report s all x last known 
           let b = behind_mark remaining limit p station i input reader left report x shut in
           ap (λ (v : Option Stamped). (option_to_list v ++ rest) ++ read) b.unheld
           ∙ ap (λ (v : List Stamped). v ++ read) b.none_left
-          ∙ ap option_to_list (c.over b.is_ended x.had_memory);
+          ∙ ap option_to_list (c.over b.is_ended had);
     }
 
 -- it was open, where it was left
-left_unclosed : {R : Type 0} (remaining : R → Option (List ℕ)) (limit : ℕ) (p : PlanValue) (station : StationValue) (i : ℕ) (input : InputValue) (reader left : R) (report : Report)
+pub left_unclosed : {R : Type 0} (remaining : R → Option (List ℕ)) (limit : ℕ) (p : PlanValue) (station : StationValue) (i : ℕ) (input : InputValue) (reader left : R) (report : Report)
     → (x : IsServedInput remaining limit p station i input reader left report) → (report.stopped ≡ Some Gate) ⊎ (is_closed i station.history.events ≡ false) → is_closed i station.history.events ≡ false
 left_unclosed remaining limit p station i input reader left report x (inr opened) = opened
 left_unclosed remaining limit p station i input reader left report x (inl gate) =
@@ -166,20 +166,20 @@ ended remaining limit p station i input reader left report s all x last e known 
     }
 
 pub input_summary : {R : Type 0} (remaining : R → Option (List ℕ)) (limit : ℕ) (p : PlanValue) (station : StationValue) (i : ℕ) (input : InputValue) (reader left : R) (report : Report) (s : InputSummary)
-    → IsServedInput remaining limit p station i input reader left report → IsLast station.history.events i report s.report → IsTotals p i station.history.events s.totals
+    → IsServedInput remaining limit p station i input reader left report → (report.stopped ≡ Some Memory → ⊥) → IsLast station.history.events i report s.report → IsTotals p i station.history.events s.totals
     → IsInputSummary limit p station.history.events i input (remaining reader) s
-input_summary remaining limit p station i input reader left report s x last totals =
+input_summary remaining limit p station i input reader left report s x had last totals =
     let h = station.history.events in
     let has = x.served.has in
     record {
       totals = totals;
       closed = λ e. (unstopped h i report s.report last e).0;
       ended = λ e all known. ended remaining limit p station i input reader left report s all x last e known;
-      counted = λ all known. counted remaining limit p station i input reader left report s all x last known;
+      counted = λ all known. counted remaining limit p station i input reader left report s all x had last known;
       left = λ e. left_unclosed remaining limit p station i input reader left report x (gate_at h i report s.report report.stopped refl last e);
       unrefused = λ e.
           let same = stopped_before h i report s.report Memory last e (λ bad. cc) in
-          x.had_memory (ap (λ (r : Report). r.stopped) (sym same) ∙ e);
+          had (ap (λ (r : Report). r.stopped) (sym same) ∙ e);
       too_much = λ e all known.
           let same = stopped_before h i report s.report TooMuch last e (λ bad. cc) in
           let much = has.too_much (ap (λ (r : Report). r.stopped) (sym same) ∙ e) in
@@ -187,20 +187,25 @@ input_summary remaining limit p station i input reader left report s x last tota
           omega (arith, much, some);
     }
 
+-- what was taken of it begins what can be taken of the bytes that were read
+pub taken_begins : {R : Type 0} (remaining : R → Option (List ℕ)) (limit : ℕ) (p : PlanValue) (station : StationValue) (i : ℕ) (input : InputValue) (reader left : R) (report : Report)
+    → (x : IsServed remaining limit p station i input reader left report) → BeginsTakeable p (origin_of i input) x.has.bytes (taken i station.history.events)
+taken_begins remaining limit p station i input reader left report x more =
+    let took = taken i station.history.events in
+    let behind = option_to_list x.inlet.held ++ x.rest in
+    let later = x.has.begins more in
+    (behind ++ later.0, sym (append_assoc took behind later.0) ∙ (ap (λ v. v ++ later.0) (sym (x.sent_is ∙ append_assoc took (option_to_list x.inlet.held) x.rest)) ∙ later.1))
+
 pub read_on : {R : Type 0} (remaining : R → Option (List ℕ)) (limit : ℕ) (p : PlanValue) (station : StationValue) (i : ℕ) (input : InputValue) (reader left : R) (report : Report) (s : InputSummary)
     → IsServedInput remaining limit p station i input reader left report → IsLast station.history.events i report s.report
     → IsReadOn limit p station.history.events i input (remaining reader) (remaining left) s
 read_on remaining limit p station i input reader left report s x last =
     let h = station.history.events in
     let has = x.served.has in
-    let took = taken i h in
-    let behind = option_to_list x.served.inlet.held ++ x.served.rest in
     record {
       bytes = has.bytes;
       read = has.read;
-      begins = λ more.
-          let later = has.begins more in
-          (behind ++ later.0, sym (append_assoc took behind later.0) ∙ (ap (λ v. v ++ later.0) (sym (x.served.sent_is ∙ append_assoc took (option_to_list x.served.inlet.held) x.served.rest)) ∙ later.1));
+      begins = taken_begins remaining limit p station i input reader left report x.served;
       ended = λ e.
           let u = unstopped h i report s.report last e in
           (has.whole (ap (λ (r : Report). r.stopped) (sym u.1) ∙ e)).at_end;

@@ -1,7 +1,7 @@
 -- What comes of a run in threads (profile).
-use Rattle.std.specs.Prelude.{◌≡◌, ◌⊎◌, ℕ, ◌<◌, List, [], ◌++◌, length, true, false, Option, Some, None}
+use Rattle.std.specs.Prelude.{◌≡◌, ◌⊎◌, ℕ, ◌<◌, ◌≤◌, List, [], ◌++◌, length, map, true, false, Option, Some, None}
 use Rattle.std.specs.List.{slice_get}
-use Rattle.std.specs.Io.KnownBytes.{Appends}
+use Rattle.std.specs.Io.KnownBytes.{Appends, Consumes}
 use Rattle.tspkt.specs.Framed.{framed}
 use Rattle.tspkt.specs.declared.item.Item.{Item}
 use Rattle.tspkt.specs.declared.stamped.Stamped.{Stamped}
@@ -15,11 +15,13 @@ use Rattle.mux.specs.Totals.{IsTotals, IsCounts}
 use Rattle.mux.specs.Headline.{IsSound}
 use Rattle.mux.specs.Faithful.{IsFinished}
 use Rattle.reading.specs.Takeable.{takeable, origin_of, CountsItems}
+use Rattle.reading.specs.PacketReading.{BeginsTakeable}
+use Rattle.reading.specs.declared.stop.Stop.{Stop}
 use Rattle.reading.specs.declared.stop.Stop.TheVariants.{Gate, Memory, TooMuch}
 use Rattle.serial.specs.Feeding.{AreKnown}
 use Rattle.serial.specs.Giving.{TakesWhatIsGiven}
 use Rattle.serial.specs.Running.{AreBegun, TakesAsNeeded}
-use Rattle.serial.specs.Outcome.{HasEnded, AreReadOn, stops_of}
+use Rattle.serial.specs.Outcome.{HasEnded, AreReadOn, IsFailureTold, stops_of}
 use Rattle.serial.specs.Ending.{ArePeaks}
 use Rattle.serial.specs.Written.{SendsBeginning}
 use Rattle.serial.specs.Sending.{bytes_of}
@@ -31,6 +33,7 @@ use Rattle.station.specs.Stations.{StationValue, IsLawfulStation}
 use Rattle.threaded.specs.Crews.{HaveWorked, HadMemory}
 use Rattle.threaded.specs.Driving.{IsDriven, BreaksOff}
 use Rattle.threaded.specs.Ending.{AreReported}
+use Rattle.threaded.specs.Giving.{TakesWhatCame}
 use Rattle.threaded.specs.declared.ended.Ended.{Ended}
 
 -- The report counts a beginning of the framing of these bytes, and what can be taken of that beginning was taken, but for packets
@@ -87,12 +90,35 @@ pub record HasRun (h : History) (limit : ℕ) (starts lefts : List (Option (List
   -- the sources come back in their order, read on
   pub read : AreReadOn limit h.run.plan h.events starts lefts s.inputs.items
 
--- What a run of these sources makes, where it doesn't end by itself: a beginning of the packets of a sound history was written.
-pub record HasBegun (h : History) (starts : List (Option (List ℕ))) (before after : Option (List ℕ)) : Type 0 where
+-- An input of a run that failed: its reader was read on and left so, and this stopped its worker, if anything. What was taken of
+-- the input begins what can be taken of the bytes that were read. A failed read is told exactly where the reader failed once
+-- more, and the input is told as too long exactly where more bytes than it may have were read. Where its gate stopped the worker
+-- it is open.
+pub record IsLeft {R : Type 0} (remaining : R → Option (List ℕ)) (failures : R → ℕ) (limit : ℕ) (p : PlanValue) (h : List Event) (i : ℕ) (input : InputValue) (old : R) (left : R × Option Stop) : Type 0 where
+  pub bytes : List ℕ
+  pub read : Consumes (remaining old) (remaining left.0) bytes
+  pub begins : BeginsTakeable p (origin_of i input) bytes (taken i h)
+  pub told : IsFailureTold failures old left.0 left.1
+  pub too_much : left.1 ≡ Some TooMuch → limit < length bytes
+  pub within : (left.1 ≡ Some TooMuch → ⊥) → length bytes ≤ limit
+  pub unclosed : left.1 ≡ Some Gate → is_closed i h ≡ false
+
+-- What a run of these readers makes, each of at most so many bytes, where it doesn't end by itself: a beginning of the packets of
+-- a sound history was written. `lefts` are readers as a run may leave them, each with what stopped its worker, if anything: they
+-- don't come back.
+pub record HasBegun {R : Type 0} (remaining : R → Option (List ℕ)) (failures : R → ℕ) (h : History) (limit : ℕ) (readers : List R) (before after : Option (List ℕ)) : Type 0 where
   pub sound : IsSound h
-  pub begun : AreBegun h.run.plan h.events starts
+  pub begun : AreBegun h.run.plan h.events (map remaining readers)
   pub needed : TakesAsNeeded h.run h.events
   pub written : SendsBeginning before after (bytes_of (emitted h.run.plan h.events))
+  pub lefts : List (R × Option Stop)
+  pub count : length lefts ≡ length readers
+  pub left : (i : ℕ) (input : InputValue) (old : R) (left : R × Option Stop)
+      → slice_get h.run.plan.request.inputs i ≡ Some input → slice_get readers i ≡ Some old → slice_get lefts i ≡ Some left
+      → IsLeft remaining failures limit h.run.plan h.events i input old left
+  -- it takes what the inputs give, each input's packets in their order
+  pub faithful : AreKnown (map remaining readers)
+      → TakesWhatCame h.run.plan (map remaining readers) (map (λ left. remaining left.0) lefts) (map (λ left. left.1) lefts) h.events
 
 -- An opened run went on to its end: its inputs had their workers, what it sent went out, and this is told of it.
 pub record RunsThrough {R G : Type 0} (remaining : R → Option (List ℕ)) (failures : R → ℕ) (limit : ℕ) (p : PlanValue) (opened : StationValue) (seats : List ((R × G) × PortValue)) (output : SlotWriter) (before after : Option (List ℕ)) (s : Summary) (lent : List (R × G)) : Type 0 where
@@ -116,3 +142,4 @@ pub record IsCutShort {R G : Type 0} (remaining : R → Option (List ℕ)) (fail
   pub stopped : ((ended : List (Ended R G)) × HaveWorked remaining failures limit p station seats ended) ⊎ (station ≡ opened)
   pub broken : BreaksOff opened station output before after
   pub sound : IsSound station.history
+  pub lawful : IsLawfulStation station.history station.inputs

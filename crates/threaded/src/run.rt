@@ -55,8 +55,8 @@ pub fn run_threads<
         (map R.remaining readers.items) (map (λ lent. R.remaining lent.0) done.1.items)
         (W.contents writer) (W.contents result.0) done.0) }
     ensures begins { OnErr result.1 ((h : List Event)
-        × HasBegun (record { run = record { plan = plan; limit = slots }; events = h })
-        (map R.remaining readers.items) (W.contents writer) (W.contents result.0)) }
+        × HasBegun R.remaining R.failures (record { run = record { plan = plan; limit = slots }; events = h }) limit
+        readers.items (W.contents writer) (W.contents result.0)) }
     ensures lent { IfOk result.1 (λ done. length done.1.items ≡ length readers.items) }
     ensures read_failed { IfOk result.1 (λ done.
         FailuresAreTold R.failures readers.items (map (λ lent. lent.0) done.1.items) done.0.inputs.items) }
@@ -103,8 +103,8 @@ fn run_to<
         (map R.remaining readers.items) (map (λ lent. R.remaining lent.0) done.1.items)
         (W.contents sink.old) (W.contents sink.new) done.0) }
     ensures begins { OnErr result ((h : List Event)
-        × HasBegun (record { run = record { plan = plan; limit = slots }; events = h })
-        (map R.remaining readers.items) (W.contents sink.old) (W.contents sink.new)) }
+        × HasBegun R.remaining R.failures (record { run = record { plan = plan; limit = slots }; events = h }) limit
+        readers.items (W.contents sink.old) (W.contents sink.new)) }
     ensures lent { IfOk result (λ done. length done.1.items ≡ length readers.items) }
     ensures read_failed { IfOk result (λ done.
         FailuresAreTold R.failures readers.items (map (λ lent. lent.0) done.1.items) done.0.inputs.items) }

@@ -38,7 +38,7 @@ returns-clause-ended g c =
 pub returns-in_err-ended-clause-failed : goal.returns-in_err-ended-clause-failed
 returns-in_err-ended-clause-failed g c =
     on_err_always c.from_residual.result
-    (record { station = c.work_through-worked.new.station; stopped = c.in_err-ended.ensures.stopped; broken = c.in_err-ended.ensures.broken; sound = c.slots.ensures.sound })
+    (record { station = c.work_through-worked.new.station; stopped = c.in_err-ended.ensures.stopped; broken = c.in_err-ended.ensures.broken; sound = c.slots.ensures.sound; lawful = c.slots.ensures.lawful })
 
 pub returns-in_err-end_run-clause-failed : goal.returns-in_err-end_run-clause-failed
 returns-in_err-end_run-clause-failed g c =
@@ -50,6 +50,7 @@ returns-in_err-end_run-clause-failed g c =
       stopped = inl (c.in_ok-ended.ended.items, ended.worked);
       broken = breaks_driven o.station c.work_through-worked.new.station o.output c.work_through-worked.new.output (g.W.Sink.contents c.args.sink.now) (g.W.Sink.contents c.work_through-worked.new.sink) ended.driven;
       sound = c.slots.ensures.sound;
+      lawful = c.slots.ensures.lawful;
     })
 
 pub work_through-worked-requires-clause-limit : goal.work_through-worked-requires-clause-limit

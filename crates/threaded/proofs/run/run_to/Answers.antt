@@ -1,4 +1,4 @@
-use Rattle.std.proofs.Common.{[], map, ap, ◌∙◌, sym, refl}
+use Rattle.std.proofs.Common.{[], ap, ◌∙◌, sym, refl}
 use Rattle.mux.specs.History.{Run, History}
 use Rattle.std.proofs.lemmas.Result.{IfOk-weaker, err_from_is_err_and}
 use Rattle.serial.specs.declared.run_fault.RunFault.TheVariants as run_faults
@@ -70,7 +70,7 @@ returns-in_err-opening-clause-read_failed g c = if_ok_failed _ _ c.from_residual
 pub returns-in_err-opening-clause-begins : goal.returns-in_err-opening-clause-begins
 returns-in_err-opening-clause-begins g c =
     let run : Run = record { plan = c.args.plan; limit = c.args.slots } in
-    on_err_always c.from_residual.result ([], begun_nothing run (map g.R.Source.remaining c.args.readers.items) (g.W.Sink.contents c.args.sink.now) c.known.ensures c.requires.slots)
+    on_err_always c.from_residual.result ([], begun_nothing g.R.Source.remaining g.R.Source.failures run c.args.limit c.args.readers.items (g.W.Sink.contents c.args.sink.now) c.known.ensures c.requires.slots)
 
 pub open-requires : goal.open-requires
 open-requires g c = c.requires.slots
