@@ -3,6 +3,8 @@
 #![tactic(auto)]
 
 #[cfg(test)]
+mod made;
+#[cfg(test)]
 mod output_tables_tests;
 #[cfg(test)]
 mod plan_causes_tests;

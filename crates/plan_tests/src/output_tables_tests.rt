@@ -69,13 +69,18 @@ fn request(alloc: Global, count: u8, name: u8, descriptors: usize) -> Result<Req
 }
 
 /// So many bytes of descriptors without a body; one of them has a body of one byte where the number is odd.
-fn descriptors(alloc: Global, length: usize) -> Result<DescriptorLoop, Fail>
-    ensures { IfOk result (λ descriptors. are_whole 0 descriptors ≡ true) }
-{
+fn bare(alloc: Global, length: usize) -> Result<Vec<u8>, AllocError> {
     let mut bytes = vec![in alloc; 0; length]?;
     if length > 2 && length % 2 == 1 {
         bytes[1] = 1;
     }
+    Ok(bytes)
+}
+
+/// The descriptors that these bytes are.
+fn descriptors(bytes: Vec<u8>) -> Result<DescriptorLoop, Fail>
+    ensures { IfOk result (λ descriptors. are_whole 0 descriptors ≡ true) }
+{
     let Ok(descriptors) = DescriptorLoop::from_bytes(bytes) else {
         return Err(Fail::from("no whole descriptors"));
     };
@@ -95,10 +100,11 @@ fn pmt(alloc: Global, length: usize) -> Result<Pmt, Fail> {
     let row = PmtRow {
         stream_type: 2,
         elementary_pid: 0x0101,
-        descriptors: descriptors(alloc, 0)?,
+        descriptors: DescriptorLoop::new(alloc),
     };
     let rows = vec![in alloc; row]?;
-    Ok(Pmt::new(header, 0x0101, descriptors(alloc, length)?, rows))
+    let info = descriptors(bare(alloc, length)?)?;
+    Ok(Pmt::new(header, 0x0101, info, rows))
 }
 
 /// An input's SDT row with these descriptors.
@@ -159,6 +165,64 @@ fn tables(
     Ok(Some(set))
 }
 
+/// So many services, the bytes of the network's name and of the plan's descriptors, and those of the PMT's descriptors.
+type Sizes = (u8, u8, usize, usize);
+
+/// The tables of services of these sizes, whose row has these descriptors; none where they are too large.
+fn tables_of(alloc: Global, sizes: Sizes, of_row: Vec<u8>) -> Result<Option<TableSet>, Fail> {
+    let (count, name, of_plan, of_pmt) = sizes;
+    let request = request(alloc, count, name, of_plan)?;
+    let pmt = pmt(alloc, of_pmt)?;
+    let row = row(descriptors(of_row)?);
+    Ok(tables(alloc, &request, &pmt, &row)?)
+}
+
+/// The same, where they aren't too large.
+fn some_tables_of(alloc: Global, sizes: Sizes, of_row: Vec<u8>) -> Result<TableSet, Fail> {
+    match tables_of(alloc, sizes, of_row)? {
+        Some(set) => Ok(set),
+        None => Err(Fail::from("too large")),
+    }
+}
+
+/// Packets, each by its first five bytes and its section.
+type Wanted = [([u8; 5], &'static [u8]); 2];
+
+static FAST: Wanted = [
+    (
+        [0x47, 0x40, 0x00, 0x10, 0x00],
+        &[
+            0x00, 0xB0, 0x11, 0x00, 0x01, 0xC1, 0x00, 0x00, 0x00, 0x00, 0xE0, 0x10, 0x01, 0xF4,
+            0xE1, 0x00, 0xF8, 0x93, 0xDA, 0x6A,
+        ],
+    ),
+    (
+        [0x47, 0x41, 0x00, 0x10, 0x00],
+        &[
+            0x02, 0xB0, 0x12, 0x01, 0xF4, 0xC1, 0x00, 0x00, 0xE2, 0x00, 0xF0, 0x00, 0x02, 0xE2,
+            0x00, 0xF0, 0x00, 0x40, 0x16, 0x9A, 0x4F,
+        ],
+    ),
+];
+
+static SLOW: Wanted = [
+    (
+        [0x47, 0x40, 0x11, 0x10, 0x00],
+        &[
+            0x42, 0xF0, 0x18, 0x00, 0x01, 0xC1, 0x00, 0x00, 0x00, 0x02, 0xFF, 0x01, 0xF4, 0xFC,
+            0x80, 0x07, 0x48, 0x05, 0x01, 0x01, 0x41, 0x01, 0x42, 0xC1, 0xD9, 0x6B, 0x9F,
+        ],
+    ),
+    (
+        [0x47, 0x40, 0x10, 0x10, 0x00],
+        &[
+            0x40, 0xF0, 0x1B, 0x00, 0x03, 0xC1, 0x00, 0x00, 0xF0, 0x03, 0x40, 0x01, 0x4E, 0xF0,
+            0x0B, 0x00, 0x01, 0x00, 0x02, 0xF0, 0x05, 0x41, 0x03, 0x01, 0xF4, 0x01, 0x67, 0xD8,
+            0x66, 0x61,
+        ],
+    ),
+];
+
 /// A packet: these five bytes, the section, and 0xFF up to the end.
 fn packet(head: [u8; 5], section: &[u8]) -> [u8; 188] {
     let mut bytes = [0xFF; 188];
@@ -169,105 +233,87 @@ fn packet(head: [u8; 5], section: &[u8]) -> [u8; 188] {
 }
 
 /// Whether the packets are these.
-fn are(packets: &[Packet], want: &[[u8; 188]]) -> bool {
-    packets.len() == want.len()
-        && packets
-            .iter()
-            .zip(want)
-            .all(|(packet, bytes)| packet.bytes() == bytes)
+fn are(packets: &[Packet], wanted: &Wanted) -> bool {
+    packets.len() == wanted.len()
+        && packets.iter().zip(wanted).all(|(found, (head, section))| *found.bytes()
+            == packet(*head, section))
+}
+
+/// Whether the set's packets are those.
+fn is_wanted(set: &TableSet) -> (bool, bool) {
+    (
+        are(set.fast_packets(), &FAST),
+        are(set.slow_packets(), &SLOW),
+    )
 }
 
 /// The four tables of one service, byte for byte. PIDs and numbers are the output's, and its version is not the input's.
 #[test]
 fn tables_of_one_service(rt: HostRuntime) -> Result<(), Fail> {
-    let alloc = rt.alloc();
-    let pat = [
-        0x00, 0xB0, 0x11, 0x00, 0x01, 0xC1, 0x00, 0x00, 0x00, 0x00, 0xE0, 0x10, 0x01, 0xF4, 0xE1,
-        0x00, 0xF8, 0x93, 0xDA, 0x6A,
-    ];
-    let pmt_section = [
-        0x02, 0xB0, 0x12, 0x01, 0xF4, 0xC1, 0x00, 0x00, 0xE2, 0x00, 0xF0, 0x00, 0x02, 0xE2, 0x00,
-        0xF0, 0x00, 0x40, 0x16, 0x9A, 0x4F,
-    ];
-    let sdt = [
-        0x42, 0xF0, 0x18, 0x00, 0x01, 0xC1, 0x00, 0x00, 0x00, 0x02, 0xFF, 0x01, 0xF4, 0xFC, 0x80,
-        0x07, 0x48, 0x05, 0x01, 0x01, 0x41, 0x01, 0x42, 0xC1, 0xD9, 0x6B, 0x9F,
-    ];
-    let nit = [
-        0x40, 0xF0, 0x1B, 0x00, 0x03, 0xC1, 0x00, 0x00, 0xF0, 0x03, 0x40, 0x01, 0x4E, 0xF0, 0x0B,
-        0x00, 0x01, 0x00, 0x02, 0xF0, 0x05, 0x41, 0x03, 0x01, 0xF4, 0x01, 0x67, 0xD8, 0x66, 0x61,
-    ];
-    let fast = [
-        packet([0x47, 0x40, 0x00, 0x10, 0x00], &pat),
-        packet([0x47, 0x41, 0x00, 0x10, 0x00], &pmt_section),
-    ];
-    let slow = [
-        packet([0x47, 0x40, 0x11, 0x10, 0x00], &sdt),
-        packet([0x47, 0x40, 0x10, 0x10, 0x00], &nit),
-    ];
-    let mut descriptors = DescriptorLoop::new(alloc);
-    descriptors.push(0x48, &[1, 1, 0x41, 1, 0x42])?;
-    let _whole = descriptors.bytes();
-    let row = row(descriptors);
-    let Some(set) = tables(alloc, &request(alloc, 1, 1, 0)?, &pmt(alloc, 0)?, &row)? else {
-        return Err(Fail::from("too large"));
-    };
-    assert!(rt; are(set.fast_packets(), &fast));
-    assert!(rt; are(set.slow_packets(), &slow));
-    let copy = set.copy(alloc)?;
-    assert!(rt; are(copy.fast_packets(), &fast));
-    assert!(rt; are(copy.slow_packets(), &slow));
+    let descriptor = [0x48, 5, 1, 1, 0x41, 1, 0x42].to_vec(rt.alloc())?;
+    let set = some_tables_of(rt.alloc(), (1, 1, 0, 0), descriptor)?;
+    assert_eq!(rt; is_wanted(&set), (true, true));
+    assert_eq!(rt; is_wanted(&set.copy(rt.alloc())?), (true, true), "a copy");
     Ok(())
 }
 
-/// The bytes of a packet from its pointer_field up to the service_id of the first row of an SDT.
-fn begin(packets: &[Packet], number: usize) -> Option<&[u8]> {
-    Some(&packets.get(number)?.bytes()[4..18])
+/// Two packets by their numbers, and their bytes from the pointer_field up to the service_id of the first row of an SDT.
+static BEGINS: [(usize, [u8; 14]); 2] = [
+    (
+        0,
+        [
+            0, 0x42, 0xF3, 0x18, 0, 1, 0xC1, 0, 1, 0, 2, 0xFF, 0x01, 0xF4,
+        ],
+    ),
+    (
+        5,
+        [
+            0, 0x42, 0xF1, 0x10, 0, 1, 0xC1, 1, 1, 0, 2, 0xFF, 0x01, 0xF7,
+        ],
+    ),
+];
+
+/// Whether the packet with this number has these bytes.
+fn begins(packets: &[Packet], number: usize, wanted: &[u8; 14]) -> bool {
+    match packets.get(number) {
+        Some(packet) => &packet.bytes()[4..18] == wanted.as_slice(),
+        None => false,
+    }
+}
+
+/// Whether all of the packets have only a payload, and the counter 0.
+fn are_counted_0(packets: &[Packet]) -> bool {
+    packets.iter().all(|packet| packet.bytes()[3] == 0x10)
 }
 
 /// Four rows of 260 bytes take two sections of the SDT, of section_length 792 and 272: five packets and two.
 #[test]
 fn sdt_of_two_sections(rt: HostRuntime) -> Result<(), Fail> {
-    let alloc = rt.alloc();
-    let row = row(descriptors(alloc, 255)?);
-    let Some(set) = tables(alloc, &request(alloc, 4, 1, 0)?, &pmt(alloc, 0)?, &row)? else {
-        return Err(Fail::from("too large"));
-    };
-    let fast = set.fast_packets();
-    let slow = set.slow_packets();
-    assert_eq!(rt; (fast.len(), slow.len()), (5, 8));
-    let first = [
-        0, 0x42, 0xF3, 0x18, 0, 1, 0xC1, 0, 1, 0, 2, 0xFF, 0x01, 0xF4,
-    ];
-    assert_eq!(rt; begin(slow, 0), Some(first.as_slice()));
-    let second = [
-        0, 0x42, 0xF1, 0x10, 0, 1, 0xC1, 1, 1, 0, 2, 0xFF, 0x01, 0xF7,
-    ];
-    assert_eq!(rt; begin(slow, 5), Some(second.as_slice()));
-    assert!(rt;
-        fast.iter()
-            .chain(slow)
-            .all(|packet| packet.bytes()[3] == 0x10)
+    let set = some_tables_of(rt.alloc(), (4, 1, 0, 0), bare(rt.alloc(), 255)?)?;
+    assert_eq!(rt;
+        (set.fast_packets().len(), set.slow_packets().len()),
+        (5, 8)
     );
+    for (number, wanted) in &BEGINS {
+        assert!(rt; begins(set.slow_packets(), *number, wanted), "{number}");
+    }
+    assert!(rt; are_counted_0(set.fast_packets()) && are_counted_0(set.slow_packets()));
     Ok(())
 }
 
 /// A PMT, an NIT and a row of the SDT that just fit, and one byte more.
 #[test]
 fn sizes(rt: HostRuntime) -> Result<(), Fail> {
-    let alloc = rt.alloc();
-    for (count, name, descriptors_of_plan, info, of_row, fits) in [
-        (1, 1, 0, 1003, 7, true),
-        (1, 1, 0, 1004, 7, false),
-        (16, 50, 900, 0, 7, true),
-        (16, 51, 900, 0, 7, false),
-        (1, 1, 0, 0, 1004, true),
-        (1, 1, 0, 0, 1005, false),
+    for (sizes, of_row, fits) in [
+        ((1, 1, 0, 1003), 7, true),
+        ((1, 1, 0, 1004), 7, false),
+        ((16, 50, 900, 0), 7, true),
+        ((16, 51, 900, 0), 7, false),
+        ((1, 1, 0, 0), 1004, true),
+        ((1, 1, 0, 0), 1005, false),
     ] {
-        let request = request(alloc, count, name, descriptors_of_plan)?;
-        let row = row(descriptors(alloc, of_row)?);
-        let set = tables(alloc, &request, &pmt(alloc, info)?, &row)?;
-        assert_eq!(rt; set.is_some(), fits, "at {count} {name} {info} {of_row}");
+        let set = tables_of(rt.alloc(), sizes, bare(rt.alloc(), of_row)?)?;
+        assert_eq!(rt; set.is_some(), fits, "at {sizes:?} {of_row}");
     }
     Ok(())
 }

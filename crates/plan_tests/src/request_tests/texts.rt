@@ -30,10 +30,7 @@ fn example_plan(rt: HostRuntime) -> Result<(), PlanFault> {
     assert_eq!(rt; rates(&request), [1_504_000, 100, 1_000]);
     assert_eq!(rt; sizes(&request), [0, 64, 64, 1, 2, 3, 1, 0]);
     let rows = rows(rt.alloc(), &request)?;
-    let input = [4, 1_504_000, 0];
-    let service = [0, 100, 500, 256, 0];
-    let stream = [0, 257, 512, 2_000_000];
-    let wanted = [input.as_slice(), service.as_slice(), stream.as_slice()].concat(rt.alloc())?;
+    let wanted = [4, 1_504_000, 0, 0, 100, 500, 256, 0, 0, 257, 512, 2_000_000];
     assert_eq!(rt; rows.as_slice(), wanted.as_slice());
     Ok(())
 }
