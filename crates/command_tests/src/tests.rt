@@ -3,8 +3,8 @@
 mod delays;
 mod devices;
 mod memory_files;
-mod plan_causes;
 mod rates;
+mod refused_plans;
 mod runs;
 mod telling;
 mod whole_commands;

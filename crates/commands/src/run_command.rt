@@ -8,7 +8,7 @@ use crate::printing::{print_delays, print_end, print_summary};
 use crate::telling::{print_faults, tell_overfull};
 use crate::whole_run::run_plan;
 use files::{Files, OutputFile, open_output};
-use input_files::{InputFile, ReadPlan, open_again, read_plan, stopped};
+use input_files::{FileIdentity, InputFile, ReadPlan, open_again, read_plan, stopped};
 use measuring::{Metered, print_wrong_rates, with_meters};
 use messages::CommandFault;
 use plan::Plan;
@@ -66,16 +66,31 @@ fn prepare<F: Files>(
 {
     let read = read_plan(alloc, files, asked.plan)?;
     let identities = read.identities(alloc)?;
+    let kept = read.plan.copy(alloc)?;
     let ReadPlan { plan, readers, .. } = read;
-    let kept = plan.copy(alloc)?;
-    let readers = open_again(alloc, files, &plan, readers)?;
-    let (writer, _) = open_output(alloc, files, asked.out, &identities)?;
+    let (readers, writer) = open_all(alloc, files, &plan, readers, asked.out, &identities)?;
     Ok(Prepared {
         plan,
         kept,
         readers,
         writer,
     })
+}
+
+/// The inputs of a plan, opened again, and then the output of this name, which has to be none of the files that were read.
+fn open_all<F: Files>(
+    alloc: Global,
+    files: &mut F,
+    plan: &Plan,
+    readers: Vec<F::Reader>,
+    name: &str,
+    read: &[FileIdentity],
+) -> Result<(Vec<F::Again>, F::Writer), CommandFault>
+    ensures { IfOk result (λ opened. length opened.0.items ≡ length plan.now.request.inputs) }
+{
+    let readers = open_again(alloc, files, plan, readers)?;
+    let (writer, _) = open_output(alloc, files, name, read)?;
+    Ok((readers, writer))
 }
 
 /// Makes the multiplex of a plan whose inputs have meters, and prints what became of it.

@@ -205,10 +205,8 @@ fn a_run_has_no_more_slots_than_it_was_opened_for(rt: HostRuntime) -> Result<(),
     answers(&rt, rt.alloc(), plan_of(rt.alloc(), 1, &[0])?, 1, &ONE_SLOT)
 }
 
-/// A multiplex of a plan that took packets 0 to 4 of each input, the last input first.
-fn with_five(alloc: Global, plan: Plan) -> Result<Driven, Fail> {
-    let inputs = plan.inputs().len();
-    let mut mux = Driven::open(alloc, plan, 1_000)?;
+/// Gives a multiplex packets 0 to 4 of each of so many inputs, the last input first.
+fn give_five(mux: &mut Driven, inputs: usize) -> Result<(), Fail> {
     for input in (0..inputs).rev() {
         for k in 0..5 {
             let taken = mux.offer(input, &item(k).ok_or("no packet")?);
@@ -217,7 +215,21 @@ fn with_five(alloc: Global, plan: Plan) -> Result<Driven, Fail> {
             }
         }
     }
-    Ok(mux)
+    Ok(())
+}
+
+/// A multiplex, lent, that took packets 0 to 4 of each of so many inputs answers as the rows say.
+fn answers_behind_five(
+    rt: &impl Abort,
+    mux: &mut Driven,
+    inputs: usize,
+    rows: &[Row],
+) -> Result<(), Fail> {
+    give_five(mux, inputs)?;
+    for (call, answer) in rows {
+        assert_eq!(rt; mux.answer(*call), *answer, "{call:?}");
+    }
+    Ok(())
 }
 
 /// The packet last taken comes when slot 4 goes out, so one before it might still come.
@@ -262,10 +274,9 @@ fn packets_go_out_in_turn(rt: HostRuntime) -> Result<(), Fail> {
         ([0].as_slice(), FIVE_OF_ONE.as_slice()),
         ([0, 0].as_slice(), FIVE_OF_TWO.as_slice()),
     ] {
-        let mut mux = with_five(rt.alloc(), plan_of(rt.alloc(), 64, offsets)?)?;
-        for (call, answer) in rows {
-            assert_eq!(rt; mux.answer(*call), *answer, "{call:?}");
-        }
+        let plan = plan_of(rt.alloc(), 64, offsets)?;
+        let mut mux = Driven::open(rt.alloc(), plan, 1_000)?;
+        answers_behind_five(&rt, &mut mux, offsets.len(), rows)?;
     }
     Ok(())
 }
@@ -313,16 +324,25 @@ const LEVELS: [(u16, u8, u64); 11] = [
     (0x0200, 4, 707_256_000),
 ];
 
-/// The input has 64 packets, which come 6,750 ticks apart.
+/// Gives a multiplex 64 packets of its input, which come 6,750 ticks apart; false where one isn't taken.
+fn gives_64(mux: &mut Driven) -> bool {
+    for k in 0..64 {
+        let Some(item) = stamped(0x01, k, 6_750 * u64::from(k) + 359) else {
+            return false;
+        };
+        if mux.offer(0, &item) != Answer::Offered(Offered::Taken) {
+            return false;
+        }
+    }
+    true
+}
+
 #[test]
 fn a_full_buffer_makes_its_packets_wait(rt: HostRuntime) -> Result<(), Fail> {
-    let alloc = rt.alloc();
-    let plan = example::planned(alloc, FAST_INPUT, &example::tables(alloc)?)?;
-    let mut mux = Driven::open(alloc, plan, 1_000)?;
-    for k in 0..64 {
-        let item = stamped(0x01, k, 6_750 * u64::from(k) + 359).ok_or("no packet")?;
-        assert_eq!(rt; mux.offer(0, &item), Answer::Offered(Offered::Taken));
-    }
+    let tables = example::tables(rt.alloc())?;
+    let plan = example::planned(rt.alloc(), FAST_INPUT, &tables)?;
+    let mut mux = Driven::open(rt.alloc(), plan, 1_000)?;
+    assert!(rt; gives_64(&mut mux));
     for (pid, counter, level) in LEVELS {
         assert_eq!(rt; mux.answer(Call::Send), Answer::Sent(pid, counter));
         assert_eq!(rt; mux.answer(Call::Level(0)), Answer::Level(level));

@@ -1,13 +1,12 @@
 //! Multiplexes that keep what they send.
 
-ghost use Rattle.std.specs.Prelude.{◌≡◌, length};
+ghost use Rattle.std.specs.Prelude.{◌≡◌, length, IfOk};
 
 use crate::stamped_packets::item;
 use example::plan_of;
 use mux::{RecordedMux, Slot, Taken, Totals};
 use std::alloc::{AllocError, Global};
 use std::process::Abort;
-use std::test::Fail;
 use tspkt::{Packet, Stamped};
 
 /// The example's PAT, with the packet's header and the pointer field.
@@ -22,6 +21,16 @@ const PMT: [u8; 26] = [
     0x00, 0x02, 0xE2, 0x00, 0xF0, 0x00, 0x40, 0x16, 0x9A, 0x4F,
 ];
 
+/// Opens a multiplex of one input that keeps what it sends, with queues of so many packets.
+fn open(alloc: Global, queue: usize) -> Result<RecordedMux, AllocError>
+    ensures { IfOk result (λ m. length m.run.plan.request.inputs ≡ 1) }
+{
+    match plan_of(alloc, queue, &[0]) {
+        Ok(plan) if plan.inputs().len() == 1 => RecordedMux::open(alloc, plan, 10_000),
+        _ => Err(AllocError),
+    }
+}
+
 /// A multiplex of one input that keeps what it sends.
 #[derive(Drop)]
 struct Kept {
@@ -32,17 +41,15 @@ struct Kept {
 impl Kept {
     /// One with queues of so many packets; none where memory was refused.
     fn open(alloc: Global, queue: usize) -> Option<Kept> {
-        let plan = plan_of(alloc, queue, &[0]).ok()?;
-        if plan.inputs().len() != 1 {
-            return None;
+        match open(alloc, queue) {
+            Ok(mux) => Some(Kept { mux }),
+            Err(_) => None,
         }
-        let mux = RecordedMux::open(alloc, plan, 10_000).ok()?;
-        Some(Kept { mux })
     }
 
     /// Whether a packet is taken.
-    fn takes(&mut self, item: Stamped) -> bool {
-        matches!(&self.mux.take(0, item), Taken::Ok)
+    fn takes(&mut self, item: &Stamped) -> bool {
+        matches!(&self.mux.take(0, *item), Taken::Ok)
     }
 
     fn closes(&mut self) -> bool {
@@ -87,24 +94,35 @@ fn is_filled(packet: Option<Packet>, head: &[u8]) -> bool {
     bytes.starts_with(head) && bytes.iter().skip(head.len()).all(|byte| *byte == 0xFF)
 }
 
-#[test]
-fn each_packet_is_given_again(rt: HostRuntime) -> Result<(), Fail> {
-    let mut mux = Kept::open(rt.alloc(), 64).ok_or("no multiplex")?;
+/// Gives a multiplex packets 0 and 1, closes its input, and sends four slots; false where one of these fails.
+fn sends_four(mux: &mut Kept) -> bool {
     for k in 0..2 {
-        assert!(rt; mux.takes(item(k).ok_or("no packet")?));
+        let Some(item) = item(k) else {
+            return false;
+        };
+        if !mux.takes(&item) {
+            return false;
+        }
     }
-    assert!(rt; mux.closes());
+    let mut is_good = mux.closes();
     for slot in 0..4 {
-        assert!(rt; mux.sends(slot));
+        is_good = is_good && mux.sends(slot);
     }
-    assert!(rt; mux.is_done());
+    is_good && mux.is_done()
+}
+
+#[test]
+fn each_packet_is_given_again(rt: HostRuntime) {
+    let mut mux = Kept::open(rt.alloc(), 64).expect(&rt, "a multiplex");
+    assert!(rt; sends_four(&mut mux));
     assert!(rt; is_filled(mux.packet(0), &PAT));
     assert!(rt; is_filled(mux.packet(2), &PMT));
-    let counters = [1, 3].map(|slot| mux
-        .packet(slot)
-        .map(|packet| (packet.pid(), packet.counter())));
-    assert_eq!(rt; counters, [Some((0x0200, 0)), Some((0x0200, 1))]);
-    Ok(())
+    for (slot, counter) in [(1, 0), (3, 1)] {
+        let found = mux
+            .packet(slot)
+            .map(|packet| (packet.pid(), packet.counter()));
+        assert_eq!(rt; found, Some((0x0200, counter)));
+    }
 }
 
 /// A multiplex that was opened at last: each request for memory may be refused once.
@@ -115,25 +133,28 @@ fn opened_at_last(rt: &impl Abort, alloc: Global) -> Kept {
     }
 }
 
+/// Sends a slot. Before the slots 3 and 5 the queue is full for a packet, and before slot 5 the input is closed.
+fn sends_next(mux: &mut Kept, slot: u64, item: &Stamped) -> bool {
+    let is_full = match slot {
+        3 | 5 => !mux.takes(item),
+        _ => true,
+    };
+    let is_closed = slot != 5 || mux.closes();
+    is_full && is_closed && mux.sends(slot)
+}
+
 /// Each request for memory may be refused once, and then the call succeeds: `rt try --test --fail-alloc N` refuses request N; with
 /// none refused the calls succeed at once. The list of the packets that went out grows with the first slot and the fifth. Packets,
 /// full queues and the close ask for no memory.
 #[test]
-fn refused_memory_changes_nothing(rt: HostRuntime) -> Result<(), AllocError> {
+fn refused_memory_changes_nothing(rt: HostRuntime) {
+    let (first, second) = (item(5), item(6));
+    let first = first.expect(&rt, "a packet");
+    let second = second.expect(&rt, "a packet");
     let mut mux = opened_at_last(&rt, rt.alloc());
-    let (first, second) = (
-        item(5).expect(&rt, "a packet"),
-        item(6).expect(&rt, "a packet"),
-    );
-    assert!(rt; mux.takes(first));
+    assert!(rt; mux.takes(&first));
     for slot in 0..6 {
-        if slot == 3 || slot == 5 {
-            assert!(rt; !mux.takes(second));
-        }
-        if slot == 5 {
-            assert!(rt; mux.closes());
-        }
-        assert!(rt; mux.sends(slot), "slot {slot}");
+        assert!(rt; sends_next(&mut mux, slot, &second), "slot {slot}");
     }
     assert!(rt; mux.is_done());
     let all = Totals {
@@ -142,5 +163,4 @@ fn refused_memory_changes_nothing(rt: HostRuntime) -> Result<(), AllocError> {
         queued: 0,
     };
     assert_eq!(rt; mux.totals(), all);
-    Ok(())
 }

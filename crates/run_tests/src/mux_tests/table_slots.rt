@@ -11,6 +11,7 @@ use example::{input, plan_of, service, settings};
 use mux::{Counts, Offered, Sending};
 use plan::Plan;
 use std::alloc::{AllocError, Global};
+use std::process::Abort;
 use std::test::Fail;
 use tspkt::Packet;
 
@@ -109,12 +110,14 @@ fn long_plan(alloc: Global) -> anyhow::Result<Plan> {
 fn opened(alloc: Global, plan: &Plan, slots: u64, stamp: u64) -> Result<Driven, Fail>
     requires { slots ≤ MAX_SLOTS }
 {
-    let mut mux = Driven::open(alloc, plan.copy(alloc)?, slots)?;
     let item = stamped(0x01, 0, stamp).ok_or("no packet")?;
-    if mux.offer(0, &item) != Answer::Offered(Offered::Taken) {
-        return Err(Fail::from("the packet was not taken"));
+    let copy = plan.copy(alloc)?;
+    let mut mux = Driven::open(alloc, copy, slots)?;
+    if mux.offer(0, &item) == Answer::Offered(Offered::Taken) {
+        Ok(mux)
+    } else {
+        Err(Fail::from("the packet was not taken"))
     }
-    Ok(mux)
 }
 
 /// The slots in which a section of the SDT or the NIT begins, with its table_id.
@@ -129,17 +132,63 @@ fn slow_starts(alloc: Global, sent: &[Packet]) -> Result<Vec<(usize, u8)>, Alloc
     Ok(starts)
 }
 
+/// Sends the slots of a multiplex of a plan, of which each has the packet that it should have.
+fn send_checked(
+    rt: &impl Abort,
+    alloc: Global,
+    plan: &Plan,
+    mux: &mut Driven,
+) -> Result<Vec<Packet>, AllocError> {
+    let sent = mux.send_all(alloc)?;
+    assert_eq!(rt; wrong_slot(plan, &sent), None);
+    Ok(sent)
+}
+
+/// Where sections begin in the slots of the plan of four services.
+fn take_turns(
+    rt: &impl Abort,
+    alloc: Global,
+    plan: &Plan,
+    mux: &mut Driven,
+) -> Result<(), AllocError> {
+    let sent = send_checked(rt, alloc, plan, mux)?;
+    assert_eq!(rt; mux.answer(Call::Send), Answer::Unsent(Sending::RunFull));
+    let starts = slow_starts(alloc, &sent)?;
+    let want = [(10, 0x42), (510, 0x42), (710, 0x40), (810, 0x42)];
+    assert!(rt; starts.as_slice() == want.as_slice());
+    Ok(())
+}
+
 /// Seven packets of the SDT and one of the NIT take turns, one a round, behind the PAT and four PMTs.
 #[test]
 fn the_packets_of_four_services_take_turns(rt: HostRuntime) -> Result<(), Fail> {
     let plan = long_plan(rt.alloc())?;
     let mut mux = opened(rt.alloc(), &plan, 1_000, 27_000 * 2_000)?;
-    let sent = mux.send_all(rt.alloc())?;
-    assert_eq!(rt; mux.answer(Call::Send), Answer::Unsent(Sending::RunFull));
-    assert_eq!(rt; wrong_slot(&plan, &sent), None);
-    let starts = slow_starts(rt.alloc(), &sent)?;
-    let want = [(10, 0x42), (510, 0x42), (710, 0x40), (810, 0x42)];
-    assert_eq!(rt; starts.as_slice(), want.as_slice());
+    Ok(take_turns(&rt, rt.alloc(), &plan, &mut mux)?)
+}
+
+/// The slots up to the only packet of an input.
+fn wait_for_the_packet(
+    rt: &impl Abort,
+    alloc: Global,
+    plan: &Plan,
+    mux: &mut Driven,
+) -> Result<(), AllocError> {
+    assert_eq!(rt; mux.answer(Call::Close(0)), Answer::Closed);
+    let sent = send_checked(rt, alloc, plan, mux)?;
+    assert_eq!(rt; sent.len(), 1_002);
+    for (slot, pid, counter) in [(1_000, 0x0000, 10), (1_001, 0x0200, 0)] {
+        let found = sent
+            .get(slot)
+            .map(|packet| (packet.pid(), packet.counter()));
+        assert_eq!(rt; found, Some((pid, counter)));
+    }
+    let counts = Counts {
+        tables: 31,
+        elementary: 1,
+        null: 970,
+    };
+    assert_eq!(rt; mux.answer(Call::Counts), Answer::Counts(counts));
     Ok(())
 }
 
@@ -148,19 +197,5 @@ fn the_packets_of_four_services_take_turns(rt: HostRuntime) -> Result<(), Fail> 
 fn tables_go_out_before_the_first_packet(rt: HostRuntime) -> Result<(), Fail> {
     let plan = plan_of(rt.alloc(), 64, &[27_000_000])?;
     let mut mux = opened(rt.alloc(), &plan, 10_000, 27_001_436)?;
-    assert_eq!(rt; mux.answer(Call::Close(0)), Answer::Closed);
-    let sent = mux.send_all(rt.alloc())?;
-    assert_eq!(rt; wrong_slot(&plan, &sent), None);
-    assert_eq!(rt; sent.len(), 1_002);
-    let last = [1_000, 1_001].map(|slot| sent
-        .get(slot)
-        .map(|packet| (packet.pid(), packet.counter())));
-    assert_eq!(rt; last, [Some((0x0000, 10)), Some((0x0200, 0))]);
-    let counts = Counts {
-        tables: 31,
-        elementary: 1,
-        null: 970,
-    };
-    assert_eq!(rt; mux.answer(Call::Counts), Answer::Counts(counts));
-    Ok(())
+    Ok(wait_for_the_packet(&rt, rt.alloc(), &plan, &mut mux)?)
 }
