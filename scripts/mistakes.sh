@@ -16,10 +16,10 @@ passed=0
 failed=0
 
 # has_lines STATUS: each line of the file `wanted` is one of `err`, and the first one of a refusal is the first there. What was
-# measured is a number of any size.
+# measured is a number of any size, and the stream whose queue is full in an overfull plan may be any.
 has_lines() {
     local line
-    sed -E 's/measured [0-9]+/measured N/' err > said
+    sed -E 's/measured [0-9]+/measured N/; s/^overfull: stream 0x[0-9A-F]{4} \(input [0-9], PID 0x[0-9A-F]{4}\)/overfull: stream N/' err > said
     if [ "$1" -ge 2 ] && [ "$(head -n 1 wanted)" != "$(head -n 1 err)" ]; then
         return 1
     fi
@@ -204,7 +204,7 @@ END
 cp mistake.toml full.toml
 answer 'the same in a strict run' 1 run --plan full.toml --out out.ts --strict << 'END'
 end: all inputs ended
-overfull: stream 0x0200 (input 0, PID 0x0101): its queue was full, with 64 packets
+overfull: stream N: its queue was full, with 64 packets
 END
 
 # Words.
