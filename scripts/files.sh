@@ -216,7 +216,7 @@ sed '0,/^program = 1$/s//program = 9/' plan.toml > program.toml
 run check --plan program.toml
 is 'a plan that asks for no program stays at fault' [ "$(head -n 1 err)" = 'fault 5 NoProgram' ]
 is 'its status stays' [ "$status" = 3 ]
-is 'its service is named' has err "service 101 (input 0, program 9): the input's PAT has no such program"
+is 'its service is named' has err "service 101 (input 0, program 9): the input has no such program; its PAT has program 1"
 sed 's|^pid = 260$|pid = 261|' plan.toml > row.toml
 run check --plan row.toml
 is 'a stream without a row is named' has err 'service 103 (input 1, program 2): its PMT names PID 0x0104 '

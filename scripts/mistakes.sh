@@ -89,7 +89,7 @@ line 21: invalid value, expected a string, number, boolean, date-time, array or 
 END
 mistake 'a key that is misspelt' 3 's|^period = |periode = |' << 'END'
 fault 1 BadText
-unknown field `periode`
+line 8: unknown field `periode`
 END
 mistake 'a key that is left out' 3 '0,/^offset = 0$/{//d}' << 'END'
 fault 1 BadText
@@ -97,16 +97,19 @@ line 20: missing key 'offset'
 END
 mistake 'a rate as a text' 3 's|^rate = 3000000$|rate = "3000000"|' << 'END'
 fault 1 BadText
-invalid type: string "3000000", expected an integer in `rate`
+line 7: invalid type: string "3000000", expected an integer in `rate`
 END
 mistake 'a rate in kilobits' 3 's|^rate = 1000000$|rate = 1000|' << 'END'
 fault 2 OutOfRange
+line 22: input 0: rate is 1000, from 500000 to 100000000
 END
 mistake 'an offset before the start' 3 '0,/^offset = 0$/s||offset = -1|' << 'END'
 fault 2 OutOfRange
+line 23: input 0: offset is -1, from 0 to 97200000000
 END
 mistake 'inputs counted from 1' 3 's|^input = 1$|input = 2|' << 'END'
 fault 2 OutOfRange
+line 45: service 1: input is 2, from 0 to 1
 END
 mistake 'a service number twice' 3 's|^service = 102$|service = 101|' << 'END'
 fault 3 ServiceTaken
@@ -119,7 +122,7 @@ END
 mistake 'a program that the input does not have' 3 '0,/^program = 1$/s||program = 9|' << 'END'
 fault 5 NoProgram
 a program is not in its input
-service 101 (input 0, program 9): the input's PAT has no such program, or its PMT was not found
+service 101 (input 0, program 9): the input has no such program; its PAT has program 1
 END
 mistake 'a stream without its row' 3 '/^\[\[service.stream\]\]$/{N;/pid = 260$/{N;N;d}}' << 'END'
 fault 8 RateMissing

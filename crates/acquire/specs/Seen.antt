@@ -100,6 +100,11 @@ abbrev pub TellsAllFound : AcquireState → List ℕ → Bool → Type 0
 TellsAllFound old packet answer =
     (wanted : List ℕ) (packets : List (List ℕ)) → HasSeen wanted old packets → answer ≡ is_all_found wanted (findings wanted (packets ++ packet ∷ []))
 
+-- the rows of these sections are those of the first complete PAT among the packets that were pushed
+abbrev pub TellsPat : AcquireState → Option (List PatValue) → Type 0
+TellsPat a sections = (wanted : List ℕ) (packets : List (List ℕ)) → HasSeen wanted a packets
+    → option_map (flat_map (λ (s : PatValue). s.rows)) sections ≡ pat_found packets
+
 -- what is found is that of the packets that were pushed
 abbrev pub IsFound : AcquireState → Found → Type 0
 IsFound a found = (wanted : List ℕ) (packets : List (List ℕ)) → HasSeen wanted a packets → findings_of found ≡ findings wanted packets

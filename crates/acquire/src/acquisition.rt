@@ -6,7 +6,7 @@ use crate::table_finder::TableFinder;
 use section::Told;
 use std::alloc::{AllocError, Global};
 use std::marker::Model;
-use tables::Sdt;
+use tables::{Pat, Sdt};
 use tspkt::Packet;
 
 /// The PID of the SDT (EN 300 468, 5.1.3).
@@ -36,8 +36,8 @@ impl Model for Acquire {
 }
 
 impl Acquire {
-    ghost use Rattle.std.specs.Prelude.{◌≡◌, [], true, false, IfOk, OnOk, OnErr, Err, alloc_error};
-    ghost use Rattle.acquire.specs.Seen.{HasSeen, Sees, TellsAllFound, IsFound, knows_all};
+    ghost use Rattle.std.specs.Prelude.{◌≡◌, [], true, false, option_map, IfOk, OnOk, OnErr, Err, alloc_error};
+    ghost use Rattle.acquire.specs.Seen.{HasSeen, Sees, TellsAllFound, TellsPat, IsFound, knows_all};
 
     /// One that has seen no packet, for these programs, by program_number. Of 0, which is no program's number, no PMT
     /// is found. An `Err` is want of memory.
@@ -92,6 +92,14 @@ impl Acquire {
                 Err(e)
             }
         }
+    }
+
+    /// The sections of the first complete PAT in the order of their numbers, lent, once it was complete and where no push was
+    /// refused.
+    pub fn pat(&self) -> Option<&Vec<Pat>>
+        ensures { TellsPat self.now (option_map (λ sections. sections.now.items) result) }
+    {
+        self.programs.pat()
     }
 
     /// What was found in the packets that were pushed, where no push was refused. It takes no

@@ -24,7 +24,7 @@ pub struct ProgramFinder {
 }
 
 impl ProgramFinder {
-    ghost use Rattle.std.specs.Prelude.{◌≡◌, [], ◌==◌, length, IfOk, OnOk};
+    ghost use Rattle.std.specs.Prelude.{◌≡◌, [], ◌==◌, length, option_map, IfOk, OnOk};
     ghost use Rattle.acquire.specs.Findings.{all_some};
     ghost use Rattle.acquire.specs.Seen.{HasSoughtPrograms, ProgramsSee};
 
@@ -58,6 +58,13 @@ impl ProgramFinder {
             }
         }
         true
+    }
+
+    /// The sections of the first complete PAT in the order of their numbers, once it was complete.
+    pub fn pat(&self) -> Option<&Vec<Pat>>
+        ensures { option_map (λ sections. sections.now.items) result ≡ self.now.pat.table.found }
+    {
+        self.pat.found()
     }
 
     /// The PMT of each program, in their order, where it was found.

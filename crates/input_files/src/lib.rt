@@ -1,10 +1,13 @@
 //! The files that a command reads: where they come from, and the plan that is made of them.
 #![tactic(auto)]
 
+mod cause_lines;
 mod file_identity;
 mod file_reader;
 mod input_file;
 mod kept_reader;
+mod pat_programs;
+mod placed_cause;
 mod plan_files;
 mod plan_read;
 mod sources;

@@ -1,14 +1,14 @@
 //! A plan from its file and the files of its inputs.
 
-ghost use Rattle.std.specs.Prelude.{◌≡◌, ◌≤◌, ◌++◌, [], Ok, Some, true, false, length, map, is_some, IfOk, IfSome, IsSomeAnd, OnOk};
+ghost use Rattle.std.specs.Prelude.{◌≡◌, ◌≤◌, ◌++◌, [], Ok, Some, true, false, length, map, is_some, IfOk, IfSome, OnOk};
 ghost use Rattle.acquire.specs.Seen.{findings_of};
 ghost use Rattle.plan.specs.Build.{build_fault_of};
 ghost use Rattle.plan_causes.specs.Causes.{IsCauseOf, fault_of};
-ghost use Rattle.request.specs.Text.{text_parts};
-ghost use Rattle.request_causes.specs.Causes.{IsCauseOf as IsPartsCause, fault_of as parts_fault_of};
 
 use crate::file_identity::FileIdentity;
 use crate::input_file::InputFile;
+use crate::pat_programs::PatPrograms;
+use crate::placed_cause::PlacedCause;
 use crate::plan_read::ReadPlan;
 use crate::sources::Sources;
 use acquire::{Acquire, Found};
@@ -16,8 +16,7 @@ use messages::{CommandFault, FileCause};
 use plan::Plan;
 use plan_causes::{PlanCause, cause_of};
 use reading::{INPUT_LIMIT, Source, Stop, StreamReader};
-use request::{Parts, PlanFault, Request};
-use request_causes::{RequestCause, cause_of as parts_cause};
+use request::{PlanFault, Request};
 use selection::seek;
 use std::alloc::{AllocError, Global};
 use std::str;
@@ -87,26 +86,9 @@ pub fn stopped<R: InputFile>(
     }
 }
 
-/// A cause of this fault of a plan's text, by the values that it writes. There is none of a text that is no plan's, and none of
-/// want of memory.
-fn cause_in_text(
-    alloc: Global,
-    fault: PlanFault,
-    text: &str,
-) -> Result<Option<RequestCause>, AllocError>
-    ensures cause { IfOk result (λ found. IfSome found
-        (λ cause. IsSomeAnd (text_parts text.now) (λ parts. IsPartsCause parts cause))) }
-    ensures fault { IfOk result (λ found. IfSome found (λ cause. parts_fault_of cause ≡ fault)) }
-{
-    match Parts::read(alloc, text) {
-        Ok(parts) => parts_cause(alloc, &parts, fault),
-        Err(_) => Ok(None),
-    }
-}
-
 /// The fault of a plan's text with the words of its cause.
 fn text_fault(alloc: Global, fault: PlanFault, text: &str) -> Result<CommandFault, AllocError> {
-    let words = match cause_in_text(alloc, fault, text)? {
+    let words = match PlacedCause::find(alloc, fault, text)? {
         Some(cause) => Some(format!(in alloc; "{cause}")?),
         None if fault == PlanFault::BadText => text_cause(alloc, text)?,
         None => None,
@@ -191,19 +173,20 @@ fn read_tables<R: Source + Drop>(
     }
 }
 
-/// What is found in an input, and its reader.
+/// What is found in an input, the programs of its PAT, and its reader.
 fn find<F: Sources>(
     alloc: Global,
     files: &mut F,
     request: &Request,
     input: usize,
     name: &str,
-) -> Result<(Found, F::Reader), CommandFault> {
+) -> Result<(Found, PatPrograms, F::Reader), CommandFault> {
     let source = open(alloc, files, name)?;
     let mut acquire = seek(alloc, request, input)?;
     let (reader, stop) = read_tables(alloc, &mut acquire, source)?;
+    let programs = PatPrograms::of(alloc, acquire.pat())?;
     match stop {
-        None => Ok((acquire.found(), reader)),
+        None => Ok((acquire.found(), programs, reader)),
         Some(stop) => Err(stopped(alloc, name, &reader, stop, INPUT_LIMIT)),
     }
 }
@@ -229,6 +212,24 @@ fn cause_in(fault: PlanFault, request: &Request, found: &[Found]) -> Option<Plan
     }
 }
 
+/// A cause in words. A program that isn't found is told with what its input's PAT has.
+fn cause_words(
+    alloc: Global,
+    cause: &PlanCause,
+    programs: &[PatPrograms],
+) -> Result<String, AllocError> {
+    if let PlanCause::NoProgram(service) = cause
+        && let Some(programs) = programs.get(service.input)
+    {
+        return if programs.has(service.program) {
+            format!(in alloc; "{service}: the input's PAT has it, and its PMT was not found")
+        } else {
+            format!(in alloc; "{service}: the input has no such program; {programs}")
+        };
+    }
+    format!(in alloc; "{cause}")
+}
+
 /// The fault of a plan, with its cause in words. Where a program isn't there, and an input has none of those that are sought in
 /// it, that is what the input looks like, if it is no stream of packets; else it is where the plan is at fault.
 fn plan_fault<R: InputFile>(
@@ -236,6 +237,7 @@ fn plan_fault<R: InputFile>(
     fault: PlanFault,
     request: &Request,
     found: &[Found],
+    programs: &[PatPrograms],
     readers: &[R],
 ) -> Result<CommandFault, AllocError> {
     let read = found.iter().zip(readers.iter());
@@ -248,7 +250,7 @@ fn plan_fault<R: InputFile>(
         }
     }
     match cause_in(fault, request, found) {
-        Some(cause) => Ok(CommandFault::PlanCause(fault, format!(in alloc; "{cause}")?)),
+        Some(cause) => Ok(CommandFault::PlanCause(fault, cause_words(alloc, &cause, programs)?)),
         None => Ok(CommandFault::from(fault)),
     }
 }
@@ -264,10 +266,12 @@ pub fn read_plan<F: Sources>(
 ) -> Result<ReadPlan<F::Reader>, CommandFault> {
     let (request, identity) = read_request(alloc, files, name)?;
     let mut found = Vec::new(alloc);
+    let mut programs = Vec::new(alloc);
     let mut readers = Vec::new(alloc);
     for (number, input) in request.inputs().iter().enumerate() {
-        let (tables, reader) = find(alloc, files, &request, number, input.file.as_str())?;
+        let (tables, named, reader) = find(alloc, files, &request, number, input.file.as_str())?;
         found.push(tables)?;
+        programs.push(named)?;
         readers.push(reader)?;
     }
     match Plan::build(alloc, &request, &found) {
@@ -276,7 +280,7 @@ pub fn read_plan<F: Sources>(
             plan_file: identity,
             readers,
         }),
-        Err(fault) => Err(plan_fault(alloc, fault, &request, &found, &readers).unwrap_or(
+        Err(fault) => Err(plan_fault(alloc, fault, &request, &found, &programs, &readers).unwrap_or(
             CommandFault::from(fault),
         )),
     }

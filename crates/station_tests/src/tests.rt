@@ -1,18 +1,13 @@
 //! A station of one input, ticked by hand, with numbers worked out on paper: a slot takes 27,000 ticks, and so does a packet of
 //! the input. Packet k has the time 27,000 k + 1,436, which is that of slot k, and slots 0 and 2 have tables.
 
+mod asking;
 mod opening;
 
-use crate::tests::opening::{item, offers, open, tick};
+use crate::tests::asking::{delayed, ends, is_open, offers, refuses, shows, ticks};
+use crate::tests::opening::open;
 use mux::{Sending, Totals};
-use station::{Settled, Station};
-
-/// PID and counter of the packet that was sent last.
-fn last(station: &Station) -> Option<(u16, u8)> {
-    station
-        .last()
-        .map(|packet| (packet.pid(), packet.counter()))
-}
+use station::Settled;
 
 /// The slot goes out before a later packet of the input was taken, since the full queue was noted.
 #[test]
@@ -22,9 +17,9 @@ fn a_packet_whose_queue_is_full_is_held(rt: HostRuntime) {
     offers(&rt, &mut port, 1);
     offers(&rt, &mut port, 2);
     let port = port.finish();
-    assert_eq!(rt; tick(&mut station), Sending::Sent);
-    assert_eq!(rt; last(&station), Some((0, 0)));
-    assert!(rt; !station.is_closed(0));
+    ticks(&rt, &mut station, Sending::Sent);
+    shows(&rt, &station, 0, 0);
+    is_open(&rt, &station, true);
     let became = Settled {
         taken: 1,
         held: 1,
@@ -37,19 +32,16 @@ fn a_packet_whose_queue_is_full_is_held(rt: HostRuntime) {
 fn a_full_ring_has_room_once_its_packet_was_taken(rt: HostRuntime) {
     let (mut station, mut port) = open(&rt, rt.alloc(), 64, 1);
     offers(&rt, &mut port, 0);
-    let back = port.offer(item(&rt, 1));
-    assert!(rt; matches!(&back, Err(item) if item.stamp == 28_436));
-    assert_eq!(rt; tick(&mut station), Sending::NotReady(0));
+    refuses(&rt, &mut port, 1, 28_436);
+    ticks(&rt, &mut station, Sending::NotReady(0));
     offers(&rt, &mut port, 1);
-    assert_eq!(rt; tick(&mut station), Sending::Sent);
-    assert_eq!(rt; last(&station), Some((0, 0)));
-    assert!(rt; !station.is_closed(0));
-    let Ok(port) = port.end() else {
-        return assert!(rt; false, "the ring is full");
-    };
-    assert_eq!(rt; tick(&mut station), Sending::Sent);
-    assert_eq!(rt; last(&station), Some((0x0200, 0)));
-    assert!(rt; station.is_closed(0));
+    ticks(&rt, &mut station, Sending::Sent);
+    shows(&rt, &station, 0, 0);
+    is_open(&rt, &station, true);
+    let port = ends(&rt, port);
+    ticks(&rt, &mut station, Sending::Sent);
+    shows(&rt, &station, 0x0200, 0);
+    is_open(&rt, &station, false);
     let became = Settled {
         taken: 2,
         held: 0,
@@ -64,28 +56,28 @@ fn packets_are_taken_with_their_times(rt: HostRuntime) {
     let (mut station, mut port) = open(&rt, rt.alloc(), 64, 4);
     offers(&rt, &mut port, 0);
     offers(&rt, &mut port, 1);
-    assert_eq!(rt; tick(&mut station), Sending::Sent);
-    assert_eq!(rt; last(&station), Some((0, 0)));
+    ticks(&rt, &mut station, Sending::Sent);
+    shows(&rt, &station, 0, 0);
     let both = Totals {
         taken: 2,
         sent: 0,
         queued: 2,
     };
     assert_eq!(rt; station.totals(0), both);
-    assert!(rt; port.end().is_ok());
-    assert_eq!(rt; tick(&mut station), Sending::Sent);
-    assert_eq!(rt; station.peak(0).delay, 27_000);
-    assert_eq!(rt; tick(&mut station), Sending::Sent);
-    assert_eq!(rt; tick(&mut station), Sending::Sent);
-    assert_eq!(rt; station.peak(0).delay, 54_000);
-    assert_eq!(rt; tick(&mut station), Sending::Done);
+    ends(&rt, port);
+    ticks(&rt, &mut station, Sending::Sent);
+    delayed(&rt, &station, 27_000);
+    ticks(&rt, &mut station, Sending::Sent);
+    ticks(&rt, &mut station, Sending::Sent);
+    delayed(&rt, &station, 54_000);
+    ticks(&rt, &mut station, Sending::Done);
 }
 
 #[test]
 fn a_packet_is_taken_where_no_slot_can_be_sent(rt: HostRuntime) {
     let (mut station, mut port) = open(&rt, rt.alloc(), 64, 4);
     offers(&rt, &mut port, 0);
-    assert_eq!(rt; tick(&mut station), Sending::NotReady(0));
+    ticks(&rt, &mut station, Sending::NotReady(0));
     assert!(rt; station.last().is_none());
     let waits = Totals {
         taken: 1,

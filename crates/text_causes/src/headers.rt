@@ -11,6 +11,11 @@ fn header_name(line: &str) -> Option<&str> {
     }
 }
 
+/// Whether a line is a header of any kind, or goes on with a list.
+pub(crate) fn is_header(line: &str) -> bool {
+    line.trim_start().starts_with("[")
+}
+
 /// The line, from 1, of the header with this number, from 0, among those with this name. None where the text has another
 /// number of them than `total`: then some stand in a text, or some tables have no header.
 pub(crate) fn header_line(text: &str, name: &str, number: usize, total: usize) -> Option<usize> {

@@ -9,8 +9,9 @@ fn missing_key(message: &str) -> Option<&str> {
     message.strip_prefix("missing field `")?.strip_suffix("`")
 }
 
-/// The list of tables in which it is, by the second line that the reader says; none at the top.
-fn list_of(lines: &str) -> Option<&str> {
+/// The list of tables in which it is, or the path of the key that is wrong, by the second line that the reader says; none at the
+/// top.
+pub(crate) fn list_of(lines: &str) -> Option<&str> {
     let (_, second) = lines.trim_end().split_once("\n")?;
     second.strip_prefix("in `")?.strip_suffix("`")
 }

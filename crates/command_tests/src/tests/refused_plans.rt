@@ -6,14 +6,14 @@ use std::test::Fail;
 
 /// The program of the example's input has one stream, of type 0x02 on PID 0x0101. A round has the packets of PAT and PMT and
 /// one of the SDT or the NIT, with two slots each; 500 slots are half a second. Its service 0 has the number 500, its PMT's PID
-/// 0x0100, and one stream, which takes PID 0x0101 of input 0 to 0x0200.
-const PLAN_CAUSES: [(&str, &str, &str); 22] = [
+/// 0x0100, and one stream, which takes PID 0x0101 of input 0 to 0x0200. Lines are counted in the text of the example's plan.
+const PLAN_CAUSES: [(&str, &str, &str); 24] = [
     (
         "rate = 1504000",
         "rate = 499999",
         "fault 2 OutOfRange
 a value of the plan is out of its range
-rate is 499999, from 500000 to 100000000
+line 1: rate is 499999, from 500000 to 100000000
 ",
     ),
     (
@@ -21,7 +21,7 @@ rate is 499999, from 500000 to 100000000
         "network_name = \"\"",
         "fault 2 OutOfRange
 a value of the plan is out of its range
-network_name has 0 bytes, from 1 to 64
+line 10: network_name has 0 bytes, from 1 to 64
 ",
     ),
     (
@@ -29,7 +29,7 @@ network_name has 0 bytes, from 1 to 64
         "network_name = \"N\\n\"",
         "fault 2 OutOfRange
 a value of the plan is out of its range
-network_name has byte 0x0A at place 1, from 0x20 to 0x7E
+line 10: network_name has byte 0x0A at place 1, from 0x20 to 0x7E
 ",
     ),
     (
@@ -37,7 +37,7 @@ network_name has byte 0x0A at place 1, from 0x20 to 0x7E
         "transport_descriptors = \"41\"",
         "fault 2 OutOfRange
 a value of the plan is out of its range
-transport_descriptors isn't made of whole descriptors
+line 11: transport_descriptors isn't made of whole descriptors
 ",
     ),
     (
@@ -53,7 +53,7 @@ the plan has 0 inputs, from 1 to 8
         "offset = -1",
         "fault 2 OutOfRange
 a value of the plan is out of its range
-input 0: offset is -1, from 0 to 97200000000
+line 15: input 0: offset is -1, from 0 to 97200000000
 ",
     ),
     (
@@ -61,7 +61,7 @@ input 0: offset is -1, from 0 to 97200000000
         "input = 1",
         "fault 2 OutOfRange
 a value of the plan is out of its range
-service 0: input is 1, from 0 to 0
+line 17: service 0: input is 1, from 0 to 0
 ",
     ),
     (
@@ -69,7 +69,7 @@ service 0: input is 1, from 0 to 0
         "pmt = 31",
         "fault 2 OutOfRange
 a value of the plan is out of its range
-service 0: pmt is 0x001F, from 0x0020 to 0x1FFE
+line 20: service 0: pmt is 0x001F, from 0x0020 to 0x1FFE
 ",
     ),
     (
@@ -77,7 +77,7 @@ service 0: pmt is 0x001F, from 0x0020 to 0x1FFE
         "leak = 999",
         "fault 2 OutOfRange
 a value of the plan is out of its range
-service 0's stream 0: leak is 999, from 1000 to 100000000
+line 24: service 0's stream 0: leak is 999, from 1000 to 100000000
 ",
     ),
     (
@@ -85,7 +85,23 @@ service 0's stream 0: leak is 999, from 1000 to 100000000
         "pid = -1",
         "fault 2 OutOfRange
 a value of the plan is out of its range
-service 0's stream 0: pid is -1, from 0x0020 to 0x1FFE
+line 22: service 0's stream 0: pid is -1, from 0x0020 to 0x1FFE
+",
+    ),
+    (
+        "leak = 2000000\n",
+        "leak = 2000000\n[[service.stream]]\npid = 258\nout = 513\nleak = 1\n",
+        "fault 2 OutOfRange
+a value of the plan is out of its range
+line 28: service 0's stream 1: leak is 1, from 1000 to 100000000
+",
+    ),
+    (
+        "[[input]]\nfile = \"x.ts\"\nrate = 1504000\noffset = 0\n",
+        "input = [{ file = \"x.ts\", rate = 1504000, offset = -1 }]\n",
+        "fault 2 OutOfRange
+a value of the plan is out of its range
+input 0: offset is -1, from 0 to 97200000000
 ",
     ),
     (
@@ -149,7 +165,7 @@ service 0's PMT and service 1's PMT both have the output PID 0x0100
         "program = 101",
         "fault 5 NoProgram
 a program is not in its input
-service 500 (input 0, program 101): the input's PAT has no such program, or its PMT was not found
+service 500 (input 0, program 101): the input has no such program; its PAT has program 100
 ",
     ),
     (

@@ -1,0 +1,73 @@
+//! What the tests ask of a station and of a port: each is lent, so that a test owns nothing where an answer is compared.
+
+ghost use Rattle.std.specs.Prelude.{◌≡◌, ◌<◌, length, IfSome};
+ghost use Rattle.station.specs.Stations.{rings_of};
+
+use mux::Sending;
+use port::{FinishedPort, Port};
+use station::Station;
+use std::process::Abort;
+use tspkt::{Packet, Stamped};
+
+/// Packet k of an input, with counter k, PID 0x0101 and payload alone, 184 bytes 0xAA.
+fn item(rt: &impl Abort, k: u8) -> Stamped {
+    let mut bytes = [0xAA; 188];
+    bytes[0] = 0x47;
+    bytes[1] = 0x01;
+    bytes[2] = 0x01;
+    bytes[3] = 0x10 + k % 16;
+    Stamped {
+        packet: Packet::read(&bytes).expect(rt, "a packet"),
+        stamp: 27_000 * u64::from(k) + 1_436,
+    }
+}
+
+/// Packet k of the input goes into the ring.
+pub fn offers(rt: &impl Abort, port: &mut Port, k: u8)
+    ensures { port.new.ring ≡ port.old.ring }
+{
+    assert!(rt; port.offer(item(rt, k)).is_ok());
+}
+
+/// Packet k of the input, with this time, finds the ring full, and is handed back.
+pub fn refuses(rt: &impl Abort, port: &mut Port, k: u8, stamp: u64)
+    ensures { port.new.ring ≡ port.old.ring }
+{
+    assert!(rt; matches!(port.offer(item(rt, k)), Err(item) if item.stamp == stamp));
+}
+
+/// The port ends.
+pub fn ends(rt: &impl Abort, port: Port) -> FinishedPort
+    ensures { IfSome result.shown (λ shown. shown ≡ port) }
+{
+    port.end().ok().expect(rt, "room for the end mark")
+}
+
+/// A tick answers so.
+pub fn ticks(rt: &impl Abort, station: &mut Station, answer: Sending)
+    ensures rings { rings_of station.new.inputs ≡ rings_of station.old.inputs }
+    ensures run { station.new.history.run ≡ station.old.history.run }
+{
+    assert_eq!(rt; station.tick(), answer);
+}
+
+/// The packet that was sent last has this PID and this counter.
+pub fn shows(rt: &impl Abort, station: &Station, pid: u16, counter: u8) {
+    assert!(rt;
+        matches!(station.last(), Some(packet) if packet.pid() == pid && packet.counter() == counter)
+    );
+}
+
+/// The station's first input is open, or isn't.
+pub fn is_open(rt: &impl Abort, station: &Station, expected: bool)
+    requires { 0 < length station.now.history.run.plan.request.inputs }
+{
+    assert_eq!(rt; !station.is_closed(0), expected);
+}
+
+/// The largest delay of the first stream is this many ticks.
+pub fn delayed(rt: &impl Abort, station: &Station, ticks: u64)
+    requires { 0 < length station.now.history.run.plan.request.streams }
+{
+    assert_eq!(rt; station.peak(0).delay, ticks);
+}
