@@ -13,7 +13,7 @@ use Rattle.acquire.specs.declared.program_finder.ProgramFinder.{ProgramFinder}
 use Rattle.acquire.specs.declared.found.Found.{Found}
 use Rattle.tables.specs.Pat.{PatValue}
 use Rattle.tables.specs.Sdt.{SdtValue}
-use Rattle.std.specs.List.{flat_map, zip}
+use Rattle.std.specs.List.{All, flat_map, zip}
 use Rattle.tables.specs.declared.pat_row.PatRow.{PatRow}
 
 -- the first complete table of a PID was sought in these packets: what it has taken, and where it goes on
@@ -108,6 +108,12 @@ TellsPat a sections = (wanted : List ℕ) (packets : List (List ℕ)) → HasSee
 -- what is found is that of the packets that were pushed
 abbrev pub IsFound : AcquireState → Found → Type 0
 IsFound a found = (wanted : List ℕ) (packets : List (List ℕ)) → HasSeen wanted a packets → findings_of found ≡ findings wanted packets
+
+-- nothing is found, and nothing was
+pub record FindsNothing (a : AcquireState) : Type 0 where
+  pub pmts : All (λ (pmt : Option PmtValue). pmt ≡ None) a.programs.found.items
+  pub pat : a.programs.pat.table.found ≡ None
+  pub sdt : a.sdt.table.found ≡ None
 
 -- whether all is found, by what is known
 abbrev pub knows_all : AcquireState → Bool

@@ -37,7 +37,7 @@ impl Model for Acquire {
 
 impl Acquire {
     ghost use Rattle.std.specs.Prelude.{◌≡◌, [], true, false, option_map, IfOk, OnOk, OnErr, Err, alloc_error};
-    ghost use Rattle.acquire.specs.Seen.{HasSeen, Sees, TellsAllFound, TellsPat, IsFound, knows_all};
+    ghost use Rattle.acquire.specs.Seen.{HasSeen, Sees, TellsAllFound, TellsPat, IsFound, FindsNothing, knows_all};
 
     /// One that has seen no packet, for these programs, by program_number. Of 0, which is no program's number, no PMT
     /// is found. An `Err` is want of memory.
@@ -73,11 +73,13 @@ impl Acquire {
     /// Reads the next packet, of whatever PID, and answers whether all that is wanted was found:
     /// the PMT of each program and the SDT, or nothing where no program is named.
     ///
-    /// An `Err` is want of memory. From then on the answer is `Err`, and no further packet is read.
+    /// An `Err` is want of memory, and what was found is forgotten. From then on the answer is `Err`, and no further packet is
+    /// read.
     pub fn push(&mut self, packet: &Packet) -> Result<bool, AllocError>
         ensures seen { OnOk result (Sees self.old packet.now self.new) }
         ensures all_found { IfOk result (TellsAllFound self.old packet.now) }
         ensures refused { OnErr result (self.new.is_refused ≡ true) }
+        ensures forgotten { OnErr result (self.old.is_refused ≡ false → FindsNothing self.new) }
         ensures not_refused { OnOk result (self.new.is_refused ≡ false) }
         ensures stays_refused { self.old.is_refused ≡ true →
             (result ≡ Err alloc_error) × (self.new ≡ self.old) }
@@ -89,23 +91,27 @@ impl Acquire {
             Ok(()) => Ok(self.is_all_found()),
             Err(e) => {
                 self.is_refused = true;
+                self.programs.forget();
+                self.sdt.forget();
                 Err(e)
             }
         }
     }
 
-    /// The sections of the first complete PAT in the order of their numbers, lent, once it was complete and where no push was
+    /// The sections of the first complete PAT in the order of their numbers, lent, once it was complete; none where a push was
     /// refused.
     pub fn pat(&self) -> Option<&Vec<Pat>>
-        ensures { TellsPat self.now (option_map (λ sections. sections.now.items) result) }
+        ensures pat { TellsPat self.now (option_map (λ sections. sections.now.items) result) }
+        ensures kept { option_map (λ sections. sections.now.items) result ≡ self.now.programs.pat.table.found }
     {
         self.programs.pat()
     }
 
-    /// What was found in the packets that were pushed, where no push was refused. It takes no
-    /// memory.
+    /// What was found in the packets that were pushed; nothing where a push was refused. It takes no memory.
     pub fn found(self) -> Found
-        ensures { IsFound self result }
+        ensures found { IsFound self result }
+        ensures pmts { result.pmts.items ≡ self.programs.found.items }
+        ensures sdt { option_map (λ sections. sections.items) result.sdt ≡ self.sdt.table.found }
     {
         Found {
             pmts: self.programs.into_found(),

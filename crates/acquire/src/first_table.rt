@@ -22,7 +22,7 @@ impl<T> Model for FirstTable<T> {
 }
 
 impl<T: Drop> FirstTable<T> {
-    ghost use Rattle.std.specs.Prelude.{◌≡◌, ◌++◌, ◌∷◌, [], List, is_some, option_map, OnOk};
+    ghost use Rattle.std.specs.Prelude.{◌≡◌, ◌++◌, ◌∷◌, [], List, None, is_some, option_map, OnOk};
     ghost use Rattle.tables.specs.InForce.{SectionValue};
     ghost use Rattle.acquire.specs.Taken.{HasTaken};
 
@@ -48,6 +48,13 @@ impl<T: Drop> FirstTable<T> {
         ensures { result ≡ is_some self.now.found }
     {
         self.found.is_some()
+    }
+
+    /// Forgets the table, where it was found.
+    pub fn forget(&mut self)
+        ensures { self.new ≡ record self.old { found = None } }
+    {
+        self.found = None;
     }
 
     /// The sections of the table, handed out.

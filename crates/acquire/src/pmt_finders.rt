@@ -65,6 +65,15 @@ pub fn begin_pmts(finders: &mut Vec<PmtFinder>, pats: &[Pat])
     }
 }
 
+/// Forgets each PMT that was found.
+pub fn forget_pmts(found: &mut Vec<Option<Pmt>>)
+    ensures { found.new.items ≡ map (λ pmt. None) found.old.items }
+{
+    for pmt in found.iter_mut() {
+        *pmt = None;
+    }
+}
+
 /// Each reads the packet, and the PMT that one finds comes to its place. An `Err` is want of
 /// memory.
 pub fn push_pmts(

@@ -3,7 +3,7 @@
 ghost use Rattle.std.specs.Prelude.{◌≡◌, vec_len};
 
 use crate::pmt_finder::PmtFinder;
-use crate::pmt_finders::{begin_pmts, new_finders, new_places, push_pmts};
+use crate::pmt_finders::{begin_pmts, forget_pmts, new_finders, new_places, push_pmts};
 use crate::table_finder::TableFinder;
 use section::Told;
 use std::alloc::{AllocError, Global};
@@ -24,7 +24,8 @@ pub struct ProgramFinder {
 }
 
 impl ProgramFinder {
-    ghost use Rattle.std.specs.Prelude.{◌≡◌, [], ◌==◌, length, option_map, IfOk, OnOk};
+    ghost use Rattle.std.specs.Prelude.{◌≡◌, [], ◌==◌, None, length, option_map, IfOk, OnOk};
+    ghost use Rattle.std.specs.List.{All};
     ghost use Rattle.acquire.specs.Findings.{all_some};
     ghost use Rattle.acquire.specs.Seen.{HasSoughtPrograms, ProgramsSee};
 
@@ -65,6 +66,15 @@ impl ProgramFinder {
         ensures { option_map (λ sections. sections.now.items) result ≡ self.now.pat.table.found }
     {
         self.pat.found()
+    }
+
+    /// Forgets the PAT and the PMTs, where they were found.
+    pub fn forget(&mut self)
+        ensures pmts { All (λ pmt. pmt ≡ None) self.new.found.items }
+        ensures pat { self.new.pat.table.found ≡ None }
+    {
+        self.pat.forget();
+        forget_pmts(&mut self.found);
     }
 
     /// The PMT of each program, in their order, where it was found.

@@ -37,7 +37,7 @@ fn take_told<T: SoughtTable>(
 }
 
 impl<T: SoughtTable> TableFinder<T> {
-    ghost use Rattle.std.specs.Prelude.{◌≡◌, ℕ, List, [], ◌∷◌, ◌++◌, OnOk, is_some, option_map};
+    ghost use Rattle.std.specs.Prelude.{◌≡◌, ℕ, List, [], ◌∷◌, ◌++◌, None, OnOk, is_some, option_map};
     ghost use Rattle.acquire.specs.Seen.{HasSought};
 
     /// One that has seen no packet, on this PID.
@@ -62,6 +62,13 @@ impl<T: SoughtTable> TableFinder<T> {
         ensures { option_map (λ tables. tables.now.items) result ≡ self.now.table.found }
     {
         self.table.found()
+    }
+
+    /// Forgets the table, where it was found.
+    pub fn forget(&mut self)
+        ensures { self.new.table ≡ record self.old.table { found = None } }
+    {
+        self.table.forget();
     }
 
     /// The same, handed out.

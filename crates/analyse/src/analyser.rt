@@ -82,7 +82,7 @@ impl Model for Analyser {
 }
 
 impl Analyser {
-    ghost use Rattle.std.specs.Prelude.{◌≡◌, [], true, option_map, IsErr, OnOk, OnErr};
+    ghost use Rattle.std.specs.Prelude.{◌≡◌, ◌≤◌, [], true, option_map, vec_capacity, IsErr, OnOk, OnErr};
     ghost use Rattle.analyse.specs.SlotReading.{IsReadAs};
     ghost use Rattle.analyse.specs.Analysed.{HasAccepted, AcceptsSlot, TellsSlot, TellsAll};
 
@@ -106,7 +106,8 @@ impl Analyser {
     /// Sees the next slot, and tells its faults behind those of `out`: in the order of the standard's list, and for one kind
     /// by PID.
     ///
-    /// An `Err` is want of memory, or a stream of 2^64 - 1 slots; it adds nothing, and each later push answers it too.
+    /// An `Err` is want of memory, or a stream of 2^64 - 1 slots; it adds nothing, and each later push answers it too. Room that
+    /// `out` has stays.
     pub fn push(&mut self, slot: &[u8; 188], out: &mut Vec<Fault>) -> Result<(), AllocError>
         ensures rate { self.new.rate ≡ self.old.rate }
         ensures period { self.new.period ≡ self.old.period }
@@ -116,6 +117,7 @@ impl Analyser {
         ensures err { OnErr result (out.new.items ≡ out.old.items) }
         ensures refused { OnErr result (self.new.is_refused ≡ true) }
         ensures stays { self.old.is_refused ≡ true → IsErr result }
+        ensures capacity { vec_capacity out.old ≤ vec_capacity out.new }
     {
         match Packet::read(slot) {
             Ok(packet) => self.see(slot, Some(&packet), out),
@@ -133,6 +135,7 @@ impl Analyser {
         ensures err { OnErr result (out.new.items ≡ out.old.items) }
         ensures refused { OnErr result (self.new.is_refused ≡ true) }
         ensures stays { self.old.is_refused ≡ true → IsErr result }
+        ensures capacity { vec_capacity out.old ≤ vec_capacity out.new }
     {
         self.see(packet.bytes(), Some(packet), out)
     }
@@ -153,6 +156,7 @@ impl Analyser {
         ensures err { OnErr result (out.new.items ≡ out.old.items) }
         ensures refused { OnErr result (self.new.is_refused ≡ true) }
         ensures stays { self.old.is_refused ≡ true → IsErr result }
+        ensures capacity { vec_capacity out.old ≤ vec_capacity out.new }
     {
         if self.is_refused {
             return Err(AllocError);
@@ -175,6 +179,7 @@ impl Analyser {
         ensures seen { OnOk result (AcceptsSlot self.old slot.now self.new) }
         ensures told { OnOk result (TellsSlot self.old slot.now out.old.items out.new.items) }
         ensures err { OnErr result (out.new.items ≡ out.old.items) }
+        ensures capacity { vec_capacity out.old ≤ vec_capacity out.new }
     {
         self.found.clear();
         see_slot(

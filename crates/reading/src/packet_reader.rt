@@ -76,6 +76,7 @@ impl<R: Source> PacketReader<R> {
         ensures done { result ≡ Ok false → IsSpent self.new }
         ensures stays { IsSome self.old.held → self.new ≡ self.old }
         ensures memory { OnErr result (self.new.report.stopped ≡ Some Stop.Memory) }
+        ensures spent { OnErr result (IsSpent self.new) }
         ensures reading { OnErr result (IsSome self.old.stream.items.framer) }
         ensures unrefused { OnOk result (self.new.report.stopped ≡ Some Stop.Memory
             → self.old.report.stopped ≡ Some Stop.Memory) }
@@ -157,6 +158,7 @@ impl<R: Source> PacketReader<R> {
         ensures goes { GoesOn R.failures self.old self.new }
         ensures smaller { left_to_read self.new.stream.items < left_to_read self.old.stream.items }
         ensures memory { OnErr result (self.new.report.stopped ≡ Some Stop.Memory) }
+        ensures spent { OnErr result (IsSpent self.new) }
         ensures unrefused { OnOk result (self.new.report.stopped ≡ Some Stop.Memory
             → self.old.report.stopped ≡ Some Stop.Memory) }
         ensures held { self.new.held ≡ self.old.held }

@@ -54,7 +54,7 @@ impl Model for Assembler {
 }
 
 impl Assembler {
-    ghost use Rattle.std.specs.Prelude.{◌≡◌, ◌+◌, ◌<◌, ◌==◌, ◌++◌, not, length, OnOk, OnErr, vec_len, vec_capacity};
+    ghost use Rattle.std.specs.Prelude.{◌≡◌, ◌+◌, ◌<◌, ◌≤◌, ◌==◌, ◌++◌, not, length, OnOk, OnErr, vec_len, vec_capacity};
     ghost use Rattle.section.specs.Assembled.{fresh, packet_told};
 
     /// An assembler that has seen no packet.
@@ -78,7 +78,7 @@ impl Assembler {
     /// Reads the next packet of the PID, and appends what it tells to `out`.
     ///
     /// It asks for room for 64 items first. A refusal changes nothing, and the packet may be
-    /// given again; with that room nothing else can fail.
+    /// given again; with that room nothing else can fail. Room that `out` has stays.
     #[tactic(auto, unfolding(crate::specs::Assembled::packet_told))]
     pub fn push(&mut self, packet: &Packet, out: &mut Vec<Told>) -> Result<(), AllocError>
         ensures state { OnOk result (self.new ≡ (packet_told self.old packet.now).state) }
@@ -86,6 +86,7 @@ impl Assembler {
             out.new.items ≡ out.old.items ++ (packet_told self.old packet.now).told) }
         ensures err { OnErr result ((self.new ≡ self.old) × (out.new.items ≡ out.old.items)) }
         ensures full { OnErr result (vec_capacity out.old < vec_len out.old + 64) }
+        ensures capacity { vec_capacity out.old ≤ vec_capacity out.new }
     {
         // At most two cuts, or one and the end of a section, and then 61 sections of three bytes.
         out.reserve(64)?;

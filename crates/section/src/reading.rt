@@ -116,7 +116,8 @@ pub fn give_up(begun: &mut ArrayVec<u8, 1024>, out: &mut Vec<Told>)
 fn read_sections(begun: &mut ArrayVec<u8, 1024>, bytes: &[u8], out: &mut Vec<Told>)
     requires begun { begun.old.items ≡ [] }
     requires room { 3 * vec_len out.old + length bytes.now ≤ 3 * vec_capacity out.old }
-    ensures { Reads (sections_from 0 bytes.now) begun.new.items out.old.items out.new.items }
+    ensures reads { Reads (sections_from 0 bytes.now) begun.new.items out.old.items out.new.items }
+    ensures capacity { vec_capacity out.new ≡ vec_capacity out.old }
 {
     let mut at = 0;
     while at < bytes.len() && bytes[at] != STUFFING {
@@ -138,8 +139,9 @@ pub fn read_payload(
 )
     requires begun { IsBegun begun.old.items }
     requires room { 3 * vec_len out.old + 5 + length payload.now ≤ 3 * vec_capacity out.old }
-    ensures { let reading = payload_told begun.old.items start payload.now in
+    ensures reads { let reading = payload_told begun.old.items start payload.now in
         Reads reading begun.new.items out.old.items out.new.items }
+    ensures capacity { vec_capacity out.new ≡ vec_capacity out.old }
 {
     if !start {
         collect_ending(begun, payload, out);

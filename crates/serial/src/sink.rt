@@ -39,6 +39,7 @@ impl<W: Write> WriteSink<W> {
 
     /// One that has not failed yet.
     pub fn new(writer: W) -> WriteSink<W>
+        ensures writer { result.writer ≡ writer }
         ensures bytes { sink_contents W.contents result ≡ W.contents writer }
         ensures failures { sink_failures result ≡ 0 }
     {
@@ -50,7 +51,8 @@ impl<W: Write> WriteSink<W> {
 
     /// The writer.
     pub fn into_inner(self) -> W
-        ensures { W.contents result ≡ sink_contents W.contents self }
+        ensures writer { result ≡ self.writer }
+        ensures bytes { W.contents result ≡ sink_contents W.contents self }
     {
         self.writer
     }

@@ -74,7 +74,7 @@ fn take_section<T>(sections: &mut Vec<TableSection<T>>, number: u8) -> Option<T>
 }
 
 impl<T: Drop> TableRun<T> {
-    ghost use Rattle.std.specs.Prelude.{◌≡◌, List, [], ◌∷◌, option_map, is_some, IfOk, OnOk, OnErr};
+    ghost use Rattle.std.specs.Prelude.{◌≡◌, List, [], ◌∷◌, true, option_map, is_some, IfOk, OnOk, OnErr};
     ghost use Rattle.tables.specs.InForce.{SectionValue, in_force, complete_table};
     ghost use Rattle.tables.specs.Kept.{StandsFor, kept_under, kept_table, tables_of};
 
@@ -98,6 +98,7 @@ impl<T: Drop> TableRun<T> {
             (sections : List (SectionValue T)) → StandsFor self.old sections →
             StandsFor self.new (record { header = header; table = table } ∷ sections)) }
         ensures err { OnErr result (self.new ≡ self.old) }
+        ensures current { OnErr result (header.current_next_indicator ≡ true) }
     {
         if !header.current_next_indicator {
             return Ok(());

@@ -1,8 +1,11 @@
 //! Packets that are read, and their fields.
 
 use super::{bytes_of, packet};
+use std::alloc::{AllocError, Global};
+use std::fmt::{Debug, Display};
 use std::process::Abort;
-use tspkt::{Malformed, Packet, null};
+use std::test::Fail;
+use tspkt::{FeedFault, Malformed, Packet, null};
 
 /// Beginnings of packets, and how long their payloads are or why they are none.
 static FRONTS: [([u8; 6], Result<usize, Malformed>); 10] = [
@@ -103,4 +106,35 @@ fn null_packet(rt: HostRuntime) {
         [0x47, 0x1F, 0xFF, 0x10, 0xFF].as_slice()
     );
     assert_eq!(rt; packet.bytes()[187], 0xFF);
+}
+
+/// Whether a fault has this text, and this name where it is printed for a programmer.
+fn prints<T: Display + Debug>(
+    alloc: Global,
+    fault: &T,
+    text: &str,
+    name: &str,
+) -> Result<bool, AllocError> {
+    let told = format!(in alloc; "{fault}")?;
+    let named = format!(in alloc; "{fault:?}")?;
+    Ok(told.as_str() == text && named.as_str() == name)
+}
+
+#[test]
+fn faults_are_printed(rt: HostRuntime) -> Result<(), Fail> {
+    let alloc = rt.alloc();
+    let sync = prints(
+        alloc,
+        &Malformed::BadSync,
+        "the sync byte is not 0x47",
+        "BadSync",
+    )?;
+    let limit = prints(
+        alloc,
+        &FeedFault::TooMuch,
+        "the input passes its limit",
+        "TooMuch",
+    )?;
+    assert!(rt; sync && limit);
+    Ok(())
 }

@@ -29,10 +29,11 @@ loop-at-preserved c =
       begun = ap (λ (l : List ℕ). (sections_from 0 l).begun) (sym next) ∙ s.begun ∙ ap (λ (l : List ℕ). (sections_from 0 l).begun) (sym xs) ∙ c.loop-at.invariant.begun;
       told = ap (λ (l : List ℕ). c.collect.new.out.items ++ (sections_from 0 l).told) (sym next) ∙ s.told ∙ ap (λ (l : List ℕ). c.loop-at.out.items ++ (sections_from 0 l).told) (sym xs) ∙ c.loop-at.invariant.told;
       room = omega (arith, s.some);
+      capacity = omega arith;
     }
 
-pub returns-in-Begun : goal.returns-in-Begun
-returns-in-Begun c =
+pub returns-in-Begun-clause-reads : goal.returns-in-Begun-clause-reads
+returns-in-Begun-clause-reads c =
     let bytes = c.args.bytes.now in
     let at = c.loop-at.at in
     let b = get_or bytes at 0 in
@@ -45,8 +46,8 @@ returns-in-Begun c =
     let s = stops b tail c.collect.new.begun.items c.loop-at.out.items c.collect.new.out.items Begun plain c2 (inr (outcome-begun [] (b ∷ tail) c2.next).1) in
     reads_on bytes (b ∷ tail) at _ _ _ _ (sym xs) c.loop-at.invariant.begun c.loop-at.invariant.told s
 
-pub returns-in-TooLong : goal.returns-in-TooLong
-returns-in-TooLong c =
+pub returns-in-TooLong-clause-reads : goal.returns-in-TooLong-clause-reads
+returns-in-TooLong-clause-reads c =
     let bytes = c.args.bytes.now in
     let at = c.loop-at.at in
     let b = get_or bytes at 0 in
@@ -59,8 +60,8 @@ returns-in-TooLong c =
     let s = stops b tail c.collect.new.begun.items c.loop-at.out.items c.collect.new.out.items TooLong plain c2 (inl (outcome-too_long [] (b ∷ tail) c2.next)) in
     reads_on bytes (b ∷ tail) at _ _ _ _ (sym xs) c.loop-at.invariant.begun c.loop-at.invariant.told s
 
-pub returns-else-bytes-at : goal.returns-else-bytes-at
-returns-else-bytes-at c =
+pub returns-else-bytes-at-clause-reads : goal.returns-else-bytes-at-clause-reads
+returns-else-bytes-at-clause-reads c =
     let bytes = c.args.bytes.now in
     let at = c.loop-at.at in
     let b = get_or bytes at 0 in
@@ -69,8 +70,8 @@ returns-else-bytes-at c =
     let stuffing : (b == 255) ≡ true = grind (arith, nat_tests) in
     reads_on bytes (b ∷ tail) at _ _ _ _ (sym xs) c.loop-at.invariant.begun c.loop-at.invariant.told (reads_none (b ∷ tail) c.loop-at.begun.items c.loop-at.out.items (sections_stuffing b tail stuffing) c.loop-at.invariant.none)
 
-pub returns-after-loop-at : goal.returns-after-loop-at
-returns-after-loop-at c =
+pub returns-after-loop-at-clause-reads : goal.returns-after-loop-at-clause-reads
+returns-after-loop-at-clause-reads c =
     let bytes = c.args.bytes.now in
     let at = c.loop-at.at in
     let none : drop at bytes ≡ [] = drop_all at bytes (omega arith) in

@@ -9,6 +9,7 @@ invariant-loop-at l = record {
   begun : (sections_from 0 (drop l.at l.bytes)).begun ≡ (sections_from 0 l.bytes).begun;
   told : l.out.items ++ (sections_from 0 (drop l.at l.bytes)).told ≡ l.fn.out.items ++ (sections_from 0 l.bytes).told;
   room : 3 * vec_len l.out + (length l.bytes - l.at) ≤ 3 * vec_capacity l.out;
+  capacity : vec_capacity l.out ≡ vec_capacity l.fn.out;
 }
 
 abbrev pub decreases-loop-at : goal.decreases-loop-at

@@ -8,8 +8,8 @@ use Rattle.acquire.specs.Seen.{AcquireState}
 use Rattle.acquire.proofs.SeenLaws.{sdt_is_found, mapped_twice}
 use Rattle.acquire.proofs.acquisition.Acquire.found.Goals as goal
 
-pub returns : goal.returns
-returns c programs packets seen =
+pub returns-clause-found : goal.returns-clause-found
+returns-clause-found c programs packets seen =
     let pmts : c.into_found.result.items ≡ map (λ program. pmt_found program packets) programs =
     c.into_found.ensures ∙ ap (λ (a : AcquireState). a.programs.found.items) c.self.view_is ∙ seen.programs.found in
     let sdt : option_map (λ sdts. flat_map (λ (s : SdtValue). s.rows) sdts.items) c.into_found-2.result ≡ sdt_found packets =
