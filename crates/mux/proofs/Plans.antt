@@ -27,6 +27,10 @@ all_at P xs k x all at = subst P (get_or_from_slice_get xs k x x at) (all k x (s
 pub stream_in : (p : PlanValue) (k : ℕ) (st : Stream) → IsMultiplexPlan p → IsAt p k st → IsStream (length p.request.inputs) st
 stream_in p k st plan at = all_at (IsStream (length p.request.inputs)) p.request.streams k st plan.request.streams at
 
+-- one stream stands at a place
+pub at_place : (p : PlanValue) (k : ℕ) (st : Stream) (P : Stream → Type 0) → IsAt p k st → P st → (su : Stream) → IsAt p k su → P su
+at_place p k st P at here su there = subst P (same_Some st su (sym at ∙ there)) here
+
 -- what holds of each pair holds of those at two places
 pair_at : (R : Stream → Stream → Type 0) → ((a b : Stream) → R a b → R b a) → (xs : List Stream) (j k : ℕ) (a b : Stream) → AllPairs R xs
     → slice_get xs j ≡ Some a → slice_get xs k ≡ Some b → j ≢ k → R a b

@@ -1,6 +1,6 @@
 -- The packets of an input that a run may take, and what is counted of the others (profile; framing is by
 -- ISO/IEC 13818-1, 2.4.3.2, and ETSI TR 101 290, 5.2.1).
-use Rattle.std.specs.Prelude.{◌≡◌, ◌⊎◌, ℕ, ◌+◌, List, [], ◌∷◌, ◌++◌, Bool, Option, Some, None, IsSome, if◌then◌else◌, is_some, is_none, sum_by}
+use Rattle.std.specs.Prelude.{◌≡◌, ◌⊎◌, ℕ, ◌+◌, List, [], ◌∷◌, ◌++◌, Bool, Option, Some, None, IsSome, if◌then◌else◌, is_some, is_none, unwrap_or, option_map, length, sum_by}
 use Rattle.std.specs.List.{filter_map}
 use Rattle.tspkt.specs.Packet.{fault_of, pid_of}
 use Rattle.tspkt.specs.Stamps.{time_of}
@@ -9,6 +9,7 @@ use Rattle.tspkt.specs.declared.item.Item.{Item}
 use Rattle.tspkt.specs.declared.item.Item.TheVariants.{Packet, Bad, SyncLoss, Lost}
 use Rattle.request.specs.Request.{InputValue}
 use Rattle.plan.specs.Build.{PlanValue}
+use Rattle.plan.specs.declared.planned_stream.PlannedStream.{PlannedStream}
 use Rattle.plan.specs.StreamPlace.{planned_stream}
 use Rattle.reading.specs.declared.report.Report.{Report}
 
@@ -28,6 +29,15 @@ is_well_formed packet = is_none (fault_of packet)
 -- the plan names the packet's PID of this input
 abbrev pub is_named : PlanValue → OriginValue → List ℕ → Bool
 is_named plan origin packet = is_some (planned_stream plan.request.streams origin.number (pid_of packet))
+
+-- the number of the stream that the plan maps the packet's PID of this input to, where it names one
+abbrev pub number_of : PlanValue → OriginValue → List ℕ → Option ℕ
+number_of plan origin packet =
+    option_map (λ (stream : PlannedStream). stream.number) (planned_stream plan.request.streams origin.number (pid_of packet))
+
+-- the same; where it names none, how many streams it has, which is no stream's number
+abbrev pub stream_number : PlanValue → OriginValue → List ℕ → ℕ
+stream_number plan origin packet = unwrap_or (number_of plan origin packet) (length plan.request.streams)
 
 -- when a packet that begins at this position of the input comes: with its byte 10, the last of a PCR's base
 abbrev pub stamp_at : OriginValue → ℕ → ℕ

@@ -1,9 +1,9 @@
 //! What an item of an input counts as.
 
-ghost use Rattle.std.specs.Prelude.{◌≡◌, ◌≤◌, None, is_some};
+ghost use Rattle.std.specs.Prelude.{◌≡◌, ◌≤◌, None, IfSome, is_some};
 ghost use Rattle.tspkt.specs.declared.framer.TheConstants.{MAX_LIMIT};
 ghost use Rattle.tspkt.specs.declared.item.Item.TheVariants.{Packet};
-ghost use Rattle.reading.specs.Takeable.{taken_of, counted_of};
+ghost use Rattle.reading.specs.Takeable.{taken_of, counted_of, number_of};
 ghost use Rattle.reading.specs.Counting.{with_counts};
 ghost use Rattle.reading.specs.Items.{IsPlaced};
 
@@ -12,19 +12,20 @@ use crate::report::Report;
 use plan::Plan;
 use tspkt::{Item, Stamped};
 
-/// Counts an item of an input in its report, and holds the packet that the plan names, with its time. It answers whether
-/// there is one.
+/// Counts an item of an input in its report, and holds the packet that the plan names, with its time. It answers the number of
+/// the packet's stream, where there is one.
 pub(crate) fn classify(
     plan: &Plan,
     origin: &mut Origin,
     item: &Item,
     held: &mut Option<Stamped>,
     report: &mut Report,
-) -> bool
+) -> Option<usize>
     requires placed { IsPlaced item.now }
     requires held { held.old ≡ None }
     ensures held { held.new ≡ taken_of plan.now origin.old item.now }
-    ensures found { result ≡ is_some held.new }
+    ensures found { is_some result ≡ is_some held.new }
+    ensures number { IfSome held.new (λ taken. result ≡ number_of plan.now origin.old taken.packet) }
     ensures origin { origin.new ≡ origin.old }
     ensures counts { report.new ≡ with_counts report.old (counted_of plan.now origin.old item.now) }
 {
@@ -36,7 +37,7 @@ pub(crate) fn classify(
         Item::SyncLoss(_) => report.losses = report.losses.saturating_add(1),
         Item::Lost(count) => report.lost = report.lost.saturating_add(*count),
     }
-    false
+    None
 }
 
 /// The same of a packet at a position of the input, in bytes.
@@ -47,24 +48,33 @@ fn classify_packet(
     bytes: &[u8; 188],
     held: &mut Option<Stamped>,
     report: &mut Report,
-) -> bool
+) -> Option<usize>
     requires placed { position ≤ MAX_LIMIT }
     requires held { held.old ≡ None }
     ensures held { held.new ≡ taken_of plan.now origin.old (Packet position bytes.now) }
-    ensures found { result ≡ is_some held.new }
+    ensures found { is_some result ≡ is_some held.new }
+    ensures number { IfSome held.new (λ taken. result ≡ number_of plan.now origin.old taken.packet) }
     ensures origin { origin.new ≡ origin.old }
     ensures counts { report.new ≡ with_counts report.old (counted_of plan.now origin.old (Packet position bytes.now)) }
 {
     report.framed = report.framed.saturating_add(1);
     let Ok(packet) = tspkt::Packet::read(bytes) else {
         report.malformed = report.malformed.saturating_add(1);
-        return false;
+        return None;
     };
-    if plan.lookup(origin.number(), packet.pid()).is_none() {
+    let Some(number) = stream_of(plan, origin, &packet) else {
         report.unmapped = report.unmapped.saturating_add(1);
-        return false;
-    }
+        return None;
+    };
     let stamp = origin.stamp(position);
     *held = Some(Stamped { packet, stamp });
-    true
+    Some(number)
+}
+
+/// The number of the stream that the plan maps a packet's PID of an input to; none where it names no such stream.
+pub(crate) fn stream_of(plan: &Plan, origin: &Origin, packet: &tspkt::Packet) -> Option<usize>
+    ensures { result ≡ number_of plan.now origin.now packet.now }
+{
+    let stream = plan.lookup(origin.number(), packet.pid())?;
+    Some(stream.number)
 }

@@ -1,6 +1,6 @@
 //! The packets of an input that a plan names, each with its time.
 
-use crate::classify::classify;
+use crate::classify::{classify, stream_of};
 use crate::look::Look;
 use crate::origin::Origin;
 use crate::report::Report;
@@ -26,7 +26,7 @@ pub struct PacketReader<R> {
 }
 
 impl<R: Source> PacketReader<R> {
-    ghost use Rattle.std.specs.Prelude.{◌≡◌, ◌<◌, ◌≤◌, ◌⊎◌, ◌++◌, ℕ, List, [], length, true, false, None, Some, Ok, is_some, option_copied, OnErr, OnOk, IsSome};
+    ghost use Rattle.std.specs.Prelude.{◌≡◌, ◌<◌, ◌≤◌, ◌⊎◌, ◌++◌, ℕ, List, [], length, None, Some, Ok, is_some, option_copied, OnErr, OnOk, IsSome, IfSome};
     ghost use Rattle.std.specs.Option.{option_to_list};
     ghost use Rattle.tspkt.specs.declared.framer.TheConstants.{MAX_LIMIT};
     ghost use Rattle.tspkt.specs.declared.stamped.Stamped.{Stamped as GivenPacket};
@@ -34,7 +34,7 @@ impl<R: Source> PacketReader<R> {
     ghost use Rattle.plan.specs.Build.{PlanValue};
     ghost use Rattle.reading.specs.Failures.{FailsOnce};
     ghost use Rattle.reading.specs.Counting.{nothing_counted};
-    ghost use Rattle.reading.specs.Takeable.{origin_of};
+    ghost use Rattle.reading.specs.Takeable.{origin_of, number_of, stream_number};
     ghost use Rattle.reading.specs.Items.{given_up, left_to_read};
     ghost use Rattle.std.specs.Io.KnownBytes.{IsAtEnd};
     ghost use Rattle.reading.specs.PacketReading.{HasRead, ReadsOn, GoesOn, TellsFailures, WantsMore, IsSpent, BeginsTakeable, IsWhole, CountsTold};
@@ -65,15 +65,17 @@ impl<R: Source> PacketReader<R> {
         }
     }
 
-    /// Finds the next packet that the plan names, with its time, and holds it; false is answered where the input has no
-    /// more. It reads pieces of at most the length of `piece` until there is one, and nothing where one is held. An `Err` is
-    /// want of memory, for an input that was still read, and ends it.
-    pub fn find(&mut self, plan: &Plan, piece: &mut [u8]) -> Result<bool, AllocError>
+    /// Finds the next packet that the plan names, with its time, holds it, and answers the number of its stream, as `look`
+    /// does; `None` is answered where the input has no more. It reads pieces of at most the length of `piece` until there is
+    /// one, and nothing where one is held. An `Err` is want of memory, for an input that was still read, and ends it.
+    pub fn find(&mut self, plan: &Plan, piece: &mut [u8]) -> Result<Option<usize>, AllocError>
         requires { 0 < length piece.old }
         ensures read { ReadsOn R.remaining plan.now self.old self.new }
         ensures goes { GoesOn R.failures self.old self.new }
-        ensures found { result ≡ Ok true → IsSome self.new.held }
-        ensures done { result ≡ Ok false → IsSpent self.new }
+        ensures found { (number : ℕ) → result ≡ Ok (Some number) → IsSome self.new.held }
+        ensures number { (number : ℕ) → result ≡ Ok (Some number)
+            → IfSome self.new.held (λ item. number ≡ stream_number plan.now self.new.origin item.packet) }
+        ensures done { result ≡ Ok None → IsSpent self.new }
         ensures stays { IsSome self.old.held → self.new ≡ self.old }
         ensures memory { OnErr result (self.new.report.stopped ≡ Some Stop.Memory) }
         ensures spent { OnErr result (IsSpent self.new) }
@@ -86,20 +88,23 @@ impl<R: Source> PacketReader<R> {
     {
         loop {
             match self.look(plan) {
-                Look::Packet => return Ok(true),
-                Look::Over => return Ok(false),
+                Look::Packet(number) => return Ok(Some(number)),
+                Look::Over => return Ok(None),
                 Look::More => self.read(piece)?,
             }
         }
     }
 
     /// Looks for the next packet that the plan names among what was read, and holds it. It reads nothing, and looks at nothing
-    /// where a packet is held.
+    /// where a packet is held. The number that is answered is that of the stream which the plan maps the packet's PID of this
+    /// input to. For a packet that is held, and that only another plan named, it is how many streams this plan has.
     pub fn look(&mut self, plan: &Plan) -> Look
         ensures read { (bytes : List ℕ) (given : List GivenPacket) → HasRead R.remaining plan.now self.old bytes given
             → HasRead R.remaining plan.now self.new bytes given }
         ensures goes { GoesOn R.failures self.old self.new }
-        ensures found { result ≡ Look.Packet → IsSome self.new.held }
+        ensures found { (number : ℕ) → result ≡ Look.Packet number → IsSome self.new.held }
+        ensures number { (number : ℕ) → result ≡ Look.Packet number
+            → IfSome self.new.held (λ item. number ≡ stream_number plan.now self.new.origin item.packet) }
         ensures more { result ≡ Look.More → WantsMore self.new }
         ensures over { result ≡ Look.Over → IsSpent self.new }
         ensures stays { IsSome self.old.held → self.new ≡ self.old }
@@ -107,11 +112,12 @@ impl<R: Source> PacketReader<R> {
         ensures stopped { self.new.report.stopped ≡ self.old.report.stopped }
         ensures left { left_to_read self.new.stream.items ≡ left_to_read self.old.stream.items }
     {
-        if self.held.is_some() {
-            return Look::Packet;
+        if let Some(item) = &self.held {
+            let number = stream_of(plan, &self.origin, &item.packet);
+            return Look::Packet(number.unwrap_or(plan.streams().len()));
         }
-        if self.find_told(plan) {
-            Look::Packet
+        if let Some(number) = self.find_told(plan) {
+            Look::Packet(number)
         } else if self.stream.is_over() {
             Look::Over
         } else {
@@ -119,13 +125,15 @@ impl<R: Source> PacketReader<R> {
         }
     }
 
-    /// Holds the next packet that the plan names of the items that were told, if there is one.
-    fn find_told(&mut self, plan: &Plan) -> bool
+    /// Holds the next packet that the plan names of the items that were told, if there is one, and answers the number of its
+    /// stream.
+    fn find_told(&mut self, plan: &Plan) -> Option<usize>
         requires { self.old.held ≡ None }
         ensures read { (bytes : List ℕ) (given : List GivenPacket) → HasRead R.remaining plan.now self.old bytes given
             → HasRead R.remaining plan.now self.new bytes given }
-        ensures found { result ≡ is_some self.new.held }
-        ensures none { result ≡ false → self.new.stream.items.ahead ≡ [] }
+        ensures found { is_some result ≡ is_some self.new.held }
+        ensures number { IfSome self.new.held (λ item. result ≡ number_of plan.now self.new.origin item.packet) }
+        ensures none { result ≡ None → self.new.stream.items.ahead ≡ [] }
         ensures origin { self.new.origin ≡ self.old.origin }
         ensures source { self.new.stream.source ≡ self.old.stream.source }
         ensures limit { self.new.stream.items.limit ≡ self.old.stream.items.limit }
@@ -133,7 +141,7 @@ impl<R: Source> PacketReader<R> {
         ensures stopped { self.new.report.stopped ≡ self.old.report.stopped }
     {
         while let Some(item) = self.stream.peek() {
-            let is_named = classify(
+            let number = classify(
                 plan,
                 &mut self.origin,
                 item,
@@ -141,11 +149,11 @@ impl<R: Source> PacketReader<R> {
                 &mut self.report,
             );
             self.stream.pass();
-            if is_named {
-                return true;
+            if number.is_some() {
+                return number;
             }
         }
-        false
+        None
     }
 
     /// Reads the next piece, of at most the length of `piece`, and frames it, where a look found that more has to be read. A

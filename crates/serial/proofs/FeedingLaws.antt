@@ -1,9 +1,10 @@
 -- What an input gives is what the multiplex may take.
 use Rattle.std.proofs.lemmas.Bool.Decides.{nat_tests}
 use Rattle.std.proofs.Common.{ℕ, ◌<◌, ◌≤◌, ◌≡◌, Bool, true, false, nat_eq, nat_lt, ltb, eq-eqb, List, [], ◌∷◌, ◌++◌, length, Option, Some, None, is_some, if◌then◌else◌, ◌||◌, length-append, refl, ap, ◌∙◌, sym, subst, arith, inl, inr, append_assoc}
-use Rattle.std.specs.Option.{option_to_list}
+use Rattle.std.specs.Option.{option_to_list, unwrap_or, option_map}
 use Rattle.std.specs.Prelude.{IsSome, Result, Ok, Err, OnOk}
 use Rattle.std.proofs.lemmas.Bool.{cases_Bool, ne_eqb, false≢true}
+use Rattle.std.proofs.lemmas.Option.{same_Some}
 use Rattle.tspkt.specs.Packet.{pid_of}
 use Rattle.tspkt.specs.Framed.{framed}
 use Rattle.tspkt.specs.declared.framer.TheConstants.{MAX_LIMIT}
@@ -16,15 +17,15 @@ use Rattle.plan.specs.Build.{PlanValue}
 use Rattle.plan.specs.StreamPlace.{planned_stream}
 use Rattle.mux.specs.declared.event.Event.{Event}
 use Rattle.mux.specs.declared.event.Event.TheVariants.{Took, Full, Close, Slot}
-use Rattle.mux.specs.History.{History, slots, slot_time, taken, last_stamp, is_closed, full_noted}
+use Rattle.mux.specs.History.{History, with_event, slots, slot_time, taken, last_stamp, is_closed, full_noted}
 use Rattle.mux.specs.Lawful.{is_mapped, is_queue_full, is_ready}
-use Rattle.mux.proofs.Mapped.{planned_some}
-use Rattle.mux.proofs.Refusals.{goes_from, mapped_at, is_refused_full, is_unrefused}
-use Rattle.reading.specs.Takeable.{OriginValue, takeable, is_well_formed, is_named, EndsAtTaken}
+use Rattle.mux.proofs.Mapped.{planned_some, planned_none}
+use Rattle.mux.proofs.Refusals.{goes_from, goes_both, unmapped, mapped_at, is_refused_full, is_unrefused}
+use Rattle.reading.specs.Takeable.{OriginValue, takeable, is_well_formed, is_named, stream_number, EndsAtTaken}
 use Rattle.serial.specs.Order.{ComeFrom}
-use Rattle.reading.specs.PacketReading.{HasLooked, ReadsOn, IsSpent}
+use Rattle.reading.specs.PacketReading.{HasLooked, ReadsOn, IsSpent, TellsFailures}
 use Rattle.serial.specs.declared.serial_input.SerialInput.{SerialInput}
-use Rattle.serial.specs.Feeding.{IsOrigin, HasGiven, IsOwnStop, Feeds, MayBeTaken, IsOfInput, IsGivenOrHeld, turns_left}
+use Rattle.serial.specs.Feeding.{IsOrigin, HasGiven, IsOwnStop, Feeds, MayBeTaken, GoesTo, IsOfInput, IsGivenOrHeld, turns_left}
 use Rattle.reading.proofs.PacketLaws.{given_inside, released}
 use Rattle.reading.proofs.KnownLaws.{consumes_on}
 use Rattle.serial.proofs.OrderLaws.{come_in_order, are_few}
@@ -109,6 +110,28 @@ next_in_order p h i o item bytes later number rate is =
       mapped = (let P : ℕ → Type 0 = λ n. is_mapped p n item ≡ true in subst P number (some_planned p o.number item (planned_stream p.request.streams o.number (pid_of item.packet)) refl named_here));
       later = omega (arith, last, order);
     }
+
+-- An item of an input goes to one stream, whose number is looked up.
+
+pub one_input : (p : PlanValue) (i j : ℕ) (item : Stamped) (number : ℕ) → GoesTo p i item number → GoesTo p j item number → i ≡ j
+one_input p i j item number a b =
+    let same : a.0 ≡ b.0 = same_Some a.0 b.0 (sym a.1 ∙ b.1) in
+    (goes_both a.0 i item a.2).0 ∙ ap (λ (st : Stream). st.input) same ∙ sym (goes_both b.0 j item b.2).0
+
+number_in : (p : PlanValue) (i : ℕ) (item : Stamped) (number : ℕ) (found : Option Planned) → planned_stream p.request.streams i (pid_of item.packet) ≡ found
+    → number ≡ unwrap_or (option_map (λ (x : Planned). x.number) found) (length p.request.streams) → is_mapped p i item ≡ true → GoesTo p i item number
+number_in p i item number None found e mapped =
+    absurd (false≢true (sym (unmapped p i item (pid_of item.packet) refl (planned_none p.request.streams i (pid_of item.packet) found)) ∙ mapped))
+number_in p i item number (Some x) found e mapped =
+    let planned = planned_some p.request.streams i (pid_of item.packet) x found in
+    let P : ℕ → Type 0 = GoesTo p i item in
+    subst P (sym e) (planned.stream, planned.there, goes_from planned.stream i item planned.input_is planned.pid_is)
+
+goes_to : (p : PlanValue) (o : OriginValue) (i : ℕ) (item : Stamped) (number : ℕ) → o.number ≡ i → number ≡ stream_number p o item.packet → is_mapped p i item ≡ true → GoesTo p i item number
+goes_to p o i item number is e mapped =
+    let streams = p.request.streams in
+    let P : ℕ → Type 0 = λ k. number ≡ unwrap_or (option_map (λ (x : Planned). x.number) (planned_stream streams k (pid_of item.packet))) (length streams) in
+    number_in p i item number (planned_stream streams i (pid_of item.packet)) refl (subst P is e) mapped
 
 -- and may be taken
 pub may_be_taken : (p : PlanValue) (h : List Event) (i : ℕ) (o : OriginValue) (item : Stamped) → o.number ≡ i → 0 < o.rate → is_closed i h ≡ false → IsInside p o (taken i h ++ item ∷ [])
@@ -202,6 +225,18 @@ next_may_be_taken remaining p h i start x item opened has =
     let least = o.2.rate.0 in
     may_be_taken p h i x.reader.origin item number (omega (arith, rate, least)) opened (inside_given remaining p i start x (taken i h ++ item ∷ []) has)
 
+-- and goes to the stream whose number was looked up
+pub next_goes_to : {R : Type 0} (remaining : R → Option (List ℕ)) (p : PlanValue) (h : List Event) (i : ℕ) (start : Option (List ℕ)) (x : SerialInput R) (item : Stamped) (number : ℕ)
+    → HasGiven remaining p i start x (taken i h ++ item ∷ []) → number ≡ stream_number p x.reader.origin item.packet → GoesTo p i item number
+next_goes_to remaining p h i start x item number has e =
+    let o = has.origin in
+    let is : x.reader.origin.number ≡ i = ap (λ (v : OriginValue). v.number) o.3 in
+    let rate : x.reader.origin.rate ≡ o.0.rate = ap (λ (v : OriginValue). v.rate) o.3 in
+    let least = o.2.rate.0 in
+    let inside = inside_given remaining p i start x (taken i h ++ item ∷ []) has in
+    let next = next_in_order p h i x.reader.origin item inside.0 inside.1 is (omega (arith, rate, least)) inside.3 in
+    goes_to p x.reader.origin i item number is e next.mapped
+
 -- it is closed in the multiplex, where nothing is left of it
 pub feeds_closed : {R : Type 0} (remaining : R → Option (List ℕ)) (p : PlanValue) (h : List Event) (i : ℕ) (start : Option (List ℕ)) (x : SerialInput R)
     → HasGiven remaining p i start x (taken i h) → IsSpent x.reader → IsOwnStop x.reader.report.stopped → Feeds remaining p (Close i ∷ h) i start (record x { is_closed = true })
@@ -252,6 +287,27 @@ feeds_given remaining p before after i start x y item (inr is) held has opened c
     let P : History → Type 0 = λ v. Feeds remaining p v.events i start y in
     let Q : SerialInput _ → Type 0 = Feeds remaining p (Full i is.0 ∷ before.events) i start in
     subst P (sym is.1) (subst Q (sym is.2) (feeds_held remaining p before.events i start x item is.0 held has opened closed own))
+
+-- it is an event of the input, which has the limit and the failures that it had
+
+pub given_event : {R : Type 0} (before after : History) (i : ℕ) (x y : SerialInput R) (item : Stamped) → IsGivenOrHeld before after i x y item
+    → (e : Event) × (after ≡ with_event before e) × IsOfInput i e
+given_event before after i x y item (inl is) = (Took i item, is.0, refl)
+given_event before after i x y item (inr is) = (Full i is.0, is.1, refl)
+
+pub given_limit : {R : Type 0} (before after : History) (i : ℕ) (x y : SerialInput R) (item : Stamped) → IsGivenOrHeld before after i x y item
+    → y.reader.stream.items.limit ≡ x.reader.stream.items.limit
+given_limit before after i x y item (inl is) = ap (λ (v : SerialInput _). v.reader.stream.items.limit) is.1
+given_limit before after i x y item (inr is) = ap (λ (v : SerialInput _). v.reader.stream.items.limit) is.2
+
+pub given_failures : {R : Type 0} (failures : R → ℕ) (count : ℕ) (before after : History) (i : ℕ) (x y : SerialInput R) (item : Stamped) → IsGivenOrHeld before after i x y item
+    → TellsFailures failures count x.reader → TellsFailures failures count y.reader
+given_failures failures count before after i x y item (inl is) tells =
+    let P : SerialInput _ → Type 0 = λ v. TellsFailures failures count v.reader in
+    subst P (sym is.1) (record { unfailed = tells.unfailed; told = tells.told; untold = tells.untold })
+given_failures failures count before after i x y item (inr is) tells =
+    let P : SerialInput _ → Type 0 = λ v. TellsFailures failures count v.reader in
+    subst P (sym is.2) tells
 
 -- there is a turn less
 

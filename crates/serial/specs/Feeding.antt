@@ -86,6 +86,11 @@ IsOfInput i (Slot c) = ⊥
 abbrev pub MayBeTaken : PlanValue → List Event → ℕ → Stamped → Type 0
 MayBeTaken p h i item = (refusal_of p h i item ≡ None) ⊎ (refusal_of p h i item ≡ Some refusals.Full)
 
+-- the item of input i goes to the stream with this number
+abbrev pub GoesTo : PlanValue → ℕ → Stamped → ℕ → Type 0
+GoesTo p i item number =
+    (st : Stream) × (slice_get p.request.streams number ≡ Some st) × (is_mapped_to st i item ≡ true)
+
 -- how often the multiplex may still turn to the input before a slot is sent, at most: no input has more packets than bytes
 abbrev pub turns_left : ℕ → List Event → ℕ
 turns_left i h =

@@ -6,7 +6,7 @@ ghost use Rattle.mux.specs.declared.event.Event.TheVariants as events;
 ghost use Rattle.mux.specs.History.{with_event, is_closed, full_noted};
 ghost use Rattle.mux.specs.Answers.{IsLeastUnready};
 ghost use Rattle.tspkt.specs.declared.stamped.Stamped.{Stamped as GivenPacket};
-ghost use Rattle.serial.specs.Feeding.{Feeds, HasFed, AreLimited, IsOfInput, MayBeTaken, IsGivenOrHeld, AllTellFailures, turns_left};
+ghost use Rattle.serial.specs.Feeding.{Feeds, HasFed, AreLimited, IsOfInput, MayBeTaken, GoesTo, IsGivenOrHeld, AllTellFailures, turns_left};
 ghost use Rattle.serial.specs.Giving.{KeepsOrder, KeepOrder, TakesInOrder};
 ghost use Rattle.reading.specs.declared.stop.Stop.TheVariants.{Memory};
 ghost use Rattle.serial.specs.Running.{AreFed, AreHalted};
@@ -41,12 +41,15 @@ pub(crate) fn pull<R: Source>(
     ensures refused { OnErr result (input.new.reader.report.stopped ≡ Some Memory) }
     ensures err { OnErr result (mux.new ≡ mux.old) }
 {
-    if input.reader.find(mux.plan(), piece)? {
-        give(mux, number, input);
-        Ok(())
-    } else {
-        close(mux, number, input);
-        Ok(())
+    match input.reader.find(mux.plan(), piece)? {
+        Some(stream) => {
+            give(mux, stream, input);
+            Ok(())
+        }
+        None => {
+            close(mux, number, input);
+            Ok(())
+        }
     }
 }
 
@@ -91,17 +94,19 @@ fn close<R: Source>(mux: &mut Mux, number: usize, input: &mut SerialInput<R>)
     input.is_closed = true;
 }
 
-/// Gives the multiplex the packet that an input holds. Where its queue is full it stays held.
-fn give<R: Source>(mux: &mut Mux, number: usize, input: &mut SerialInput<R>)
-    requires number { number < length mux.old.run.plan.request.inputs }
-    requires may { (item : GivenPacket) × (input.old.reader.held ≡ Some item)
-        × MayBeTaken mux.old.run.plan mux.old.events number item }
-    requires noted { full_noted number mux.old.events ≡ false }
-    ensures { (item : GivenPacket) → input.old.reader.held ≡ Some item
+/// Gives the multiplex the packet that an input holds, for the stream with this number, which it goes to. Where the stream's
+/// queue is full it stays held.
+fn give<R: Source>(mux: &mut Mux, stream: usize, input: &mut SerialInput<R>)
+    requires { (number : ℕ) × (item : GivenPacket) × (input.old.reader.held ≡ Some item)
+        × GoesTo mux.old.run.plan number item stream
+        × MayBeTaken mux.old.run.plan mux.old.events number item
+        × (full_noted number mux.old.events ≡ false) }
+    ensures { (number : ℕ) (item : GivenPacket) → input.old.reader.held ≡ Some item
+        → GoesTo mux.old.run.plan number item stream
         → IsGivenOrHeld mux.old mux.new number input.old input.new item }
 {
     let stamped = input.reader.held().unwrap();
-    match mux.offer(number, stamped) {
+    match mux.offer_to(stream, stamped) {
         Offered::Taken => input.reader.release(),
         Offered::Full => {}
         Offered::Closed | Offered::Stranger | Offered::Backward | Offered::Memory => unreachable!(),

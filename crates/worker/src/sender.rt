@@ -70,7 +70,7 @@ impl<R: Source + Drop, G: Gate + Drop> Sender<R, G> {
     {
         for _ in rt.forever() {
             match self.reader.look(&self.plan) {
-                Look::Packet => {
+                Look::Packet(_) => {
                     if !self.send_held(rt) {
                         return false;
                     }

@@ -2,7 +2,6 @@
 
 ghost use Rattle.std.specs.Prelude.{◌≡◌, ◌≢◌, ◌+◌, ◌-◌, ◌*◌, ◌<◌, ◌==◌, true, false, IsOk, IfSome, IfNone, Some, None, length};
 ghost use Rattle.std.specs.List.{slice_get};
-ghost use Rattle.tspkt.specs.Packet.{IsPacket};
 ghost use Rattle.tspkt.specs.declared.stamped.Stamped.{Stamped as TakenPacket};
 ghost use Rattle.request.specs.declared.stream.Stream.{Stream};
 ghost use Rattle.mux.specs.declared.event.Event.{Event};
@@ -30,19 +29,24 @@ impl Mux {
         self.inputs[input]
     }
 
-    /// The stream that the plan maps a packet to, with its index.
-    fn find(&self, input: usize, item: &Stamped) -> Option<(usize, Stream)>
-        ensures found { IfSome result (λ x. (slice_get self.now.run.plan.request.streams x.0 ≡ Some x.1)
-            × (is_mapped_to x.1 input item.now ≡ true)) }
+    /// The index of the stream that the plan maps a packet to.
+    fn find(&self, input: usize, item: &Stamped) -> Option<usize>
+        ensures found { IfSome result (λ index. (stream : Stream)
+            × (slice_get self.now.run.plan.request.streams index ≡ Some stream)
+            × (is_mapped_to stream input item.now ≡ true)) }
         ensures none { IfNone result (is_mapped self.now.run.plan input item.now ≡ false) }
-        ensures packet { IsPacket item.now.packet }
+    {
+        let found = self.plan.lookup(input, item.packet.pid())?;
+        Some(found.number)
+    }
+
+    /// The stream with this index.
+    fn stream(&self, index: usize) -> Stream
+        requires { index < length self.now.run.plan.request.streams }
+        ensures there { slice_get self.now.run.plan.request.streams index ≡ Some result }
         ensures plan { IsMultiplexPlan self.now.run.plan }
     {
-        let _ = item.packet.bytes();
-        match self.plan.lookup(input, item.packet.pid()) {
-            None => None,
-            Some(found) => Some((found.number, self.plan.streams()[found.number])),
-        }
+        self.plan.streams()[index]
     }
 
     /// Whether the queue of a stream is full.
@@ -92,13 +96,30 @@ impl Mux {
         ensures run { self.new.run ≡ self.old.run }
         ensures unrefused { result ≢ Offered.Memory }
     {
-        let state = self.state(input);
+        match self.find(input, item) {
+            Some(index) => self.offer_to(index, item),
+            None if self.state(input).closed => Offered::Closed,
+            None => Offered::Stranger,
+        }
+    }
+
+    /// Takes a packet as `offer` does, without a look-up: by the index in the plan of the stream that the packet's PID is
+    /// mapped to, whose input it comes from. So it is never a `Stranger`.
+    pub fn offer_to(&mut self, index: usize, item: &Stamped) -> Offered
+        requires { (stream : Stream) × (slice_get self.old.run.plan.request.streams index ≡ Some stream)
+            × (is_mapped_to stream stream.input item.now ≡ true) }
+        ensures answer { (stream : Stream) → slice_get self.old.run.plan.request.streams index ≡ Some stream
+            → OfferAnswers self.old stream.input item.now result self.new }
+        ensures run { self.new.run ≡ self.old.run }
+        ensures mapped { result ≢ Offered.Stranger }
+        ensures unrefused { result ≢ Offered.Memory }
+    {
+        let _ = item.packet.bytes();
+        let stream = self.stream(index);
+        let state = self.state(stream.input);
         if state.closed {
             return Offered::Closed;
         }
-        let Some((index, stream)) = self.find(input, item) else {
-            return Offered::Stranger;
-        };
         if item.stamp < state.last_stamp {
             return Offered::Backward;
         }

@@ -114,7 +114,7 @@ fn times(alloc: Global, step: usize, fails_at: usize) -> Result<(Vec<u64>, Repor
     let mut times = Vec::new(alloc);
     let mut piece = [0; 1000];
     for _ in 0..10 {
-        if input.find(&plan, &mut piece)? {
+        if input.find(&plan, &mut piece)?.is_some() {
             if let Some(found) = input.held() {
                 times.push(found.stamp)?;
             }

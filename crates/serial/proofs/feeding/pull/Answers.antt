@@ -1,91 +1,147 @@
-use Rattle.std.proofs.Common.{◌∙◌, refl, ap, sym, subst, Ok}
+use Rattle.std.proofs.Common.{◌∙◌, ◌≡◌, ℕ, List, refl, ap, sym, subst, Ok, Some, None}
+use Rattle.std.specs.Prelude.{Option, IfSome}
 use Rattle.std.proofs.lemmas.Bool.{false≢true}
 use Rattle.serial.proofs.SendingLaws.{on_err_always}
+use Rattle.tspkt.specs.declared.stamped.Stamped.{Stamped}
 use Rattle.plan.specs.Build.{PlanValue}
 use Rattle.mux.specs.History.{History, taken}
 use Rattle.serial.specs.declared.serial_input.SerialInput.{SerialInput}
 use Rattle.reading.specs.PacketReading.{ReadsOn}
-use Rattle.serial.specs.Feeding.{Feeds}
+use Rattle.reading.specs.Takeable.{stream_number}
+use Rattle.serial.specs.Feeding.{Feeds, GoesTo}
 use Rattle.reading.specs.declared.packet_reader.PacketReader.{PacketReader}
 use Rattle.serial.proofs.GivingLaws.{order_given, order_closed, order_refused}
-use Rattle.serial.proofs.FeedingLaws.{given_on, given_released, some_held, waited_for, next_may_be_taken, feeds_closed, feeds_given, fewer, few_given}
+use Rattle.serial.proofs.FeedingLaws.{given_on, given_released, some_held, waited_for, next_may_be_taken, next_goes_to, feeds_closed, feeds_given, given_event, given_limit, given_failures, fewer, few_given}
 use Rattle.serial.proofs.feeding.pull.Goals as goal
 
-pub give-requires-clause-may : goal.give-requires-clause-may
-give-requires-clause-may g c =
-    let h = c.args.mux.now in
-    let i = c.args.number in
-    let x = record c.args.input.now { reader = c.find.new.self } in
-    let feeds = c.requires.feeds in
-    let item = some_held x.reader.held (c.find.ensures.found (c.in_ok-find.was ∙ ap Ok c.if-branch.true)) in
-    let wait = waited_for h.run.plan i h.events c.requires.unready.unready in
-    let given = given_on g.R.Source.remaining c.args.mux.now.run.plan i feeds.0 c.args.input.now x (taken i h.events) feeds.1.given (subst (λ (v : PlanValue). ReadsOn g.R.Source.remaining v c.args.input.now.reader c.find.new.self) c.plan.ensures c.find.ensures.read) c.find.ensures.goes.origin c.find.ensures.goes.limit in
-    let released = given_released g.R.Source.remaining c.args.mux.now.run.plan i feeds.0 x (taken i h.events) item.0 item.1 given in
-    (item.0, item.1, next_may_be_taken g.R.Source.remaining c.args.mux.now.run.plan h.events i feeds.0 _ item.0 wait.open_ released.0)
+-- the packet that is held goes to the stream that was found
+found_stream : {R : Type 0} (remaining : R → Option (List ℕ)) (h : History) (p : PlanValue) (i stream : ℕ) (old : SerialInput R) (reader : PacketReader R) (item : Stamped)
+    → p ≡ h.run.plan → reader.held ≡ Some item → IfSome reader.held (λ held. stream ≡ stream_number p reader.origin held.packet)
+    → ((start : Option (List ℕ)) × Feeds remaining h.run.plan h.events i start old) → ReadsOn remaining p old.reader reader → reader.origin ≡ old.reader.origin
+    → reader.stream.items.limit ≡ old.reader.stream.items.limit → GoesTo h.run.plan i item stream
+found_stream remaining h p i stream old reader item same held number feeds read origin limit =
+    let x = record old { reader = reader } in
+    let here = subst (λ (v : PlanValue). ReadsOn remaining v old.reader reader) same read in
+    let given = given_on remaining h.run.plan i feeds.0 old x (taken i h.events) feeds.1.given here origin limit in
+    let released = given_released remaining h.run.plan i feeds.0 x (taken i h.events) item held given in
+    let P : PlanValue → Option Stamped → Type 0 = λ v o. IfSome o (λ taken. stream ≡ stream_number v reader.origin taken.packet) in
+    let number_is = subst (λ (v : PlanValue). P v (Some item)) same (subst (P p) held number) in
+    next_goes_to remaining h.run.plan h.events i feeds.0 (record x { reader = record reader { held = None } }) item stream released.0 number_is
 
-pub returns-then-branch-clause-feeds : goal.returns-then-branch-clause-feeds
-returns-then-branch-clause-feeds g c =
+pub give-requires : goal.give-requires
+give-requires g c =
+    let h = c.args.mux.now in
+    let i = c.args.number in
+    let old = c.args.input.now in
+    let x = record old { reader = c.find.new.self } in
+    let feeds = c.requires.feeds in
+    let found = c.in_ok-stream.was ∙ ap Ok c.in-Some.is in
+    let item = some_held x.reader.held (c.find.ensures.found c.in-Some.stream found) in
+    let goes = found_stream g.R.Source.remaining h _ i c.in-Some.stream old c.find.new.self item.0 c.plan.ensures item.1 (c.find.ensures.number c.in-Some.stream found) feeds c.find.ensures.read c.find.ensures.goes.origin c.find.ensures.goes.limit in
+    let wait = waited_for h.run.plan i h.events c.requires.unready.unready in
+    let given = given_on g.R.Source.remaining h.run.plan i feeds.0 old x (taken i h.events) feeds.1.given (subst (λ (v : PlanValue). ReadsOn g.R.Source.remaining v old.reader c.find.new.self) c.plan.ensures c.find.ensures.read) c.find.ensures.goes.origin c.find.ensures.goes.limit in
+    let released = given_released g.R.Source.remaining h.run.plan i feeds.0 x (taken i h.events) item.0 item.1 given in
+    (i, item.0, item.1, goes, next_may_be_taken g.R.Source.remaining h.run.plan h.events i feeds.0 _ item.0 wait.open_ released.0, wait.noted)
+
+pub returns-in-Some-clause-feeds : goal.returns-in-Some-clause-feeds
+returns-in-Some-clause-feeds g c =
     let h = c.args.mux.now in
     let i = c.args.number in
     let x = record c.args.input.now { reader = c.find.new.self } in
-    let item = some_held x.reader.held (c.find.ensures.found (c.in_ok-find.was ∙ ap Ok c.if-branch.true)) in
+    let found = c.in_ok-stream.was ∙ ap Ok c.in-Some.is in
+    let item = some_held x.reader.held (c.find.ensures.found c.in-Some.stream found) in
+    let goes = found_stream g.R.Source.remaining h _ i c.in-Some.stream c.args.input.now c.find.new.self item.0 c.plan.ensures item.1 (c.find.ensures.number c.in-Some.stream found) c.requires.feeds c.find.ensures.read c.find.ensures.goes.origin c.find.ensures.goes.limit in
     let wait = waited_for h.run.plan i h.events c.requires.unready.unready in
     λ start feeds.
-    feeds_given g.R.Source.remaining c.args.mux.now.run.plan h c.give.new.mux i start x c.give.new.input item.0 (c.give.ensures item.0 item.1) item.1
+    feeds_given g.R.Source.remaining c.args.mux.now.run.plan h c.give.new.mux i start x c.give.new.input item.0 (c.give.ensures i item.0 item.1 goes) item.1
     (given_on g.R.Source.remaining c.args.mux.now.run.plan i start c.args.input.now x (taken i h.events) feeds.given (subst (λ (v : PlanValue). ReadsOn g.R.Source.remaining v c.args.input.now.reader c.find.new.self) c.plan.ensures c.find.ensures.read) c.find.ensures.goes.origin c.find.ensures.goes.limit)
-    wait.open_ feeds.closed (record { unleft = λ e. feeds.own.unleft (c.find.ensures.goes.unleft e); unrefused = λ e. feeds.own.unrefused (c.in_ok-find.ensures.unrefused e) })
+    wait.open_ feeds.closed (record { unleft = λ e. feeds.own.unleft (c.find.ensures.goes.unleft e); unrefused = λ e. feeds.own.unrefused (c.in_ok-stream.ensures.unrefused e) })
 
-pub returns-then-branch-clause-fewer : goal.returns-then-branch-clause-fewer
-returns-then-branch-clause-fewer g c =
+pub returns-in-Some-clause-event : goal.returns-in-Some-clause-event
+returns-in-Some-clause-event g c =
+    let h = c.args.mux.now in
+    let i = c.args.number in
+    let x = record c.args.input.now { reader = c.find.new.self } in
+    let found = c.in_ok-stream.was ∙ ap Ok c.in-Some.is in
+    let item = some_held x.reader.held (c.find.ensures.found c.in-Some.stream found) in
+    let goes = found_stream g.R.Source.remaining h _ i c.in-Some.stream c.args.input.now c.find.new.self item.0 c.plan.ensures item.1 (c.find.ensures.number c.in-Some.stream found) c.requires.feeds c.find.ensures.read c.find.ensures.goes.origin c.find.ensures.goes.limit in
+    given_event h c.give.new.mux i x c.give.new.input item.0 (c.give.ensures i item.0 item.1 goes)
+
+pub returns-in-Some-clause-limit : goal.returns-in-Some-clause-limit
+returns-in-Some-clause-limit g c =
+    let h = c.args.mux.now in
+    let i = c.args.number in
+    let x = record c.args.input.now { reader = c.find.new.self } in
+    let found = c.in_ok-stream.was ∙ ap Ok c.in-Some.is in
+    let item = some_held x.reader.held (c.find.ensures.found c.in-Some.stream found) in
+    let goes = found_stream g.R.Source.remaining h _ i c.in-Some.stream c.args.input.now c.find.new.self item.0 c.plan.ensures item.1 (c.find.ensures.number c.in-Some.stream found) c.requires.feeds c.find.ensures.read c.find.ensures.goes.origin c.find.ensures.goes.limit in
+    given_limit h c.give.new.mux i x c.give.new.input item.0 (c.give.ensures i item.0 item.1 goes) ∙ c.find.ensures.goes.limit
+
+pub returns-in-Some-clause-failures : goal.returns-in-Some-clause-failures
+returns-in-Some-clause-failures g c =
+    let h = c.args.mux.now in
+    let i = c.args.number in
+    let x = record c.args.input.now { reader = c.find.new.self } in
+    let found = c.in_ok-stream.was ∙ ap Ok c.in-Some.is in
+    let item = some_held x.reader.held (c.find.ensures.found c.in-Some.stream found) in
+    let goes = found_stream g.R.Source.remaining h _ i c.in-Some.stream c.args.input.now c.find.new.self item.0 c.plan.ensures item.1 (c.find.ensures.number c.in-Some.stream found) c.requires.feeds c.find.ensures.read c.find.ensures.goes.origin c.find.ensures.goes.limit in
+    λ count tells. given_failures g.R.Source.failures count h c.give.new.mux i x c.give.new.input item.0 (c.give.ensures i item.0 item.1 goes) (c.find.ensures.goes.failures_told count tells)
+
+pub returns-in-Some-clause-fewer : goal.returns-in-Some-clause-fewer
+returns-in-Some-clause-fewer g c =
     let h = c.args.mux.now in
     let i = c.args.number in
     let x = record c.args.input.now { reader = c.find.new.self } in
     let feeds = c.requires.feeds in
-    let item = some_held x.reader.held (c.find.ensures.found (c.in_ok-find.was ∙ ap Ok c.if-branch.true)) in
+    let found = c.in_ok-stream.was ∙ ap Ok c.in-Some.is in
+    let item = some_held x.reader.held (c.find.ensures.found c.in-Some.stream found) in
+    let goes = found_stream g.R.Source.remaining h _ i c.in-Some.stream c.args.input.now c.find.new.self item.0 c.plan.ensures item.1 (c.find.ensures.number c.in-Some.stream found) c.requires.feeds c.find.ensures.read c.find.ensures.goes.origin c.find.ensures.goes.limit in
     let wait = waited_for h.run.plan i h.events c.requires.unready.unready in
     let given = given_on g.R.Source.remaining c.args.mux.now.run.plan i feeds.0 c.args.input.now x (taken i h.events) feeds.1.given (subst (λ (v : PlanValue). ReadsOn g.R.Source.remaining v c.args.input.now.reader c.find.new.self) c.plan.ensures c.find.ensures.read) c.find.ensures.goes.origin c.find.ensures.goes.limit in
     let released = given_released g.R.Source.remaining c.args.mux.now.run.plan i feeds.0 x (taken i h.events) item.0 item.1 given in
-    fewer h c.give.new.mux i x c.give.new.input item.0 (c.give.ensures item.0 item.1) (few_given g.R.Source.remaining c.args.mux.now.run.plan i feeds.0 _ _ released.0) wait.noted
+    fewer h c.give.new.mux i x c.give.new.input item.0 (c.give.ensures i item.0 item.1 goes) (few_given g.R.Source.remaining c.args.mux.now.run.plan i feeds.0 _ _ released.0) wait.noted
 
-pub returns-else-branch-clause-feeds : goal.returns-else-branch-clause-feeds
-returns-else-branch-clause-feeds g c =
+pub returns-in-None-clause-feeds : goal.returns-in-None-clause-feeds
+returns-in-None-clause-feeds g c =
     let h = c.args.mux.now in
     let i = c.args.number in
     let x = record c.args.input.now { reader = c.find.new.self } in
-    let done = c.find.ensures.done (c.in_ok-find.was ∙ ap Ok c.if-branch.false) in
+    let done = c.find.ensures.done (c.in_ok-stream.was ∙ ap Ok c.in-None.is) in
     λ start feeds.
     let given = given_on g.R.Source.remaining c.args.mux.now.run.plan i start c.args.input.now x (taken i h.events) feeds.given (subst (λ (v : PlanValue). ReadsOn g.R.Source.remaining v c.args.input.now.reader c.find.new.self) c.plan.ensures c.find.ensures.read) c.find.ensures.goes.origin c.find.ensures.goes.limit in
     let M : History → Type 0 = λ v. Feeds g.R.Source.remaining c.args.mux.now.run.plan v.events i start c.close.new.input in
     let N : SerialInput _ → Type 0 = Feeds g.R.Source.remaining c.args.mux.now.run.plan _ i start in
     subst M (sym c.close.ensures.closed) (subst N (sym c.close.ensures.input) (feeds_closed g.R.Source.remaining c.args.mux.now.run.plan h.events i start x given done
-    (record { unleft = λ e. feeds.own.unleft (c.find.ensures.goes.unleft e); unrefused = λ e. feeds.own.unrefused (c.in_ok-find.ensures.unrefused e) })))
+    (record { unleft = λ e. feeds.own.unleft (c.find.ensures.goes.unleft e); unrefused = λ e. feeds.own.unrefused (c.in_ok-stream.ensures.unrefused e) })))
 
-pub returns-then-branch-clause-order : goal.returns-then-branch-clause-order
-returns-then-branch-clause-order g c =
+pub returns-in-Some-clause-order : goal.returns-in-Some-clause-order
+returns-in-Some-clause-order g c =
     let h = c.args.mux.now in
     let i = c.args.number in
     let old = c.args.input.now in
     let x = record old { reader = c.find.new.self } in
     let feeds = c.requires.feeds in
-    let item = some_held x.reader.held (c.find.ensures.found (c.in_ok-find.was ∙ ap Ok c.if-branch.true)) in
+    let found = c.in_ok-stream.was ∙ ap Ok c.in-Some.is in
+    let item = some_held x.reader.held (c.find.ensures.found c.in-Some.stream found) in
+    let goes = found_stream g.R.Source.remaining h _ i c.in-Some.stream c.args.input.now c.find.new.self item.0 c.plan.ensures item.1 (c.find.ensures.number c.in-Some.stream found) c.requires.feeds c.find.ensures.read c.find.ensures.goes.origin c.find.ensures.goes.limit in
     let wait = waited_for h.run.plan i h.events c.requires.unready.unready in
-    order_given i h c.give.new.mux old x c.give.new.input item.0 (c.give.ensures item.0 item.1) item.1
+    order_given i h c.give.new.mux old x c.give.new.input item.0 (c.give.ensures i item.0 item.1 goes) item.1
     (λ some. ap (λ (v : PacketReader _). v.held) (sym (c.find.ensures.stays some)) ∙ item.1) (feeds.1.closed ∙ wait.open_)
 
-pub returns-else-branch-clause-order : goal.returns-else-branch-clause-order
-returns-else-branch-clause-order g c =
+pub returns-in-None-clause-order : goal.returns-in-None-clause-order
+returns-in-None-clause-order g c =
     let h = c.args.mux.now in
     let i = c.args.number in
     let old = c.args.input.now in
     let x = record old { reader = c.find.new.self } in
     let feeds = c.requires.feeds in
-    let done = c.find.ensures.done (c.in_ok-find.was ∙ ap Ok c.if-branch.false) in
+    let done = c.find.ensures.done (c.in_ok-stream.was ∙ ap Ok c.in-None.is) in
     let wait = waited_for h.run.plan i h.events c.requires.unready.unready in
     order_closed i h c.close.new.mux old x c.close.new.input c.close.ensures.closed c.close.ensures.input
     (λ some. ap (λ (v : PacketReader _). v.held) (sym (c.find.ensures.stays some)) ∙ done.held) (feeds.1.closed ∙ wait.open_)
 
-pub returns-in_err-find-clause-order : goal.returns-in_err-find-clause-order
-returns-in_err-find-clause-order g c =
+pub returns-in_err-stream-clause-order : goal.returns-in_err-stream-clause-order
+returns-in_err-stream-clause-order g c =
     let h = c.args.mux.now in
     let i = c.args.number in
     let old = c.args.input.now in
@@ -94,8 +150,8 @@ returns-in_err-find-clause-order g c =
     order_refused i h.events h.events old (record old { reader = c.find.new.self }) refl
     (λ some. ap (λ (v : PacketReader _). v.held) (sym (c.find.ensures.stays some))) (feeds.1.closed ∙ wait.open_)
 
-pub returns-in_err-find-clause-given : goal.returns-in_err-find-clause-given
-returns-in_err-find-clause-given g c =
+pub returns-in_err-stream-clause-given : goal.returns-in_err-stream-clause-given
+returns-in_err-stream-clause-given g c =
     let h = c.args.mux.now in
     let i = c.args.number in
     let old = c.args.input.now in

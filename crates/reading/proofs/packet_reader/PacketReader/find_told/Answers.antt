@@ -21,10 +21,10 @@ none_ahead (x ∷ xs) first none is = let bad : None ≡ Some x = ap option_copi
 pub returns-clause-none : goal.returns-clause-none
 returns-clause-none g c = λ e. none_ahead c.loop-item.self.stream.items.ahead c.peek.result c.in_default.is c.peek.ensures.item
 
-pub returns-then-is_named-clause-read : goal.returns-then-is_named-clause-read
-returns-then-is_named-clause-read g c = λ bytes given h.
+pub returns-then-is_some-clause-read : goal.returns-then-is_some-clause-read
+returns-then-is_some-clause-read g c = λ bytes given h.
     let s = c.loop-item.self in
-    let look = c.classify-is_named in
+    let look = c.classify-number in
     let k = c.loop-item.invariant.read bytes given h in
     let item = c.in-Some.item.now in
     let first = sym c.in-Some.ensures.item in
@@ -37,7 +37,7 @@ returns-then-is_named-clause-read g c = λ bytes given h.
 
 pub loop-item-preserved : goal.loop-item-preserved
 loop-item-preserved g c =
-    let look = c.classify-is_named in
+    let look = c.classify-number in
     let s = c.loop-item.self in
     let kept = c.loop-item.invariant in
     record {
@@ -51,7 +51,7 @@ loop-item-preserved g c =
             subst P (sym look.ensures.origin)
                 (looked_on g.R.Source.remaining c.args.plan.now s.origin s.stream c.pass.new.self item s.held look.new.held s.report look.new.report bytes given k.0 c.peek.ensures.within kept.held first look.ensures.held look.ensures.counts passed k.1),
           );
-      held = none_of look.new.held (sym c.if-is_named.false ∙ look.ensures.found);
+      held = none_of look.new.held (sym c.if-is_some.false ∙ c.is_some.ensures ∙ look.ensures.found);
       origin = look.ensures.origin ∙ kept.origin;
       source = ap (λ (v : StreamReader _). v.source) c.pass.ensures.items ∙ kept.source;
       limit = ap (λ (v : StreamReader _). v.items.limit) c.pass.ensures.items ∙ kept.limit;

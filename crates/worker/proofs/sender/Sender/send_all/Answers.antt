@@ -81,7 +81,7 @@ pub returns-then-not-send_held-clause-unfailed : goal.returns-then-not-send_held
 returns-then-not-send_held-clause-unfailed g c e start sent failed =
     let l = c.loop.self in
     unfailed_found g.R.Source.remaining l c.look.new.self start (c.loop.invariant.sent.sent start sent) c.loop.invariant.held c.look.ensures.read c.look.ensures.goes.origin c.look.ensures.stopped
-    (c.look.ensures.found (search rules)) (sym c.send_held.ensures.stopped ∙ failed)
+    (c.look.ensures.found _ c.in-Packet.is) (sym c.send_held.ensures.stopped ∙ failed)
 
 pub returns-then-not-pass-clause-unfailed : goal.returns-then-not-pass-clause-unfailed
 returns-then-not-pass-clause-unfailed g c e start sent failed =
