@@ -1,6 +1,6 @@
 //! The runs of a plan: in threads, and in one thread alone.
 
-ghost use Rattle.std.specs.Prelude.{◌≡◌, ◌^◌, ◌≤◌, List, true, false, length, map, Err, IfOk, IfErr, OnOk, OnErr};
+ghost use Rattle.std.specs.Prelude.{◌≡◌, ◌⊎◌, ◌^◌, ◌≤◌, List, true, false, length, map, Err, IfOk, IfErr, OnOk};
 ghost use Rattle.tspkt.specs.declared.framer.TheConstants.{MAX_LIMIT};
 ghost use Rattle.mux.specs.declared.event.Event.{Event};
 ghost use Rattle.mux.specs.Plans.{IsMultiplexPlan};
@@ -23,8 +23,8 @@ use threaded::run_threads;
 /// `limit` bytes of each (up to 140,737,488,355,328), and writes the packet of each slot, at most so many slots (0 to 2^40).
 ///
 /// The writer comes back, and without a fault what became of the run and the readers, in their order. `Memory` is answered where
-/// memory or a thread was refused, and no write failed before, and `Write` where a write failed; what was written is then a
-/// beginning of a sound multiplex.
+/// memory or a thread was refused, and no write failed before, and by a run in threads also where a write failed and an input wanted
+/// memory; `Write` where a write failed and no input did. What was written is then a beginning of a sound multiplex.
 pub(crate) fn run_plan<
     T: Threads + Wait + Clock + Copy + Send + Drop + 'static,
     R: Source + Send + Drop + 'static,
@@ -55,14 +55,16 @@ pub(crate) fn run_plan<
         × HasBegunInOneThread R.remaining R.failures (record { run = record { plan = plan; limit = slots }; events = h }) limit
         readers.items (W.contents writer) (W.contents result.0) fault
         × TakesAsNeeded (record { plan = plan; limit = slots }) h) }
-    ensures threads_begins { is_serial ≡ false → OnErr result.1 ((h : List Event)
+    ensures threads_begins { is_serial ≡ false → IfErr result.1 (λ fault. (h : List Event)
         × HasBegunInThreads R.remaining R.failures (record { run = record { plan = plan; limit = slots }; events = h }) limit
-        readers.items (W.contents writer) (W.contents result.0)) }
+        readers.items (W.contents writer) (W.contents result.0) (W.failures writer) (W.failures result.0) fault) }
     ensures readers { IfOk result.1 (λ done. length done.1.items ≡ length readers.items) }
     ensures read_failed { IfOk result.1 (λ done.
         FailuresAreTold R.failures readers.items done.1.items done.0.inputs.items) }
     ensures wrote { OnOk result.1 (W.failures result.0 ≡ W.failures writer) }
-    ensures memory { result.1 ≡ Err RunFault.Memory → W.failures result.0 ≡ W.failures writer }
+    ensures serial_memory { is_serial ≡ true → result.1 ≡ Err RunFault.Memory → W.failures result.0 ≡ W.failures writer }
+    ensures threads_memory { is_serial ≡ false → result.1 ≡ Err RunFault.Memory → (W.failures result.0 ≡ W.failures writer)
+        ⊎ FailsOnce (W.failures writer) (W.failures result.0) }
     ensures write_failed { result.1 ≡ Err RunFault.Write → FailsOnce (W.failures writer) (W.failures result.0) }
 {
     if is_serial {
@@ -101,14 +103,15 @@ fn run_in_threads<
         × HasRunInThreads (record { run = record { plan = plan; limit = slots }; events = h }) limit
         (map R.remaining readers.items) (map R.remaining done.1.items)
         (W.contents writer) (W.contents result.0) done.0) }
-    ensures begins { OnErr result.1 ((h : List Event)
+    ensures begins { IfErr result.1 (λ fault. (h : List Event)
         × HasBegunInThreads R.remaining R.failures (record { run = record { plan = plan; limit = slots }; events = h }) limit
-        readers.items (W.contents writer) (W.contents result.0)) }
+        readers.items (W.contents writer) (W.contents result.0) (W.failures writer) (W.failures result.0) fault) }
     ensures readers { IfOk result.1 (λ done. length done.1.items ≡ length readers.items) }
     ensures read_failed { IfOk result.1 (λ done.
         FailuresAreTold R.failures readers.items done.1.items done.0.inputs.items) }
     ensures wrote { OnOk result.1 (W.failures result.0 ≡ W.failures writer) }
-    ensures memory { result.1 ≡ Err RunFault.Memory → W.failures result.0 ≡ W.failures writer }
+    ensures memory { result.1 ≡ Err RunFault.Memory → (W.failures result.0 ≡ W.failures writer)
+        ⊎ FailsOnce (W.failures writer) (W.failures result.0) }
     ensures write_failed { result.1 ≡ Err RunFault.Write → FailsOnce (W.failures writer) (W.failures result.0) }
 {
     known(&plan);

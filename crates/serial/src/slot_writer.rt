@@ -59,6 +59,7 @@ impl SlotWriter {
     /// Analyses a packet and writes it. At want of memory the packet isn't taken: nothing is written, and what waits and what is
     /// said of the faults are as they were; each later packet is refused for want of memory too. At a failed write the packet was
     /// analysed, and nothing waits.
+    /// After a failed write it goes on: what wasn't written of what waited and of this packet is lost, and a later one comes behind.
     pub fn put<W: Sink>(&mut self, packet: &Packet, sink: &mut W) -> Result<(), RunFault>
         ensures analysed { OnOk result ((rate period : ℕ) (slots : List (List ℕ))
             → HasAnalysed self.old rate period slots
@@ -107,6 +108,7 @@ impl SlotWriter {
     }
 
     /// Writes what is in the buffer.
+    /// After a failed write it goes on: what wasn't written is lost, and a later packet comes behind what was.
     pub fn flush<W: Sink>(&mut self, sink: &mut W) -> Result<(), RunFault>
         ensures stays { self.new ≡ record self.old { writer = [] } }
         ensures ok { OnOk result (Appends (W.contents sink.old) (W.contents sink.new) self.old.writer) }

@@ -1,5 +1,5 @@
 -- The inputs of a run that fails.
-use Rattle.std.proofs.Common.{◌≡◌, ℕ, List, [], length, map, Option, Some, None, option_map, refl, ap, ◌∙◌, sym, subst, inl, arith}
+use Rattle.std.proofs.Common.{◌≡◌, ◌⊎◌, ℕ, List, [], length, map, Option, Some, None, option_map, refl, ap, ◌∙◌, sym, subst, inl, inr, arith}
 use Rattle.std.specs.List.{slice_get, zip}
 use Rattle.std.proofs.KnownBytes.{Consumes-nil}
 use Rattle.std.proofs.lemmas.List.{length-map}
@@ -16,15 +16,18 @@ use Rattle.mux.specs.Lawful.{IsLawful}
 use Rattle.mux.specs.Plans.{IsMultiplexPlan}
 use Rattle.reading.specs.Takeable.{origin_of, takeable}
 use Rattle.reading.specs.declared.stop.Stop.{Stop}
-use Rattle.reading.specs.declared.stop.Stop.TheVariants.{ReadFailed, TooMuch}
+use Rattle.reading.specs.declared.stop.Stop.TheVariants.{ReadFailed, TooMuch, Memory}
 use Rattle.serial.specs.Feeding.{AreKnown}
 use Rattle.serial.specs.Outcome.{IsFailureTold, FailuresAreTold}
 use Rattle.serial.specs.Sending.{bytes_of}
+use Rattle.serial.specs.declared.run_fault.RunFault.{RunFault}
+use Rattle.serial.specs.declared.run_fault.RunFault.TheVariants as run_faults
 use Rattle.serial.specs.declared.summary.InputSummary.{InputSummary}
 use Rattle.serial.specs.declared.summary.Summary.{Summary}
 use Rattle.serial.proofs.OpeningLaws.{from_map}
 use Rattle.serial.proofs.OutcomeLaws.{all_begun}
 use Rattle.station.specs.Stations.{StationValue, IsLawfulStation}
+use Rattle.threaded.specs.Crews.{HadMemory, WantedMemory}
 use Rattle.threaded.specs.Giving.{TakesWhatCame}
 use Rattle.threaded.specs.Outcome.{HasRun, HasBegun, IsLeft}
 use Rattle.threaded.specs.declared.ended.Ended.{Ended}
@@ -33,8 +36,9 @@ use Rattle.threaded.proofs.ComingLaws.{CameOf, takes_what_came, unread_takes}
 use Rattle.threaded.proofs.InputsLaws.{IsServedAt, served_input}
 use Rattle.threaded.proofs.SummaryLaws.{left_unclosed, taken_begins}
 
--- readers as a run may leave them, what stopped their workers, and what the history took of them
-pub record AreLeft {R : Type 0} (remaining : R → Option (List ℕ)) (failures : R → ℕ) (limit : ℕ) (p : PlanValue) (h : List Event) (readers : List R) : Type 0 where
+-- Readers as a run may leave them, what stopped their workers, and what the history took of them. The run failed with this fault;
+-- so many writes had failed before it, and so many after it.
+pub record AreLeft {R : Type 0} (remaining : R → Option (List ℕ)) (failures : R → ℕ) (limit : ℕ) (p : PlanValue) (h : List Event) (readers : List R) (failed_before failed_after : ℕ) (fault : RunFault) : Type 0 where
   pub lefts : List (R × Option Stop)
   pub count : length lefts ≡ length readers
   pub left : (i : ℕ) (input : InputValue) (old : R) (left : R × Option Stop)
@@ -42,6 +46,9 @@ pub record AreLeft {R : Type 0} (remaining : R → Option (List ℕ)) (failures 
       → IsLeft remaining failures limit p h i input old left
   pub faithful : AreKnown (map remaining readers)
       → TakesWhatCame p (map remaining readers) (map (λ left. remaining left.0) lefts) (map (λ left. left.1) lefts) h
+  pub refused : (i : ℕ) (left : R × Option Stop) → slice_get lefts i ≡ Some left → left.1 ≡ Some Memory → fault ≡ run_faults.Memory
+  pub wanted : fault ≡ run_faults.Memory → (failed_after ≡ failed_before)
+      ⊎ ((i : ℕ) × (left : R × Option Stop) × (slice_get lefts i ≡ Some left) × (left.1 ≡ Some Memory))
 
 -- Readers of which nothing was read.
 
@@ -59,8 +66,9 @@ left_unread remaining failures limit p i input reader = record {
   unclosed = λ e. refl;
 }
 
-pub nothing_left : {R : Type 0} (remaining : R → Option (List ℕ)) (failures : R → ℕ) (limit : ℕ) (p : PlanValue) (readers : List R) → AreLeft remaining failures limit p [] readers
-nothing_left {R} remaining failures limit p readers =
+pub nothing_left : {R : Type 0} (remaining : R → Option (List ℕ)) (failures : R → ℕ) (limit : ℕ) (p : PlanValue) (readers : List R) (failed_before failed_after : ℕ) (fault : RunFault) → failed_after ≡ failed_before
+    → AreLeft remaining failures limit p [] readers failed_before failed_after fault
+nothing_left {R} remaining failures limit p readers failed_before failed_after fault unfailed =
     let one : R → R × Option Stop = unread in
     let stop : R × Option Stop → Option Stop = λ left. left.1 in
     record {
@@ -74,6 +82,8 @@ nothing_left {R} remaining failures limit p readers =
       faithful = λ known.
           unread_takes p (map remaining readers) (map (λ left. remaining left.0) (map one readers)) (map stop (map one readers))
           (λ i stopped at. (let l = from_map stop (map one readers) i stopped at in let r = from_map one readers i l.0 l.1 in sym (ap stop r.2 ∙ l.2)));
+      refused = λ i left to stopped. (let l = from_map one readers i left to in absurd (none-some Memory (ap stop l.2 ∙ stopped)));
+      wanted = λ is. inl unfailed;
     }
 
 -- Readers that workers read.
@@ -142,8 +152,9 @@ module _ {R G : Type 0} (remaining : R → Option (List ℕ)) (failures : R → 
         wanted = λ e. stop_is ∙ ap Some e;
       }
 
-  pub all_left : length ended ≡ length readers → AreLeft remaining failures limit p station.history.events readers
-  all_left size =
+  pub all_left : (failed_before failed_after : ℕ) (fault : RunFault) → length ended ≡ length readers → (HadMemory ended ⊎ (fault ≡ run_faults.Memory))
+      → (fault ≡ run_faults.Memory → (failed_after ≡ failed_before) ⊎ WantedMemory ended) → AreLeft remaining failures limit p station.history.events readers failed_before failed_after fault
+  all_left failed_before failed_after fault size had wanted =
       let one : Ended R G → R × Option Stop = left_of in
       record {
         lefts = lefts;
@@ -153,13 +164,19 @@ module _ {R G : Type 0} (remaining : R → Option (List ℕ)) (failures : R → 
             let plan : IsMultiplexPlan p = subst IsMultiplexPlan plan_is sound.plan in
             let lawful : IsLawful p station.history.events = subst (λ v. IsLawful v station.history.events) plan_is sound.run.lawful in
             takes_what_came remaining limit p station starts lefts_of stops came_of plan lawful known;
+        refused = λ i left to stopped.
+            let e = from_map one ended i left to in
+            let mine : e.0.report.stopped ≡ Some Memory = ap (λ (v : R × Option Stop). v.1) e.2 ∙ stopped in
+            elim had [ inl all ↦ absurd (all i e.0 e.1 mine) | inr is ↦ is ];
+        wanted = λ is. elim (wanted is) [ inl same ↦ inl same | inr e ↦ inr (e.0, left_of e.1, slice_get-map one ended e.0 ∙ ap (option_map one) e.2, e.3) ];
       }
 
--- A run that ended may be answered as one that failed: its readers come back, with what is told of their inputs' stops.
-pub begun_of_run : {R G : Type 0} (remaining : R → Option (List ℕ)) (failures : R → ℕ) (h : History) (limit : ℕ) (readers : List R) (lent : List (R × G)) (before after : Option (List ℕ)) (s : Summary)
+-- A run that ended may be answered as one that failed for want of memory: its readers come back, with what is told of their
+-- inputs' stops.
+pub begun_of_run : {R G : Type 0} (remaining : R → Option (List ℕ)) (failures : R → ℕ) (h : History) (limit : ℕ) (readers : List R) (lent : List (R × G)) (before after : Option (List ℕ)) (s : Summary) (failed_before failed_after : ℕ)
     → length readers ≡ length h.run.plan.request.inputs → length lent ≡ length readers → HasRun h limit (map remaining readers) (map (λ l. remaining l.0) lent) before after s
-    → FailuresAreTold failures readers (map (λ l. l.0) lent) s.inputs.items → HasBegun remaining failures h limit readers before after
-begun_of_run {R} {G} remaining failures h limit readers lent before after s of_readers size run all_told =
+    → FailuresAreTold failures readers (map (λ l. l.0) lent) s.inputs.items → failed_after ≡ failed_before → HasBegun remaining failures h limit readers before after failed_before failed_after run_faults.Memory
+begun_of_run {R} {G} remaining failures h limit readers lent before after s failed_before failed_after of_readers size run all_told unfailed =
     let p = h.run.plan in
     let inputs = s.inputs.items in
     let reader_of : R × G → R = λ l. l.0 in
@@ -203,4 +220,6 @@ begun_of_run {R} {G} remaining failures h limit readers lent before after s of_r
           let all : TakesWhatCame p (map remaining readers) (map source_of lent) stops h.events = (takes.0, λ i. record { given = λ other. takes.1 i; begins = (takes.1 i).begins }, takes.2) in
           let T : List (Option (List ℕ)) × List (Option Stop) → Type 0 = λ v. TakesWhatCame p (map remaining readers) v.0 v.1 h.events in
           subst T (λ k. (sym sources k, sym told_stops k)) all;
+      refused = λ i left to stopped. refl;
+      wanted = λ is. inl unfailed;
     }

@@ -21,7 +21,7 @@ use Rattle.station.specs.declared.inlet.Inlet.{Inlet}
 use Rattle.serial.proofs.OpeningLaws.{push_cases}
 use Rattle.threaded.specs.Working.{IsWorkOf}
 use Rattle.threaded.proofs.ListLaws.{map_push, drop_next, drop_more, get_within}
-use Rattle.threaded.specs.Crews.{IsStarted, AreStarted, AreOfStation, AreSeated, IsEnded, AreEnded}
+use Rattle.threaded.specs.Crews.{IsStarted, AreStarted, AreOfStation, AreSeated, IsEnded, AreEnded, HaveWorked}
 use Rattle.threaded.specs.declared.ended.Ended.{Ended}
 use Rattle.threaded.specs.declared.run_gate.RunGate.{RunGate}
 
@@ -163,6 +163,14 @@ served_begins remaining limit p station i input reader left report all s start =
           ∙ (ap (λ v. v ++ later.0) (sym (append_assoc took held s.rest) ∙ sym s.sent_is)
           ∙ (later.1 ∙ ap (λ v. takeable p (origin_of i input) (framed 188 v)) (sym more.1))),
     )
+
+-- the workers of all seats worked, and the station was as it is
+pub have_worked : {R G : Type 0} (remaining : R → Option (List ℕ)) (failures : R → ℕ) (limit : ℕ) (plan : PlanValue) (driven joined : StationValue) (seats : List ((R × G) × PortValue)) (workers : List (Worker R (RunGate G))) (ended : List (Ended R G))
+    → AreStarted limit plan seats workers → length workers ≡ length seats → length ended ≡ length workers → AreEnded remaining failures driven workers ended → joined ≡ driven
+    → HaveWorked remaining failures limit plan joined seats ended
+have_worked {R} {G} remaining failures limit plan driven joined seats workers ended started all count became same =
+    let E : StationValue → Type 0 = λ s. AreEnded remaining failures s workers ended in
+    record { workers = workers; started = started; all = all; count = count; became = subst E (sym same) became }
 
 -- the workers of a run send to the rings of its station
 pub seated_workers : {R G : Type 0} (limit : ℕ) (plan : PlanValue) (old new : StationValue) (seats : List ((R × G) × PortValue)) (workers : List (Worker R (RunGate G)))

@@ -181,3 +181,8 @@ breaks_flushed x y a b u v w s part = record {
 -- a run that went on to its end may be answered as one that failed
 pub breaks_driven : (x y : StationValue) (a b : SlotWriter) (u v : Option (List ℕ)) → IsDriven x y a b u v → BreaksOff x y a u v
 breaks_driven x y a b u v driven = record { same = driven.same; begun = λ first sends. all_begun first v (output_of y.history) (driven.written first sends) }
+
+-- and so may each
+pub breaks_either : {T E : Type 0} (r : Result T E) (x y : StationValue) (a b : SlotWriter) (u v : Option (List ℕ)) → OnOk r (IsDriven x y a b u v) → OnErr r (BreaksOff x y a u v) → BreaksOff x y a u v
+breaks_either (Ok t) x y a b u v driven broken = breaks_driven x y a b u v driven
+breaks_either (Err t) x y a b u v driven broken = broken

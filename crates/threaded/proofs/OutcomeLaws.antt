@@ -27,12 +27,14 @@ use Rattle.serial.proofs.SoundLaws.{sound_nothing}
 use Rattle.serial.proofs.OutcomeLaws.{nothing_sent, finished}
 use Rattle.serial.proofs.FaultBounds.{few_faults}
 use Rattle.serial.proofs.OpeningLaws.{from_map}
-use Rattle.threaded.specs.Crews.{AreUnsent, AreSeated, AreStarted, AreEnded, HaveWorked}
+use Rattle.threaded.specs.Crews.{AreUnsent, AreSeated, AreStarted, AreEnded, HaveWorked, HadMemory, WantedMemory}
 use Rattle.mux.specs.Totals.{IsCounts}
 use Rattle.mux.specs.Headline.{IsSound}
 use Rattle.serial.specs.Ending.{ArePeaks}
 use Rattle.serial.specs.Sending.{bytes_of, fault_count, HasAnalysed}
 use Rattle.serial.specs.Written.{Sends, SendsBeginning}
+use Rattle.serial.specs.declared.run_fault.RunFault.{RunFault}
+use Rattle.serial.specs.declared.run_fault.RunFault.TheVariants as run_faults
 use Rattle.serial.specs.declared.slot_writer.SlotWriter.{SlotWriter}
 use Rattle.serial.specs.declared.summary.Summary.{Summary}
 use Rattle.threaded.specs.Opening.{IsReady}
@@ -43,6 +45,7 @@ use Rattle.threaded.specs.Outcome.{HasRun, HasBegun, RunsThrough, IsCutShort}
 use Rattle.threaded.specs.declared.ended.Ended.{Ended}
 use Rattle.threaded.specs.declared.run_gate.RunGate.{RunGate}
 use Rattle.threaded.proofs.ListLaws.{get_within, firsts_at, seconds_at}
+use Rattle.threaded.proofs.ResultLaws.{not_write}
 use Rattle.threaded.proofs.CrewLaws.{served, served_begins}
 use Rattle.threaded.proofs.BegunLaws.{AreLeft, nothing_left, all_left}
 use Rattle.threaded.proofs.InputsLaws.{IsServedAt, IsServedRun, IsToldOfInputs, told_of_inputs, all_failures_told}
@@ -151,10 +154,10 @@ begun remaining failures limit p station readers ended each i input all at start
     served_begins remaining limit p station i input x.reader x.end.reader x.end.report all x.served (ap remaining (sym same) ∙ r.2)
 
 -- a run that took nothing
-pub begun_nothing : {R : Type 0} (remaining : R → Option (List ℕ)) (failures : R → ℕ) (run : Run) (limit : ℕ) (readers : List R) (before : Option (List ℕ)) → IsMultiplexPlan run.plan → run.limit ≤ 1099511627776
-    → HasBegun remaining failures (record { run = run; events = [] }) limit readers before before
-begun_nothing remaining failures run limit readers before plan few =
-    let inputs = nothing_left remaining failures limit run.plan readers in
+pub begun_nothing : {R : Type 0} (remaining : R → Option (List ℕ)) (failures : R → ℕ) (run : Run) (limit : ℕ) (readers : List R) (before : Option (List ℕ)) (failed : ℕ) (fault : RunFault) → IsMultiplexPlan run.plan → run.limit ≤ 1099511627776
+    → HasBegun remaining failures (record { run = run; events = [] }) limit readers before before failed failed fault
+begun_nothing remaining failures run limit readers before failed fault plan few =
+    let inputs = nothing_left remaining failures limit run.plan readers failed failed fault refl in
     record {
       sound = sound_nothing run.plan run.limit plan few;
       begun = λ i input all at start. (takeable run.plan (origin_of i input) (framed 188 all), refl);
@@ -164,6 +167,8 @@ begun_nothing remaining failures run limit readers before plan few =
       count = inputs.count;
       left = inputs.left;
       faithful = inputs.faithful;
+      refused = inputs.refused;
+      wanted = inputs.wanted;
     }
 
 -- The run's plan and slots are those of its station.
@@ -226,25 +231,47 @@ pub worked_count : {R G : Type 0} (remaining : R → Option (List ℕ)) (failure
 worked_count remaining failures p slots limit opened station readers gates seats ended ready of_readers of_gates have =
     have.count ∙ (have.all ∙ ready_count p slots readers gates opened seats ready of_readers of_gates)
 
--- what is left of the inputs
-left_stopped : {R G : Type 0} (remaining : R → Option (List ℕ)) (failures : R → ℕ) (p : PlanValue) (slots limit : ℕ) (opened station : StationValue) (readers : List R) (gates : List G) (seats : List ((R × G) × PortValue))
-    → IsReady p slots readers gates opened seats → length readers ≡ length p.request.inputs → length gates ≡ length p.request.inputs
-    → ((ended : List (Ended R G)) × HaveWorked remaining failures limit p station seats ended) ⊎ (station ≡ opened)
-    → station.history.run.plan ≡ p → IsSound station.history → IsLawfulStation station.history station.inputs → AreLeft remaining failures limit p station.history.events readers
-left_stopped remaining failures p slots limit opened station readers gates seats ready of_readers of_gates (inl have) plan_is sound kept =
-    all_left remaining failures limit p station readers have.0 (all_served remaining failures p slots limit opened station readers gates seats have.0 ready of_readers of_gates have.1) plan_is sound kept
-    (worked_count remaining failures p slots limit opened station readers gates seats have.0 ready of_readers of_gates have.1 ∙ sym of_readers)
-left_stopped remaining failures p slots limit opened station readers gates seats ready of_readers of_gates (inr same) plan_is sound kept =
-    let none : station.history.events ≡ [] = ap (λ (s : StationValue). s.history.events) same ∙ ap (λ (h : History). h.events) ready.opened.history in
-    let P : List Event → Type 0 = λ h. AreLeft remaining failures limit p h readers in
-    subst P (sym none) (nothing_left remaining failures limit p readers)
+-- What is left of the inputs of a run that failed.
+
+module _ {R G : Type 0} (remaining : R → Option (List ℕ)) (failures : R → ℕ) (p : PlanValue) (slots limit : ℕ) (opened station : StationValue) (readers : List R) (gates : List G) (seats : List ((R × G) × PortValue)) (failed_before failed_after : ℕ)
+    (ready : IsReady p slots readers gates opened seats) (of_readers : length readers ≡ length p.request.inputs) (of_gates : length gates ≡ length p.request.inputs)
+    (plan_is : station.history.run.plan ≡ p) (sound : IsSound station.history) (kept : IsLawfulStation station.history station.inputs) where
+  abbrev LeftAt : RunFault → Type 0
+  LeftAt fault = AreLeft remaining failures limit p station.history.events readers failed_before failed_after fault
+
+  left_worked : (fault : RunFault) (ended : List (Ended R G)) → HaveWorked remaining failures limit p station seats ended → (HadMemory ended ⊎ (fault ≡ run_faults.Memory))
+      → (fault ≡ run_faults.Memory → (failed_after ≡ failed_before) ⊎ WantedMemory ended) → LeftAt fault
+  left_worked fault ended have had wanted =
+      all_left remaining failures limit p station readers ended (all_served remaining failures p slots limit opened station readers gates seats ended ready of_readers of_gates have) plan_is sound kept
+      failed_before failed_after fault (worked_count remaining failures p slots limit opened station readers gates seats ended ready of_readers of_gates have ∙ sym of_readers) had wanted
+
+  -- no write failed
+  left_unfailed : failed_after ≡ failed_before → ((ended : List (Ended R G)) × HaveWorked remaining failures limit p station seats ended) ⊎ (station ≡ opened) → LeftAt run_faults.Memory
+  left_unfailed unfailed (inl have) = left_worked run_faults.Memory have.0 have.1 (inr refl) (λ is. inl unfailed)
+  left_unfailed unfailed (inr same) =
+      let none : station.history.events ≡ [] = ap (λ (s : StationValue). s.history.events) same ∙ ap (λ (h : History). h.events) ready.opened.history in
+      let P : List Event → Type 0 = λ h. AreLeft remaining failures limit p h readers failed_before failed_after run_faults.Memory in
+      subst P (sym none) (nothing_left remaining failures limit p readers failed_before failed_after run_faults.Memory unfailed)
+
+  left_memory : ((ended : List (Ended R G)) × HaveWorked remaining failures limit p station seats ended) ⊎ (station ≡ opened)
+      → ((failed_after ≡ failed_before) ⊎ ((ended : List (Ended R G)) × HaveWorked remaining failures limit p station seats ended × WantedMemory ended)) → LeftAt run_faults.Memory
+  left_memory stopped (inl unfailed) = left_unfailed unfailed stopped
+  left_memory stopped (inr have) = left_worked run_faults.Memory have.0 have.1 (inr refl) (λ is. inr have.2)
+
+  pub left_stopped : (fault : RunFault) → ((ended : List (Ended R G)) × HaveWorked remaining failures limit p station seats ended) ⊎ (station ≡ opened)
+      → (fault ≡ run_faults.Write → (ended : List (Ended R G)) × HaveWorked remaining failures limit p station seats ended × HadMemory ended)
+      → (fault ≡ run_faults.Memory → (failed_after ≡ failed_before) ⊎ ((ended : List (Ended R G)) × HaveWorked remaining failures limit p station seats ended × WantedMemory ended)) → LeftAt fault
+  left_stopped run_faults.Write stopped unwanted wanted =
+      let have = unwanted refl in
+      left_worked run_faults.Write have.0 have.1 (inl have.2) (λ is. absurd (not_write (sym is)))
+  left_stopped run_faults.Memory stopped unwanted wanted = left_memory stopped (wanted refl)
 
 -- a run that failed
-has_begun : {R : Type 0} (remaining : R → Option (List ℕ)) (failures : R → ℕ) (p : PlanValue) (slots limit : ℕ) (opened station : StationValue) (ports : List PortValue) (output : SlotWriter) (readers : List R) (before after : Option (List ℕ))
+has_begun : {R : Type 0} (remaining : R → Option (List ℕ)) (failures : R → ℕ) (p : PlanValue) (slots limit : ℕ) (opened station : StationValue) (ports : List PortValue) (output : SlotWriter) (readers : List R) (before after : Option (List ℕ)) (failed_before failed_after : ℕ) (fault : RunFault)
     → IsOpened p slots opened ports → output.writer ≡ [] → BreaksOff opened station output before after → IsSound station.history → AreBegun p station.history.events (map remaining readers)
-    → AreLeft remaining failures limit p station.history.events readers
-    → HasBegun remaining failures (record { run = record { plan = p; limit = slots }; events = station.history.events }) limit readers before after
-has_begun remaining failures p slots limit opened station ports output readers before after is waiting broken sound taken inputs =
+    → AreLeft remaining failures limit p station.history.events readers failed_before failed_after fault
+    → HasBegun remaining failures (record { run = record { plan = p; limit = slots }; events = station.history.events }) limit readers before after failed_before failed_after fault
+has_begun remaining failures p slots limit opened station ports output readers before after failed_before failed_after fault is waiting broken sound taken inputs =
     let same = run_is p slots opened station ports is broken.same in
     let S : Run → Type 0 = λ r. IsSound (record { run = r; events = station.history.events }) in
     let W : Run → Type 0 = λ r. SendsBeginning before after (bytes_of (emitted r.plan station.history.events)) in
@@ -257,6 +284,8 @@ has_begun remaining failures p slots limit opened station ports output readers b
       count = inputs.count;
       left = inputs.left;
       faithful = inputs.faithful;
+      refused = inputs.refused;
+      wanted = inputs.wanted;
     }
 
 -- so many faults fit into 64 bits
@@ -309,16 +338,16 @@ has_run p slots limit opened station ports a b starts lefts before after s few i
 
 -- What a run makes that was ready to be started, as it ends.
 
-pub run_failed : {R G : Type 0} (remaining : R → Option (List ℕ)) (failures : R → ℕ) (p : PlanValue) (slots limit : ℕ) (opened : StationValue) (readers : List R) (gates : List G) (seats : List ((R × G) × PortValue)) (output : SlotWriter) (before after : Option (List ℕ))
+pub run_failed : {R G : Type 0} (remaining : R → Option (List ℕ)) (failures : R → ℕ) (p : PlanValue) (slots limit : ℕ) (opened : StationValue) (readers : List R) (gates : List G) (seats : List ((R × G) × PortValue)) (output : SlotWriter) (before after : Option (List ℕ)) (failed_before failed_after : ℕ) (fault : RunFault)
     → IsReady p slots readers gates opened seats → length readers ≡ length p.request.inputs → length gates ≡ length p.request.inputs → output.writer ≡ []
-    → IsCutShort remaining failures limit p opened seats output before after
-    → (h : List Event) × HasBegun remaining failures (record { run = record { plan = p; limit = slots }; events = h }) limit readers before after
-run_failed remaining failures p slots limit opened readers gates seats output before after ready of_readers of_gates waiting f =
+    → IsCutShort remaining failures limit p opened seats output before after failed_before failed_after fault
+    → (h : List Event) × HasBegun remaining failures (record { run = record { plan = p; limit = slots }; events = h }) limit readers before after failed_before failed_after fault
+run_failed remaining failures p slots limit opened readers gates seats output before after failed_before failed_after fault ready of_readers of_gates waiting f =
     let plan_is = ap (λ (r : Run). r.plan) (run_is p slots opened f.station ready.ports ready.opened f.broken.same) in (
       f.station.history.events,
-      has_begun remaining failures p slots limit opened f.station ready.ports output readers before after ready.opened waiting f.broken f.sound
+      has_begun remaining failures p slots limit opened f.station ready.ports output readers before after failed_before failed_after fault ready.opened waiting f.broken f.sound
           (begun_stopped remaining failures p slots limit opened f.station readers gates seats ready of_readers of_gates f.stopped)
-          (left_stopped remaining failures p slots limit opened f.station readers gates seats ready of_readers of_gates f.stopped plan_is f.sound f.lawful),
+          (left_stopped remaining failures p slots limit opened f.station readers gates seats failed_before failed_after ready of_readers of_gates plan_is f.sound f.lawful fault f.stopped f.unwanted f.wanted),
     )
 
 served_run : {R G : Type 0} (remaining : R → Option (List ℕ)) (failures : R → ℕ) (p : PlanValue) (slots limit : ℕ) (opened : StationValue) (readers : List R) (gates : List G) (seats : List ((R × G) × PortValue)) (output : SlotWriter) (before after : Option (List ℕ)) (s : Summary) (lent : List (R × G))

@@ -1,15 +1,17 @@
 -- What is said of a run's inputs, one more at a time.
-use Rattle.std.proofs.Common.{◌≡◌, ℕ, Bool, true, false, get_or, List, [], ◌∷◌, ◌++◌, length, ap, sym, subst, ◌∙◌, arith, inl, inr, length-append}
+use Rattle.std.proofs.Common.{◌≡◌, ℕ, suc, Bool, true, false, get_or, List, [], ◌∷◌, ◌++◌, length, Option, Some, None, refl, ap, sym, subst, ◌∙◌, arith, inl, inr, length-append}
 use Rattle.std.specs.List.{list_any}
-use Rattle.std.proofs.lemmas.Bool.{false≢true}
+use Rattle.std.proofs.lemmas.Bool.{false≢true, or_cases}
 use Rattle.std.proofs.lemmas.List.Folds.{list_any_at}
 use Rattle.std.proofs.lemmas.Option.{slice_get_within, get_or_from_slice_get}
 use Rattle.plan.specs.Build.{PlanValue}
 use Rattle.mux.specs.declared.event.Event.{Event}
 use Rattle.mux.specs.Totals.{IsTotals}
+use Rattle.reading.specs.declared.stop.Stop.{Stop}
+use Rattle.reading.specs.declared.stop.Stop.TheVariants.{Gate, ReadFailed, TooMuch, Memory}
 use Rattle.serial.specs.declared.summary.InputSummary.{InputSummary}
 use Rattle.serial.proofs.OpeningLaws.{push_cases}
-use Rattle.threaded.specs.Crews.{HadMemory}
+use Rattle.threaded.specs.Crews.{HadMemory, WantedMemory}
 use Rattle.threaded.specs.Ending.{IsLast, AreReported, wants_memory}
 use Rattle.threaded.specs.declared.ended.Ended.{Ended}
 use Rattle.threaded.proofs.ListLaws.{map_push}
@@ -20,6 +22,22 @@ all_had_memory {R} {G} ended none i e at refused =
     let test : Ended R G → Bool = λ x. wants_memory x.report.stopped in
     let one : test (get_or ended i e) ≡ true = ap test (get_or_from_slice_get ended i e e at) ∙ ap wants_memory refused in
     false≢true (sym none ∙ list_any_at test ended i e (slice_get_within ended i e at) one)
+
+wanted_is : (o : Option Stop) → wants_memory o ≡ true → o ≡ Some Memory
+wanted_is None is = absurd (false≢true is)
+wanted_is (Some Gate) is = absurd (false≢true is)
+wanted_is (Some ReadFailed) is = absurd (false≢true is)
+wanted_is (Some TooMuch) is = absurd (false≢true is)
+wanted_is (Some Memory) is = refl
+
+-- where one of them did, one was stopped so
+pub one_wanted_memory : {R G : Type 0} (ended : List (Ended R G)) → list_any (λ (e : Ended R G). wants_memory e.report.stopped) ended ≡ true → WantedMemory ended
+one_wanted_memory [] any = absurd (false≢true any)
+one_wanted_memory {R} {G} (e ∷ ended) any =
+    elim (or_cases (wants_memory e.report.stopped) (list_any (λ (x : Ended R G). wants_memory x.report.stopped) ended) any) [
+      | inl is ↦ (0, e, refl, wanted_is e.report.stopped is)
+      | inr rest ↦ (let w = one_wanted_memory ended rest in (suc w.0, w.1, w.2, w.3))
+    ]
 
 pub reported_push : {R G : Type 0} (p : PlanValue) (h : List Event) (ended : List (Ended R G)) (summaries : List InputSummary) (lent : List (R × G)) (e : Ended R G) (s : InputSummary)
     → AreReported p h ended summaries lent → IsTotals p (length summaries) h s.totals → IsLast h (length summaries) e.report s.report

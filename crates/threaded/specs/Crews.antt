@@ -59,6 +59,10 @@ AreSeated {R} {G} station seats =
 abbrev pub HadMemory : {R G : Type 0} → List (Ended R G) → Type 0
 HadMemory {R} {G} ended = (i : ℕ) (e : Ended R G) → slice_get ended i ≡ Some e → e.report.stopped ≡ Some Memory → ⊥
 
+-- a worker wanted memory
+abbrev pub WantedMemory : {R G : Type 0} → List (Ended R G) → Type 0
+WantedMemory {R} {G} ended = (i : ℕ) × (e : Ended R G) × (slice_get ended i ≡ Some e) × (e.report.stopped ≡ Some Memory)
+
 -- The input at each seat had a worker, and this became of them.
 pub record HaveWorked {R G : Type 0} (remaining : R → Option (List ℕ)) (failures : R → ℕ) (limit : ℕ) (plan : PlanValue) (station : StationValue) (seats : List ((R × G) × PortValue)) (ended : List (Ended R G)) : Type 0 where
   pub workers : List (Worker R (RunGate G))

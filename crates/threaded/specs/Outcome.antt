@@ -25,12 +25,14 @@ use Rattle.serial.specs.Outcome.{HasEnded, AreReadOn, IsFailureTold, stops_of}
 use Rattle.serial.specs.Ending.{ArePeaks}
 use Rattle.serial.specs.Written.{SendsBeginning}
 use Rattle.serial.specs.Sending.{bytes_of}
+use Rattle.serial.specs.declared.run_fault.RunFault.{RunFault}
+use Rattle.serial.specs.declared.run_fault.RunFault.TheVariants as run_faults
 use Rattle.serial.specs.declared.slot_writer.SlotWriter.{SlotWriter}
 use Rattle.serial.specs.declared.summary.InputSummary.{InputSummary}
 use Rattle.serial.specs.declared.summary.Summary.{Summary}
 use Rattle.port.specs.Rings.{PortValue}
 use Rattle.station.specs.Stations.{StationValue, IsLawfulStation}
-use Rattle.threaded.specs.Crews.{HaveWorked, HadMemory}
+use Rattle.threaded.specs.Crews.{HaveWorked, HadMemory, WantedMemory}
 use Rattle.threaded.specs.Driving.{IsDriven, BreaksOff}
 use Rattle.threaded.specs.Ending.{AreReported}
 use Rattle.threaded.specs.Giving.{TakesWhatCame}
@@ -103,10 +105,10 @@ pub record IsLeft {R : Type 0} (remaining : R → Option (List ℕ)) (failures :
   pub within : (left.1 ≡ Some TooMuch → ⊥) → length bytes ≤ limit
   pub unclosed : left.1 ≡ Some Gate → is_closed i h ≡ false
 
--- What a run of these readers makes, each of at most so many bytes, where it doesn't end by itself: a beginning of the packets of
--- a sound history was written. `lefts` are readers as a run may leave them, each with what stopped its worker, if anything: they
--- don't come back.
-pub record HasBegun {R : Type 0} (remaining : R → Option (List ℕ)) (failures : R → ℕ) (h : History) (limit : ℕ) (readers : List R) (before after : Option (List ℕ)) : Type 0 where
+-- What a run of these readers makes, each of at most so many bytes, where it doesn't end by itself but with this fault: a
+-- beginning of the packets of a sound history was written. `lefts` are readers as a run may leave them, each with what stopped
+-- its worker, if anything: they don't come back. So many writes had failed before the run, and so many after it.
+pub record HasBegun {R : Type 0} (remaining : R → Option (List ℕ)) (failures : R → ℕ) (h : History) (limit : ℕ) (readers : List R) (before after : Option (List ℕ)) (failed_before failed_after : ℕ) (fault : RunFault) : Type 0 where
   pub sound : IsSound h
   pub begun : AreBegun h.run.plan h.events (map remaining readers)
   pub needed : TakesAsNeeded h.run h.events
@@ -119,6 +121,11 @@ pub record HasBegun {R : Type 0} (remaining : R → Option (List ℕ)) (failures
   -- it takes what the inputs give, each input's packets in their order
   pub faithful : AreKnown (map remaining readers)
       → TakesWhatCame h.run.plan (map remaining readers) (map (λ left. remaining left.0) lefts) (map (λ left. left.1) lefts) h.events
+  -- a worker's want of memory is told as that, whatever the writer did
+  pub refused : (i : ℕ) (left : R × Option Stop) → slice_get lefts i ≡ Some left → left.1 ≡ Some Memory → fault ≡ run_faults.Memory
+  -- and where a write failed nothing but that is told so
+  pub wanted : fault ≡ run_faults.Memory → (failed_after ≡ failed_before)
+      ⊎ ((i : ℕ) × (left : R × Option Stop) × (slice_get lefts i ≡ Some left) × (left.1 ≡ Some Memory))
 
 -- An opened run went on to its end: its inputs had their workers, what it sent went out, and this is told of it.
 pub record RunsThrough {R G : Type 0} (remaining : R → Option (List ℕ)) (failures : R → ℕ) (limit : ℕ) (p : PlanValue) (opened : StationValue) (seats : List ((R × G) × PortValue)) (output : SlotWriter) (before after : Option (List ℕ)) (s : Summary) (lent : List (R × G)) : Type 0 where
@@ -136,10 +143,15 @@ pub record RunsThrough {R G : Type 0} (remaining : R → Option (List ℕ)) (fai
   pub faults : s.faults ≡ left.faults
   pub fault_report : s.fault_report ≡ left.report
 
--- It failed: a beginning of what it sent went out. Its inputs had their workers, or nothing was taken of them.
-pub record IsCutShort {R G : Type 0} (remaining : R → Option (List ℕ)) (failures : R → ℕ) (limit : ℕ) (p : PlanValue) (opened : StationValue) (seats : List ((R × G) × PortValue)) (output : SlotWriter) (before after : Option (List ℕ)) : Type 0 where
+-- It failed with this fault: a beginning of what it sent went out. Its inputs had their workers, or nothing was taken of them. So
+-- many writes had failed before, and so many after it.
+pub record IsCutShort {R G : Type 0} (remaining : R → Option (List ℕ)) (failures : R → ℕ) (limit : ℕ) (p : PlanValue) (opened : StationValue) (seats : List ((R × G) × PortValue)) (output : SlotWriter) (before after : Option (List ℕ)) (failed_before failed_after : ℕ) (fault : RunFault) : Type 0 where
   pub station : StationValue
   pub stopped : ((ended : List (Ended R G)) × HaveWorked remaining failures limit p station seats ended) ⊎ (station ≡ opened)
+  -- a failed write is told where no worker wanted memory, and want of memory at a failed write where one did
+  pub unwanted : fault ≡ run_faults.Write → (ended : List (Ended R G)) × HaveWorked remaining failures limit p station seats ended × HadMemory ended
+  pub wanted : fault ≡ run_faults.Memory → (failed_after ≡ failed_before)
+      ⊎ ((ended : List (Ended R G)) × HaveWorked remaining failures limit p station seats ended × WantedMemory ended)
   pub broken : BreaksOff opened station output before after
   pub sound : IsSound station.history
   pub lawful : IsLawfulStation station.history station.inputs

@@ -1,6 +1,6 @@
 //! A whole run.
 
-ghost use Rattle.std.specs.Prelude.{◌≡◌, ◌^◌, ◌≤◌, List, length, map, Err, IfOk, OnOk, OnErr};
+ghost use Rattle.std.specs.Prelude.{◌≡◌, ◌⊎◌, ◌^◌, ◌≤◌, List, length, map, Err, IfOk, IfErr, OnOk};
 ghost use Rattle.tspkt.specs.declared.framer.TheConstants.{MAX_LIMIT};
 ghost use Rattle.mux.specs.declared.event.Event.{Event};
 ghost use Rattle.mux.specs.Plans.{IsMultiplexPlan};
@@ -28,8 +28,9 @@ use std::time::Clock;
 /// Each input has a gate, which is asked before each read, after each packet that went into the input's ring, and after each
 /// packet or end mark that found it full. Where it says no the input is read no further and left open, so a run whose gates
 /// say no need not end. The writer comes back, and without a fault the readers and gates too, in their order.
-/// `Memory` is answered where memory or a thread was refused before any write failed, and `Write` where the writer failed; what
-/// was written is then a beginning of the output. A reader that fails ends its input, and the run goes on.
+/// `Memory` is answered where memory or a thread was refused before any write failed, and where the worker of an input wanted
+/// memory, also where a write failed. `Write` is answered where the writer failed and no worker wanted memory. What was written is
+/// then a beginning of the output. A reader that fails ends its input, and the run goes on.
 #[tactic(none)]
 pub fn run_threads<
     T: Threads + Wait + Clock + Copy + Send + Drop + 'static,
@@ -54,14 +55,15 @@ pub fn run_threads<
         × HasRun (record { run = record { plan = plan; limit = slots }; events = h }) limit
         (map R.remaining readers.items) (map (λ lent. R.remaining lent.0) done.1.items)
         (W.contents writer) (W.contents result.0) done.0) }
-    ensures begins { OnErr result.1 ((h : List Event)
+    ensures begins { IfErr result.1 (λ fault. (h : List Event)
         × HasBegun R.remaining R.failures (record { run = record { plan = plan; limit = slots }; events = h }) limit
-        readers.items (W.contents writer) (W.contents result.0)) }
+        readers.items (W.contents writer) (W.contents result.0) (W.failures writer) (W.failures result.0) fault) }
     ensures lent { IfOk result.1 (λ done. length done.1.items ≡ length readers.items) }
     ensures read_failed { IfOk result.1 (λ done.
         FailuresAreTold R.failures readers.items (map (λ lent. lent.0) done.1.items) done.0.inputs.items) }
     ensures wrote { OnOk result.1 (W.failures result.0 ≡ W.failures writer) }
-    ensures memory { result.1 ≡ Err RunFault.Memory → W.failures result.0 ≡ W.failures writer }
+    ensures memory { result.1 ≡ Err RunFault.Memory → (W.failures result.0 ≡ W.failures writer)
+        ⊎ FailsOnce (W.failures writer) (W.failures result.0) }
     ensures write_failed { result.1 ≡ Err RunFault.Write → FailsOnce (W.failures writer) (W.failures result.0) }
 {
     let mut sink = writer;
@@ -102,14 +104,15 @@ fn run_to<
         × HasRun (record { run = record { plan = plan; limit = slots }; events = h }) limit
         (map R.remaining readers.items) (map (λ lent. R.remaining lent.0) done.1.items)
         (W.contents sink.old) (W.contents sink.new) done.0) }
-    ensures begins { OnErr result ((h : List Event)
+    ensures begins { IfErr result (λ fault. (h : List Event)
         × HasBegun R.remaining R.failures (record { run = record { plan = plan; limit = slots }; events = h }) limit
-        readers.items (W.contents sink.old) (W.contents sink.new)) }
+        readers.items (W.contents sink.old) (W.contents sink.new) (W.failures sink.old) (W.failures sink.new) fault) }
     ensures lent { IfOk result (λ done. length done.1.items ≡ length readers.items) }
     ensures read_failed { IfOk result (λ done.
         FailuresAreTold R.failures readers.items (map (λ lent. lent.0) done.1.items) done.0.inputs.items) }
     ensures wrote { OnOk result (W.failures sink.new ≡ W.failures sink.old) }
-    ensures memory { result ≡ Err RunFault.Memory → W.failures sink.new ≡ W.failures sink.old }
+    ensures memory { result ≡ Err RunFault.Memory → (W.failures sink.new ≡ W.failures sink.old)
+        ⊎ FailsOnce (W.failures sink.old) (W.failures sink.new) }
     ensures write_failed { result ≡ Err RunFault.Write → FailsOnce (W.failures sink.old) (W.failures sink.new) }
 {
     known(&plan);
@@ -139,10 +142,12 @@ fn run_opened<
     requires seated { AreSeated opening.station opening.seats.items }
     ensures ended { IfOk result (λ done. RunsThrough R.remaining R.failures limit plan.now
         opening.station opening.seats.items opening.output (W.contents sink.old) (W.contents sink.new) done.0 done.1.items) }
-    ensures failed { OnErr result (IsCutShort R.remaining R.failures limit plan.now
-        opening.station opening.seats.items opening.output (W.contents sink.old) (W.contents sink.new)) }
+    ensures failed { IfErr result (λ fault. IsCutShort R.remaining R.failures limit plan.now
+        opening.station opening.seats.items opening.output (W.contents sink.old) (W.contents sink.new)
+        (W.failures sink.old) (W.failures sink.new) fault) }
     ensures wrote { OnOk result (W.failures sink.new ≡ W.failures sink.old) }
-    ensures memory { result ≡ Err RunFault.Memory → W.failures sink.new ≡ W.failures sink.old }
+    ensures memory { result ≡ Err RunFault.Memory → (W.failures sink.new ≡ W.failures sink.old)
+        ⊎ FailsOnce (W.failures sink.old) (W.failures sink.new) }
     ensures write_failed { result ≡ Err RunFault.Write → FailsOnce (W.failures sink.old) (W.failures sink.new) }
 {
     let Opening {

@@ -3,7 +3,7 @@
 ghost use Rattle.std.specs.Prelude.{◌≡◌, ◌⊎◌, ◌≤◌, List, [], length, vec_capacity, map, Err, IfOk, OnOk, OnErr};
 ghost use Rattle.tspkt.specs.declared.framer.TheConstants.{MAX_LIMIT};
 ghost use Rattle.reading.specs.Failures.{FailsOnce};
-ghost use Rattle.threaded.specs.Crews.{AreUnsent, AreSeated, AreStarted, HaveWorked, HadMemory};
+ghost use Rattle.threaded.specs.Crews.{AreUnsent, AreSeated, AreStarted, HaveWorked, HadMemory, WantedMemory};
 ghost use Rattle.threaded.specs.Driving.{IsDriven, BreaksOff};
 ghost use Rattle.threaded.specs.declared.ended.Ended.{Ended as EndedInput};
 
@@ -24,7 +24,7 @@ use std::thread::Threads;
 use std::time::Clock;
 
 /// Starts a worker for each input, ticks to the end of the run, and then stops and joins the workers. What each of them leaves
-/// is answered. `Memory` is answered where a worker wanted memory, too.
+/// is answered. Where a worker wanted memory `Memory` is answered, whatever the writer did.
 #[tactic(auto, using(crate::proofs::DrivingLaws::breaks_nowhere, crate::proofs::DrivingLaws::breaks_driven))]
 pub(crate) fn work_through<
     T: Threads + Wait + Clock + Copy + Send + Drop + 'static,
@@ -57,8 +57,14 @@ pub(crate) fn work_through<
     ensures broken { OnErr result
         (BreaksOff station.old station.new output.old (W.contents sink.old) (W.contents sink.new)) }
     ensures failures { OnOk result (W.failures sink.new ≡ W.failures sink.old) }
-    ensures memory { result ≡ Err RunFault.Memory → W.failures sink.new ≡ W.failures sink.old }
+    ensures memory { result ≡ Err RunFault.Memory → (W.failures sink.new ≡ W.failures sink.old)
+        ⊎ FailsOnce (W.failures sink.old) (W.failures sink.new) }
+    ensures wanted { result ≡ Err RunFault.Memory → (W.failures sink.new ≡ W.failures sink.old)
+        ⊎ ((ended : List (EndedInput R G))
+        × HaveWorked R.remaining R.failures limit plan.now station.new seats.items ended × WantedMemory ended) }
     ensures failed { result ≡ Err RunFault.Write → FailsOnce (W.failures sink.old) (W.failures sink.new) }
+    ensures unwanted { result ≡ Err RunFault.Write → (ended : List (EndedInput R G))
+        × HaveWorked R.remaining R.failures limit plan.now station.new seats.items ended × HadMemory ended }
 {
     let inputs = seats.len();
     let mut handles = Vec::with_capacity(alloc, inputs)?;
@@ -77,10 +83,10 @@ pub(crate) fn work_through<
     );
     is_over.store(true, Ordering::SeqCst);
     join_all(&rt, station, handles, &mut ended);
-    driven?;
     if wanted_memory(ended.as_slice()) {
         return Err(RunFault::Memory);
     }
+    driven?;
     Ok(ended)
 }
 
@@ -111,6 +117,7 @@ fn work<
     ensures started { AreStarted limit plan.now seats.items (map (λ h. h.promise.worker.value) handles.new.items) }
     ensures all { OnOk result (length handles.new.items ≡ length seats.items) }
     ensures some { OnErr result ((length handles.new.items ≡ length seats.items) ⊎ (station.new ≡ station.old)) }
+    ensures crewed { result ≡ Err RunFault.Write → length handles.new.items ≡ length seats.items }
     ensures driven { OnOk result
         (IsDriven station.old station.new output.old output.new (W.contents sink.old) (W.contents sink.new)) }
     ensures broken { OnErr result

@@ -3,7 +3,7 @@ use Rattle.std.proofs.lemmas.Result.{err_from_is_err_and}
 use Rattle.mux.specs.History.{Run}
 use Rattle.plan.specs.Build.{PlanValue}
 use Rattle.serial.specs.declared.run_fault.RunFault.TheVariants as run_faults
-use Rattle.serial.proofs.SendingLaws.{on_err_always, same_err}
+use Rattle.serial.proofs.SendingLaws.{if_err_always, if_err_is, same_err}
 use Rattle.threaded.proofs.ResultLaws.{if_ok_failed, on_ok_failed, not_write, ok_no_err}
 use Rattle.threaded.proofs.DrivingLaws.{breaks_driven}
 use Rattle.threaded.proofs.OutcomeLaws.{told_count}
@@ -37,17 +37,31 @@ returns-clause-ended g c =
 
 pub returns-in_err-ended-clause-failed : goal.returns-in_err-ended-clause-failed
 returns-in_err-ended-clause-failed g c =
-    on_err_always c.from_residual.result
-    (record { station = c.work_through-worked.new.station; stopped = c.in_err-ended.ensures.stopped; broken = c.in_err-ended.ensures.broken; sound = c.slots.ensures.sound; lawful = c.slots.ensures.lawful })
+    let r = c.from_residual.result in
+    let passed = err_from_is_err_and r c.from_residual.ensures.1 in
+    if_err_is r (λ fault is.
+    (let was = c.in_err-ended.was ∙ ap Err (sym passed.2 ∙ same_err r passed.0 fault passed.1 is) in
+    record {
+      station = c.work_through-worked.new.station;
+      stopped = c.in_err-ended.ensures.stopped;
+      unwanted = λ e. c.work_through-worked.ensures.unwanted (was ∙ ap Err e);
+      wanted = λ e. c.work_through-worked.ensures.wanted (was ∙ ap Err e);
+      broken = c.in_err-ended.ensures.broken;
+      sound = c.slots.ensures.sound;
+      lawful = c.slots.ensures.lawful;
+    }))
 
 pub returns-in_err-end_run-clause-failed : goal.returns-in_err-end_run-clause-failed
 returns-in_err-end_run-clause-failed g c =
     let o = c.args.opening in
     let ended = c.in_ok-ended.ensures in
-    on_err_always c.from_residual-in_err-end_run.result
-    (record {
+    if_err_always c.from_residual-in_err-end_run.result
+    (λ fault.
+    record {
       station = c.work_through-worked.new.station;
       stopped = inl (c.in_ok-ended.ended.items, ended.worked);
+      unwanted = λ e. (c.in_ok-ended.ended.items, ended.worked, ended.had_memory);
+      wanted = λ e. inl ended.failures;
       broken = breaks_driven o.station c.work_through-worked.new.station o.output c.work_through-worked.new.output (g.W.Sink.contents c.args.sink.now) (g.W.Sink.contents c.work_through-worked.new.sink) ended.driven;
       sound = c.slots.ensures.sound;
       lawful = c.slots.ensures.lawful;
@@ -96,7 +110,7 @@ pub returns-in_err-end_run-clause-wrote : goal.returns-in_err-end_run-clause-wro
 returns-in_err-end_run-clause-wrote g c = on_ok_failed _ _ c.from_residual-in_err-end_run.result c.from_residual-in_err-end_run.ensures.1
 
 pub returns-in_err-end_run-clause-memory : goal.returns-in_err-end_run-clause-memory
-returns-in_err-end_run-clause-memory g c is = c.in_ok-ended.ensures.failures
+returns-in_err-end_run-clause-memory g c is = inl c.in_ok-ended.ensures.failures
 
 pub returns-in_err-end_run-clause-write_failed : goal.returns-in_err-end_run-clause-write_failed
 returns-in_err-end_run-clause-write_failed g c is =
@@ -108,7 +122,7 @@ pub returns-clause-wrote : goal.returns-clause-wrote
 returns-clause-wrote g c = c.in_ok-ended.ensures.failures
 
 pub returns-clause-memory : goal.returns-clause-memory
-returns-clause-memory g c is = c.in_ok-ended.ensures.failures
+returns-clause-memory g c is = inl c.in_ok-ended.ensures.failures
 
 pub returns-clause-write_failed : goal.returns-clause-write_failed
 returns-clause-write_failed g c is = absurd (ok_no_err _ _ is)

@@ -1,8 +1,8 @@
-use Rattle.std.proofs.Common.{[], ap, ◌∙◌, sym, refl}
+use Rattle.std.proofs.Common.{[], ap, ◌∙◌, sym, inl, refl}
 use Rattle.mux.specs.History.{Run, History}
-use Rattle.std.proofs.lemmas.Result.{IfOk-weaker, err_from_is_err_and}
+use Rattle.std.proofs.lemmas.Result.{IfOk-weaker, IfErr-weaker, err_from_is_err_and}
 use Rattle.serial.specs.declared.run_fault.RunFault.TheVariants as run_faults
-use Rattle.serial.proofs.SendingLaws.{on_err_always, on_err_weaker, same_err}
+use Rattle.serial.proofs.SendingLaws.{if_err_always, same_err}
 use Rattle.threaded.proofs.ResultLaws.{if_ok_failed, on_ok_failed, not_write}
 use Rattle.threaded.proofs.OutcomeLaws.{ready_count, ready_unsent, ready_seated, begun_nothing, run_failed, run_ended, lent_count, failures_told}
 use Rattle.threaded.proofs.run.run_to.Goals as goal
@@ -40,10 +40,10 @@ pub returns-clause-begins : goal.returns-clause-begins
 returns-clause-begins g c =
     let o = c.in_ok-opening.opening in
     let opening = c.in_ok-opening.ensures in
-    on_err_weaker c.run_opened.result
-    (λ f.
+    IfErr-weaker c.run_opened.result _ _
+    (λ fault f.
     run_failed g.R.Source.remaining g.R.Source.failures c.args.plan c.args.slots c.args.limit o.station c.args.readers.items c.args.gates.items o.seats.items o.output
-    (g.W.Sink.contents c.args.sink.now) (g.W.Sink.contents c.run_opened.new.sink) opening.ready c.requires.readers c.requires.gates opening.waiting f)
+    (g.W.Sink.contents c.args.sink.now) (g.W.Sink.contents c.run_opened.new.sink) (g.W.Sink.failures c.args.sink.now) (g.W.Sink.failures c.run_opened.new.sink) fault opening.ready c.requires.readers c.requires.gates opening.waiting f)
     c.run_opened.ensures.failed
 
 pub returns-clause-lent : goal.returns-clause-lent
@@ -70,7 +70,8 @@ returns-in_err-opening-clause-read_failed g c = if_ok_failed _ _ c.from_residual
 pub returns-in_err-opening-clause-begins : goal.returns-in_err-opening-clause-begins
 returns-in_err-opening-clause-begins g c =
     let run : Run = record { plan = c.args.plan; limit = c.args.slots } in
-    on_err_always c.from_residual.result ([], begun_nothing g.R.Source.remaining g.R.Source.failures run c.args.limit c.args.readers.items (g.W.Sink.contents c.args.sink.now) c.known.ensures c.requires.slots)
+    if_err_always c.from_residual.result
+    (λ fault. ([], begun_nothing g.R.Source.remaining g.R.Source.failures run c.args.limit c.args.readers.items (g.W.Sink.contents c.args.sink.now) (g.W.Sink.failures c.args.sink.now) fault c.known.ensures c.requires.slots))
 
 pub open-requires : goal.open-requires
 open-requires g c = c.requires.slots
@@ -98,7 +99,7 @@ pub returns-in_err-opening-clause-wrote : goal.returns-in_err-opening-clause-wro
 returns-in_err-opening-clause-wrote g c = on_ok_failed _ _ c.from_residual.result c.from_residual.ensures.1
 
 pub returns-in_err-opening-clause-memory : goal.returns-in_err-opening-clause-memory
-returns-in_err-opening-clause-memory g c is = refl
+returns-in_err-opening-clause-memory g c is = inl refl
 
 pub returns-in_err-opening-clause-write_failed : goal.returns-in_err-opening-clause-write_failed
 returns-in_err-opening-clause-write_failed g c is =
