@@ -124,6 +124,22 @@ wait "$process" 2> /dev/null
 exec 7>&-
 is 'the old output outlives a run that is killed' [ "$(cat killed.ts)" = old ]
 
+# A folder takes the name of an output while its run goes on.
+"$program" run --plan stuck.toml --out taken.ts > out 2> err &
+process=$!
+exec 7> stuck
+cat south.ts >&7
+sleep 1
+mkdir taken.ts
+touch taken.ts/file
+exec 7>&-
+wait "$process"
+is 'an output that does not get its name fails' [ $? = 4 ]
+is 'it is named' [ "$(head -n 1 err)" = 'fault file taken.ts' ]
+is 'that is explained' has err "taken.ts: the new file can't be given its name: "
+is 'the whole output is named' has err 'taken.ts.part: the output so far'
+is 'it is there' same taken.ts.part whole.ts
+
 # Standard output takes the multiplex alone.
 for name in - /dev/stdout /dev/fd/1; do
     "$program" run --plan plan.toml --out "$name" > piped.ts 2> err < /dev/null
@@ -170,6 +186,12 @@ sed 's|"north.ts"|"pipe"|' plan.toml > pipe.toml
 cat north.ts > pipe &
 run run --plan pipe.toml --out pipe.ts
 is 'an input from a named pipe' same pipe.ts whole.ts
+cat north.ts > pipe &
+run run --plan pipe.toml --out some.pipe.ts --slots 100 --serial
+is 'a pipe that is not read to its end is told' has err 'end: the slot limit: input 0 was not read to its end'
+cat north.ts > pipe &
+run check --plan pipe.toml
+is 'a pipe is not measured' has err 'rate: input 0 is not measured: it can be read only once'
 sed 's|"south.ts"|"-"|' standard.toml > both.toml
 cat north.ts | "$program" run --plan both.toml --out both.ts > out 2> err
 is 'two inputs are not one pipe' [ $? = 4 ]

@@ -72,6 +72,10 @@ answer 'an output onto the plan' 4 run --plan plan.toml --out plan.toml << 'END'
 fault file plan.toml
 plan.toml: it is the plan's file or an input; the output has to be another file
 END
+mistake 'an input without a name' 4 's|"north.ts"|""|' << 'END'
+fault file 
+the name is empty: it can't be opened: No such file or directory (os error 2)
+END
 answer 'an output in a folder that is not there' 4 run --plan plan.toml --out made/out.ts << 'END'
 fault file made/out.ts
 made/out.ts: no new file can be made beside it: No such file or directory (os error 2)
@@ -98,6 +102,34 @@ END
 mistake 'a rate as a text' 3 's|^rate = 3000000$|rate = "3000000"|' << 'END'
 fault 1 BadText
 line 7: invalid type: string "3000000", expected an integer in `rate`
+END
+mistake 'a PID as a text, one of several' 3 '0,/^pid = 258$/s||pid = "0x102"|' << 'END'
+fault 1 BadText
+line 40: invalid type: string "0x102", expected an integer in `service.stream.pid`
+END
+mistake 'a key of the top behind the tables' 3 -e '/^rate = 3000000$/d' -e '$a rate = 3000000' << 'END'
+fault 1 BadText
+line 70: unknown field `rate` in `service.stream`
+END
+mistake 'tables under another name' 3 's|^\[\[input\]\]$|[[inputs]]|' << 'END'
+fault 1 BadText
+line 20: unknown field `inputs`
+END
+mistake 'hex digits with blanks' 3 's|"440B03|"44 0B 03 |' << 'END'
+fault 1 BadText
+line 18: transport_descriptors has byte 0x20 at place 2, which is no hex digit
+END
+mistake 'hex digits with one too few' 3 's|750F"|750"|' << 'END'
+fault 1 BadText
+line 18: transport_descriptors has an odd number of hex digits, 25
+END
+mistake 'a letter in another code than UTF-8' 3 's|"Example"|"K\xF6ln"|' << 'END'
+fault 1 BadText
+line 16: it is no UTF-8 text, from byte 0xF6 on
+END
+answer 'an input for the plan' 3 check --plan north.ts << 'END'
+fault 1 BadText
+line 1: it is no UTF-8 text, from byte 0xF0 on
 END
 mistake 'a rate in kilobits' 3 's|^rate = 1000000$|rate = 1000|' << 'END'
 fault 2 OutOfRange
@@ -143,7 +175,10 @@ fault 5 NoProgram
 input 0, plan.toml: it has no sync byte, 0x47, at its beginning: it is no transport stream
 END
 
-# north.ts with 16 bytes behind each packet, and with free_CA_mode 1 in its SDT and a CRC that fits.
+# north.ts with 16 bytes behind each packet; with free_CA_mode 1 in its SDT and a CRC that fits; without its PAT; without its PMT;
+# with a PAT of 22 other programs; and with one that names the network's PID alone. A file whose bytes 0x47 are 256 apart. A plan of 16
+# services whose NIT is too large: 5 bytes, the lengths of its two loops, a name of 64 bytes in a descriptor, 6 bytes, a service list
+# of 16, 900 bytes and the CRC.
 python3 - << 'END'
 packets = [packet for packet in iter(lambda file=open("north.ts", "rb"): file.read(188), b"")]
 
@@ -157,8 +192,12 @@ def crc(octets):
     return register.to_bytes(4, "big")
 
 
+def pid(packet):
+    return packet[1] % 32 << 8 | packet[2]
+
+
 def scrambled(packet):
-    if packet[1] & 31 or packet[2] != 0x11:
+    if pid(packet) != 0x11:
         return packet
     section = bytearray(packet[5:8 + (packet[6] % 16 << 8 | packet[7])])
     section[14] |= 0x10
@@ -166,12 +205,71 @@ def scrambled(packet):
     return packet[:5] + section + packet[5 + len(section):]
 
 
-open("long.ts", "wb").write(b"".join(packet + bytes(16) for packet in packets))
-open("scrambled.ts", "wb").write(b"".join(scrambled(packet) for packet in packets))
+def with_programs(packet, programs):
+    if pid(packet) != 0:
+        return packet
+    rows = b"".join(program.to_bytes(2, "big") + b"\xE1\x00" for program in programs)
+    section = b"\x00\xB0" + bytes([9 + len(rows)]) + b"\x00\x01\xC1\x00\x00" + rows
+    return (packet[:4] + b"\x00" + section + crc(section)).ljust(188, b"\xFF")
+
+
+def write(name, pieces):
+    with open(name, "wb") as file:
+        file.write(b"".join(pieces))
+
+
+pmt = next(pid(packet) for packet in packets if packet[1] & 0x40 and packet[4:6] == b"\x00\x02")
+write("long.ts", (packet + bytes(16) for packet in packets))
+write("scrambled.ts", map(scrambled, packets))
+write("nopat.ts", (packet for packet in packets if pid(packet) != 0))
+write("nopmt.ts", (packet for packet in packets if pid(packet) != pmt))
+write("other.ts", (with_programs(packet, range(601, 623)) for packet in packets))
+write("network.ts", (with_programs(packet, [0]) for packet in packets))
+write("film.mp4", [b"\x00\x00\x00\x18ftypisom", bytes(range(256)) * 16])
+with open("plan.toml") as file:
+    top, north, first, *_ = file.read().split("\n[[")
+top = top.replace('"Example"', '"' + "N" * 64 + '"')
+top = top.replace("440B03460000FFF2030068750F", ("83FF" + "00" * 255) * 3 + "837F" + "00" * 127)
+with open("nit.toml", "w") as file:
+    file.write(top + "\n[[" + north)
+    for number in range(16):
+        file.write(f"\n[[service]]\ninput = 0\nprogram = 1\nservice = {101 + number}\npmt = {4096 + number}")
+        for row in 0, 1:
+            file.write(f"\n[[service.stream]]\npid = {257 + row}\nout = {512 + row}\nleak = 18000000")
 END
 mistake 'an input with packets of 204 bytes' 3 's|"north.ts"|"long.ts"|' << 'END'
 fault 5 NoProgram
 input 0, long.ts: it looks like packets of 204 bytes; they have to have 188
+END
+answer 'an analysis of packets of 204 bytes' 1 analyse --rate 1000000 --period 5000 long.ts << 'END'
+long.ts: it looks like packets of 204 bytes; they have to have 188
+END
+answer 'an analysis of a file without a byte' 0 analyse --rate 1000000 --period 5000 empty.ts << 'END'
+empty.ts: it is empty
+END
+mistake 'an input in another container' 3 's|"north.ts"|"film.mp4"|' << 'END'
+fault 5 NoProgram
+input 0, film.mp4: no five sync bytes stand in step at its beginning: it is no transport stream, or has fewer than five packets
+END
+mistake 'an input without a PAT' 3 's|"north.ts"|"nopat.ts"|' << 'END'
+fault 5 NoProgram
+service 101 (input 0, program 1): the input has no such program; it has no complete PAT
+END
+mistake 'an input without the PMT' 3 's|"north.ts"|"nopmt.ts"|' << 'END'
+fault 5 NoProgram
+service 101 (input 0, program 1): the input's PAT has it, and its PMT was not found
+END
+mistake 'an input with many other programs' 3 's|"north.ts"|"other.ts"|' << 'END'
+fault 5 NoProgram
+service 101 (input 0, program 1): the input has no such program; its PAT has programs 601, 602, 603, 604, 605, 606, 607, 608, 609, 610, 611, 612, 613, 614, 615, 616, 617, 618, 619, 620 and 2 more
+END
+mistake 'an input whose PAT is empty' 3 's|"north.ts"|"network.ts"|' << 'END'
+fault 5 NoProgram
+service 101 (input 0, program 1): the input has no such program; its PAT has no program
+END
+answer 'more descriptors than the NIT has room for' 3 check --plan nit.toml << 'END'
+fault 10 TooLarge
+section_length of the NIT is 1035, at most 1021
 END
 mistake 'a scrambled service' 3 's|"north.ts"|"scrambled.ts"|' << 'END'
 fault 7 CaFound

@@ -1,14 +1,13 @@
 //! Whole commands.
 
-use crate::printing::print_plan;
 use crate::run_command::{Asked, run};
-use crate::telling::print_rhythm;
 use analysis::StreamAnalysis;
 use files::Files;
 use input_files::{InputFile, ReadPlan, open_again, read_plan};
 use measuring::{Metered, print_measured, read_on, with_meters};
 use messages::{CommandFault, FileCause};
 use plan::Plan;
+use printing::{print_plan, print_rhythm, print_shape};
 use rate_meter::RateMeter;
 use std::alloc::Global;
 use std::convert::AsStr;
@@ -66,7 +65,7 @@ where
             (end_over(plan, ended, out, err), None)
         }
         Ok(Command::Analyse { rate, period, file }) => {
-            let ended = analyse(alloc, files, rate, period, file, out);
+            let ended = analyse(alloc, files, rate, period, file, out, err);
             (end(ended, out, err), None)
         }
         Ok(
@@ -216,23 +215,25 @@ fn measure<F: Files>(
     Ok(readers)
 }
 
-/// Tells the faults of a stream.
-fn analyse<F: Files, O: Write>(
+/// Reports the faults of a stream, and on `err` what it looks like, where it has faults and isn't made of packets of 188 bytes.
+fn analyse<F: Files, O: Write, E: Write>(
     alloc: Global,
     files: &mut F,
     rate: u64,
     period: u64,
     name: &str,
     out: &mut O,
+    err: &mut E,
 ) -> Result<u8, CommandFault> {
     let mut source = match files.reader(name) {
         Ok(source) => source,
         Err(cause) => return Err(CommandFault::file(alloc, name, cause)),
     };
     let mut analysis = StreamAnalysis::new(alloc, rate, period);
-    match analysis.read(alloc, &mut source, out)? {
-        Some(0) => Ok(0),
-        Some(_) => Ok(TOLD),
-        None => Err(CommandFault::file(alloc, name, source.cause())),
-    }
+    let Some(faults) = analysis.read(alloc, &mut source, out)? else {
+        return Err(CommandFault::file(alloc, name, source.cause()));
+    };
+    out.flush()?;
+    let _ = print_shape(name, source.head(), faults, err);
+    Ok(if faults == 0 { 0 } else { TOLD })
 }

@@ -3,9 +3,7 @@
 
 mod commands;
 mod open_gate;
-mod printing;
 mod run_command;
-mod telling;
 mod whole_run;
 
 pub use commands::command;

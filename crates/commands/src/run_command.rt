@@ -4,14 +4,13 @@ ghost use Rattle.std.specs.Prelude.{◌≡◌, length, IfOk};
 ghost use Rattle.words.specs.Ranges.{IsAllowedLength};
 
 use crate::commands::{end, end_over};
-use crate::printing::{print_delays, print_end, print_summary};
-use crate::telling::{print_faults, tell_overfull};
 use crate::whole_run::run_plan;
 use files::{Files, OutputFile, open_output};
 use input_files::{FileIdentity, InputFile, ReadPlan, open_again, read_plan, stopped};
 use measuring::{Metered, print_wrong_rates, with_meters};
 use messages::CommandFault;
 use plan::Plan;
+use printing::{print_delays, print_end, print_faults, print_summary, tell_overfull};
 use rate_meter::Meter;
 use reading::Stop;
 use serial::{RunFault, Summary};
@@ -124,7 +123,7 @@ where
             let status = end(told.and(named), out, err);
             let _ = print_end(&ran.summary, &ran.readers, err);
             let _ = print_faults(&ran.summary, err);
-            let status = tell_overfull(&ran.plan, &ran.summary, asked, status, err);
+            let status = tell_overfull(&ran.plan, &ran.summary, asked.strict, status, err);
             tell_partial(files, err);
             let _ = print_wrong_rates(&ran.plan, &ran.readers, err);
             status

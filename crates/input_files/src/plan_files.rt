@@ -21,7 +21,7 @@ use selection::seek;
 use std::alloc::{AllocError, Global};
 use std::str;
 use stream_shape::{StreamShape, shape_of};
-use text_causes::text_cause;
+use text_causes::{bytes_cause, text_cause};
 use tspkt::{Item, Packet};
 
 /// How many bytes are read at once.
@@ -108,6 +108,14 @@ fn request_of(alloc: Global, text: &str) -> Result<Request, CommandFault> {
     }
 }
 
+/// The fault of a plan's file whose bytes are no text, with its cause where there is memory for its words.
+fn no_text_fault(alloc: Global, bytes: &[u8]) -> CommandFault {
+    match bytes_cause(alloc, bytes) {
+        Ok(Some(cause)) => CommandFault::PlanCause(PlanFault::BadText, cause),
+        _ => CommandFault::from(PlanFault::BadText),
+    }
+}
+
 /// The request that a plan's file writes, and which file that is.
 fn read_request<F: Sources>(
     alloc: Global,
@@ -118,7 +126,7 @@ fn read_request<F: Sources>(
     match read_text(alloc, &mut source) {
         Ok(bytes) => match str::from_utf8(&bytes) {
             Ok(text) => Ok((request_of(alloc, text)?, source.identity())),
-            Err(_) => Err(CommandFault::from(PlanFault::BadText)),
+            Err(_) => Err(no_text_fault(alloc, &bytes)),
         },
         Err(stop) => Err(stopped(alloc, name, &source, stop, PLAN_LIMIT as u64)),
     }

@@ -58,7 +58,12 @@ impl CommandFault {
             }
             CommandFault::File(name, cause) => {
                 writeln!(err, "fault file {name}")?;
-                writeln!(err, "{name}: {cause}")
+                let shown = if name.is_empty() {
+                    "the name is empty"
+                } else {
+                    name.as_str()
+                };
+                writeln!(err, "{shown}: {cause}")
             }
             CommandFault::Print(error) => {
                 writeln!(err, "fault file standard output")?;

@@ -104,7 +104,9 @@ impl Display for StreamShape {
                 )
             }
             StreamShape::OutOfStep => {
-                f.write_str("its first bytes are no packets: no five sync bytes stand in step")
+                f.write_str(
+                    "no five sync bytes stand in step at its beginning: it is no transport stream, or has fewer than five packets",
+                )
             }
         }
     }

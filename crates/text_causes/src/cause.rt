@@ -4,9 +4,12 @@ ghost use Rattle.std.specs.Prelude.{◌≡◌, ◌≤◌, ◌==◌, length};
 ghost use Rattle.std.specs.List.{count_by};
 ghost use Rattle.text_causes.specs.Lines.{line_of};
 
-use crate::key_lines::{only_line, top_key_line};
-use crate::missing::{list_of, missing_cause};
+use crate::hex_digits::digits_cause;
+use crate::key_fault::KeyFault;
+use crate::key_lines::top_key_line;
+use crate::missing::missing_words;
 use crate::plan_keys::PlanKeys;
+use crate::wrong_key::WrongKey;
 use std::alloc::{AllocError, Global};
 
 /// How many lines end in these bytes.
@@ -17,12 +20,12 @@ fn lines_ended(bytes: &[u8]) -> usize
     bytes.iter().filter(|byte| **byte == b'\n').count()
 }
 
-/// The line, from 1, that the byte at this place of a text stands in.
-fn line_at(text: &str, place: usize) -> usize
-    requires { place ≤ length text.now }
-    ensures { result ≡ line_of text.now place }
+/// The line, from 1, that the byte at this place stands in.
+fn line_at(bytes: &[u8], place: usize) -> usize
+    requires { place ≤ length bytes.now }
+    ensures { result ≡ line_of bytes.now place }
 {
-    1 + lines_ended(&text.as_bytes()[..place])
+    1 + lines_ended(&bytes[..place])
 }
 
 /// The line at which a text is no TOML, and why; none where it is.
@@ -31,7 +34,7 @@ fn syntax_cause(alloc: Global, text: &str) -> Result<Option<String>, AllocError>
         Ok(_) => Ok(None),
         Err(error) => match error.span() {
             Some(span) => {
-                let (line, message) = (line_at(text, span.start), error.message());
+                let (line, message) = (line_at(text.as_bytes(), span.start), error.message());
                 Ok(Some(format!(in alloc; "line {line}: {message}")?))
             }
             None => Err(AllocError),
@@ -39,46 +42,70 @@ fn syntax_cause(alloc: Global, text: &str) -> Result<Option<String>, AllocError>
     }
 }
 
-/// The line of the key that is unknown or of another type, by the first line and all lines that the reader of the keys says of the
-/// text. None where several lines have that key.
-fn wrong_line(text: &str, message: &str, lines: &str) -> Option<usize> {
-    if let Some(rest) = message.strip_prefix("unknown field `") {
-        let (key, _) = rest.split_once("`")?;
-        return only_line(text, key);
-    }
-    let path = list_of(lines)?;
-    match path.rsplit_once(".") {
-        Some((_, key)) => only_line(text, key),
-        None => top_key_line(text, path),
+/// Words with their line in front, if it is known.
+fn with_line(alloc: Global, line: Option<usize>, words: &str) -> Result<String, AllocError> {
+    match line {
+        Some(line) => format!(in alloc; "line {line}: {words}"),
+        None => String::from_str(alloc, words),
     }
 }
 
-/// The key that is missing, unknown or of another type, in words; none where each is as it should be.
+/// What is said of a key that is missing, unknown or of another type, by the message of the reader of the keys and all its lines.
+fn key_words(alloc: Global, text: &str, message: &str, lines: &str) -> Result<String, AllocError> {
+    let words = lines.trim_end().replace(alloc, "\n", " ")?;
+    let Some(wrong) = WrongKey::read(message, lines) else {
+        return Ok(words);
+    };
+    let line = wrong.line(alloc, text)?;
+    match wrong.fault {
+        KeyFault::Missing => missing_words(alloc, wrong.list, wrong.key, line),
+        _ => with_line(alloc, line, &words),
+    }
+}
+
+/// What is wrong with `transport_descriptors`, whose value are these digits, in words; none where nothing is.
+fn descriptors_cause(
+    alloc: Global,
+    text: &str,
+    digits: &str,
+) -> Result<Option<String>, AllocError> {
+    let Some(cause) = digits_cause(alloc, digits)? else {
+        return Ok(None);
+    };
+    let words = format!(in alloc; "transport_descriptors {cause}")?;
+    Ok(Some(with_line(alloc, top_key_line(text, "transport_descriptors"), &words)?))
+}
+
+/// What is wrong with the keys of a text, in words; none where each is as it should be.
 fn key_cause(alloc: Global, text: &str) -> Result<Option<String>, AllocError> {
     match toml::from_str::<PlanKeys>(alloc, text) {
-        Ok(_) => Ok(None),
+        Ok(keys) => descriptors_cause(alloc, text, &keys.transport_descriptors),
         Err(error) => {
             let lines = format!(in alloc; "{error}")?;
-            match missing_cause(alloc, text, error.message(), &lines)? {
-                Some(cause) => Ok(Some(cause)),
-                None => {
-                    let words = lines.trim_end().replace(alloc, "\n", " ")?;
-                    match wrong_line(text, error.message(), &lines) {
-                        Some(line) => Ok(Some(format!(in alloc; "line {line}: {words}")?)),
-                        None => Ok(Some(words)),
-                    }
-                }
-            }
+            Ok(Some(key_words(alloc, text, error.message(), &lines)?))
         }
     }
 }
 
-/// Why a text is no plan: the line at which it is no TOML; the key that is missing, with the line of the header of its table; or
-/// the key that is unknown or of another type, with its line where no other line has that key. None where it has all keys of a plan and no others, so that it is no plan for what
-/// `transport_descriptors` has.
+/// Why a text is no plan: the line at which it is no TOML; the key that is missing, with the line of the header of its table; the
+/// key that is unknown or of another type, with its line; or the hex digits that are wrong. The line is left out where it isn't
+/// known. None where nothing is wrong with the keys.
 pub fn text_cause(alloc: Global, text: &str) -> Result<Option<String>, AllocError> {
     match syntax_cause(alloc, text)? {
         Some(cause) => Ok(Some(cause)),
         None => key_cause(alloc, text),
     }
+}
+
+/// Why these bytes are no text: the line of the first one that isn't UTF-8, in words. None where they are a text.
+pub fn bytes_cause(alloc: Global, bytes: &[u8]) -> Result<Option<String>, AllocError> {
+    let Err(error) = str::from_utf8(bytes) else {
+        return Ok(None);
+    };
+    let place = error.valid_up_to();
+    let Some(byte) = bytes.get(place) else {
+        return Ok(None);
+    };
+    let line = line_at(bytes, place);
+    Ok(Some(format!(in alloc; "line {line}: it is no UTF-8 text, from byte 0x{byte:02X} on")?))
 }

@@ -32,3 +32,42 @@ pub(crate) fn header_line(text: &str, name: &str, number: usize, total: usize) -
     }
     if headers == total { found } else { None }
 }
+
+/// The path in a line that is the header of a table, alone or of a list.
+fn header_path(line: &str) -> Option<&str> {
+    let inner = line.trim_start().strip_prefix("[")?;
+    let inner = inner.strip_prefix("[").unwrap_or(inner);
+    let (path, _) = inner.split_once("]")?;
+    Some(path.trim())
+}
+
+/// Whether a path goes through this key of the tables of a list, or of the top.
+fn goes_through(path: &str, list: Option<&str>, key: &str) -> Option<bool> {
+    let inner = match list {
+        Some(list) => path.strip_prefix(list)?.strip_prefix(".")?,
+        None => path,
+    };
+    let rest = inner.strip_prefix(key)?;
+    Some(rest.is_empty() || rest.starts_with("."))
+}
+
+/// The first line, from 1, behind the line with this number, that is a header of what this key of the tables of a list has, or
+/// of the top, as `[[inputs]]`, `[inputs]` or `[inputs.more]`.
+pub(crate) fn header_behind(
+    text: &str,
+    line: usize,
+    list: Option<&str>,
+    key: &str,
+) -> Option<usize> {
+    let mut number = 0usize;
+    for content in text.lines() {
+        number = number.saturating_add(1);
+        if line < number
+            && let Some(path) = header_path(content)
+            && goes_through(path, list, key) == Some(true)
+        {
+            return Some(number);
+        }
+    }
+    None
+}

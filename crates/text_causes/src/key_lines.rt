@@ -1,6 +1,6 @@
 //! The lines of keys.
 
-use crate::headers::{header_line, is_header};
+use crate::headers::{header_behind, header_line, is_header};
 
 /// Whether a line gives this key its value, as `rate = 5` does.
 fn has_key(line: &str, key: &str) -> bool {
@@ -55,4 +55,18 @@ pub fn top_key_line(text: &str, key: &str) -> Option<usize> {
 /// which has `total` tables. None where it isn't known: where the tables have no headers of their own.
 pub fn key_line(text: &str, list: &str, number: usize, total: usize, key: &str) -> Option<usize> {
     line_behind(text, header_line(text, list, number, total)?, key)
+}
+
+/// The line, from 1, at which a key stands in the table of a list whose header has this line, or at the top for line 0: where it
+/// is given its value, or its first header, as `[[inputs]]`. None where it isn't known.
+pub(crate) fn named_line(
+    text: &str,
+    header: usize,
+    list: Option<&str>,
+    key: &str,
+) -> Option<usize> {
+    match line_behind(text, header, key) {
+        Some(line) => Some(line),
+        None => header_behind(text, header, list, key),
+    }
 }

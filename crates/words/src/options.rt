@@ -30,7 +30,7 @@ With --delays it prints a line for each stream too, on standard error: the large
 in ticks of 27 MHz, and the most packets that waited in its queue. Where the delay grows with the length of the run \
 the plan is overfull; where the queue came to the plan's 'queue' it may be.
 
-A stream whose packets waited more than a second is told on standard error, \
+A stream whose packets waited more than a second is reported on standard error, \
 and one whose queue came to the plan's 'queue' too. With --strict the status of such a run is 1; its output is the same.
 
 Example:
@@ -41,7 +41,8 @@ const CHECK_USAGE: &str = "remux check --plan <F>";
 const CHECK_EXAMPLE: &str =
     "It reads the plan and the tables of its inputs, and prints the rhythm of the tables, \
 the services and the streams. On standard error it prints how often the tables come, \
-which 'period' the plan may have, and how long 1000000 slots take.
+which 'period' the plan may have, how long 1000000 slots take, \
+and what the inputs' rates are where they aren't as the plan states.
 
 Example:
   ./remux check --plan examples/plan.toml";

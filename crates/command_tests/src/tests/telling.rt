@@ -4,7 +4,11 @@ use crate::tests::memory_files::{MemoryFiles, does, does_once};
 use crate::tests::whole_commands::{ENDED, LINES, ends, files};
 use example::{add_packets, eight_packets, input, service, settings};
 use std::alloc::{AllocError, Global};
+use std::process::Abort;
+use std::sync::Wait;
 use std::test::Fail;
+use std::thread::Threads;
+use std::time::Clock;
 
 const RUN: [&str; 6] = ["run", "--plan", "x.toml", "--out", "out.ts", "--strict"];
 
@@ -77,11 +81,96 @@ fn a_missing_key_is_told_with_its_line(rt: HostRuntime) -> Result<(), Fail> {
         ("leak = 2000000\n", "line 21: missing key 'leak'"),
     ] {
         let text = example::PLAN.replacen(alloc, key, "", 1)?;
-        let mut files = MemoryFiles::new(alloc)?;
-        files.add("x.toml", text.as_bytes())?;
-        let done = does(rt, &CHECK, &mut files)?;
-        let told = done.texts().1.lines().nth(2);
-        assert_eq!(rt; told, Some(cause));
+        third_line(rt, alloc, text.as_bytes(), cause)?;
+    }
+    Ok(())
+}
+
+/// Edits of the example's plan, each of a key that several tables have or that has a header, and what is said of it. In its text
+/// `[[input]]` is line 12 and `[[service]]` line 16; the keys of its last table are lines 22 to 24.
+const WRONG_KEYS: [(&str, &str, &str); 8] = [
+    (
+        "1504000\noffset",
+        "true\noffset",
+        "line 14: invalid type: boolean `true`, expected an integer in `input.rate`",
+    ),
+    (
+        "\nleak",
+        "\nrate = 5\nleak",
+        "line 24: unknown field `rate` in `service.stream`",
+    ),
+    (
+        "leak = 2000000\n",
+        "leak = 1000\n[[service.stream]]\npid = 258\nout = \"513\"\nleak = 1000\n",
+        "line 27: invalid type: string \"513\", expected an integer in `service.stream.out`",
+    ),
+    (
+        "[[input]]",
+        "[input]",
+        "line 12: invalid type: map, expected a sequence in `input`",
+    ),
+    (
+        "[[service.stream]]",
+        "[[service.streams]]",
+        "line 21: unknown field `streams` in `service`",
+    ),
+    (
+        "[[input]]",
+        "[[inputs]]\n[[input]]",
+        "line 12: unknown field `inputs`",
+    ),
+    (
+        "transport_descriptors = \"\"",
+        "transport_descriptors = \"410\"",
+        "line 11: transport_descriptors has an odd number of hex digits, 3",
+    ),
+    (
+        "transport_descriptors = \"\"",
+        "transport_descriptors = \"41 00\"",
+        "line 11: transport_descriptors has byte 0x20 at place 2, which is no hex digit",
+    ),
+];
+
+/// What `check` says of a plan in its third line.
+fn third_line<T: Abort + Threads + Wait + Clock + Copy + Send + Drop + 'static>(
+    rt: T,
+    alloc: Global,
+    plan: &[u8],
+    cause: &str,
+) -> Result<(), AllocError> {
+    let mut files = MemoryFiles::new(alloc)?;
+    files.add("x.toml", plan)?;
+    let done = does(rt, &CHECK, &mut files)?;
+    assert_eq!(rt; done.texts().1.lines().nth(2), Some(cause));
+    assert_eq!(rt; done.status, 3);
+    Ok(())
+}
+
+#[test]
+fn a_wrong_key_is_told_with_its_line(rt: HostRuntime) -> Result<(), Fail> {
+    let alloc = rt.alloc();
+    for (old, new, cause) in WRONG_KEYS {
+        let text = example::PLAN.replacen(alloc, old, new, 1)?;
+        third_line(rt, alloc, text.as_bytes(), cause)?;
+    }
+    Ok(())
+}
+
+/// A plan with a letter of another code than UTF-8, and one of another code from its start.
+#[test]
+fn bytes_that_are_no_text_are_told_with_their_line(rt: HostRuntime) -> Result<(), Fail> {
+    let alloc = rt.alloc();
+    for (bytes, cause) in [
+        (
+            b"rate = 1504000\nnetwork_name = \"K\xF6ln\"\n".as_slice(),
+            "line 2: it is no UTF-8 text, from byte 0xF6 on",
+        ),
+        (
+            b"\xFF\xFEr\0".as_slice(),
+            "line 1: it is no UTF-8 text, from byte 0xFF on",
+        ),
+    ] {
+        third_line(rt, alloc, bytes, cause)?;
     }
     Ok(())
 }

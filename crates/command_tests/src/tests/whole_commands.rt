@@ -155,7 +155,53 @@ fn faults_are_told(rt: HostRuntime) -> Result<(), Fail> {
         "",
     );
     let bad = "slot 1 1.2 -\nslots 2 faults 1 rest 187\n";
-    ends(&rt, &analyses(rt, rt.alloc(), 0, &[0xAA; 375])?, 1, bad, "");
+    let shape =
+        "x.ts: no five sync bytes stand in step at its beginning: it is no transport stream, or has fewer than five packets\n";
+    ends(
+        &rt,
+        &analyses(rt, rt.alloc(), 0, &[0xAA; 375])?,
+        1,
+        bad,
+        shape,
+    );
+    Ok(())
+}
+
+/// Of an empty stream it is said that it is empty, since no fault says so.
+#[test]
+fn an_empty_stream_is_told(rt: HostRuntime) -> Result<(), Fail> {
+    let done = does(rt, &ANALYSE, &mut cut_files(rt.alloc(), 0)?)?;
+    ends(
+        &rt,
+        &done,
+        0,
+        "slots 0 faults 0 rest 0\n",
+        "x.ts: it is empty\n",
+    );
+    Ok(())
+}
+
+/// Inputs that can't be opened again, as `check` does to measure them, aren't measured.
+#[test]
+fn inputs_that_are_opened_once_are_not_measured(rt: HostRuntime) -> Result<(), Fail> {
+    let done = does(rt, &CHECK, &mut with_readers(rt.alloc(), &[false])?)?;
+    assert_eq!(rt;
+        done.texts().1.lines().last(),
+        Some("rate: the inputs can't be measured")
+    );
+    assert_eq!(rt; done.status, 0);
+    Ok(())
+}
+
+/// An input and an output with no name.
+#[test]
+fn a_name_that_is_empty_is_told(rt: HostRuntime) -> Result<(), Fail> {
+    let alloc = rt.alloc();
+    let text = example::PLAN.replacen(alloc, "x.ts", "", 1)?;
+    let mut files = MemoryFiles::new(alloc)?;
+    files.add("x.toml", text.as_bytes())?;
+    let told = "fault file \nthe name is empty: it can't be opened: entity not found\n";
+    fails(rt, &CHECK, files, told)?;
     Ok(())
 }
 

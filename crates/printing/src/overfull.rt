@@ -1,11 +1,8 @@
-//! What a plan and a run say to their user, on standard error, behind all other lines.
+//! Whether the plan of a run is overfull, in lines.
 
-use crate::run_command::Asked;
-use advice::{
-    is_filled, late_by, left_rate, longest_period, pat_interval, run_seconds, sdt_interval,
-    shortest_period, taken_rate,
-};
-use analyse::FaultKind;
+ghost use Rattle.std.specs.Prelude.{◌≡◌, ◌≢◌, ◌⊎◌, false};
+
+use advice::{is_filled, late_by, left_rate, taken_rate};
 use mux::Counts;
 use plan::Plan;
 use serial::Summary;
@@ -14,47 +11,6 @@ use std::io::Write;
 
 /// The status of a strict run whose plan is overfull.
 const OVERFULL: u8 = 1;
-
-/// Prints how often the tables of a plan come, which `period` it may have, and how long a run of 1,000,000 slots is.
-pub(crate) fn print_rhythm<E: Write>(plan: &Plan, err: &mut E) -> io::Result<()> {
-    let rounds = plan.rounds();
-    let (pat, sdt) = (pat_interval(rounds), sdt_interval(rounds));
-    let (shortest, longest) = (shortest_period(rounds), longest_period(rounds));
-    let seconds = run_seconds(rounds);
-    writeln!(
-        err,
-        "tables: PAT and PMTs every {pat} ms, SDT and NIT every {sdt} ms"
-    )?;
-    writeln!(err, "period: may be {shortest} to {longest} slots")?;
-    writeln!(err, "run: 1000000 slots take {seconds} s")
-}
-
-/// The kinds of faults, by their numbers.
-const KINDS: [FaultKind; 6] = [
-    FaultKind::TsSyncLoss,
-    FaultKind::SyncByteError,
-    FaultKind::PatError2,
-    FaultKind::ContinuityCountError,
-    FaultKind::PmtError2,
-    FaultKind::PidError,
-];
-
-/// Prints the faults that were told of the output of a run, where there are some: how many there are of each kind, and the first
-/// ten.
-pub(crate) fn print_faults<E: Write>(summary: &Summary, err: &mut E) -> io::Result<()> {
-    let counts = summary.fault_report.counts();
-    for kind in KINDS {
-        let count = counts.of(kind);
-        if count > 0 {
-            let name = kind.name();
-            writeln!(err, "faults: {count} of {kind} {name}")?;
-        }
-    }
-    for fault in summary.fault_report.first() {
-        writeln!(err, "faults: {fault}")?;
-    }
-    Ok(())
-}
 
 /// Whether a stream of a run waited more than a second, or filled its queue.
 fn is_overfull(plan: &Plan, summary: &Summary) -> bool {
@@ -113,18 +69,22 @@ fn print_overfull<E: Write>(plan: &Plan, summary: &Summary, err: &mut E) -> io::
 
 /// Says of a run that would end with this status that its plan is overfull, where it is. The answer is the status with which it
 /// ends: where the plan is overfull, a strict run that had no fault ends with 1.
-pub(crate) fn tell_overfull<E: Write>(
+pub fn tell_overfull<E: Write>(
     plan: &Plan,
     summary: &Summary,
-    asked: &Asked,
+    is_strict: bool,
     status: u8,
     err: &mut E,
-) -> u8 {
+) -> u8
+    ensures lenient { is_strict ≡ false → result ≡ status }
+    ensures failed { status ≢ 0 → result ≡ status }
+    ensures strict { (result ≡ status) ⊎ (result ≡ 1) }
+{
     if !is_overfull(plan, summary) {
         return status;
     }
     let _ = print_overfull(plan, summary, err);
-    if asked.strict && status == 0 {
+    if is_strict && status == 0 {
         OVERFULL
     } else {
         status

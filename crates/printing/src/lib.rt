@@ -1,0 +1,16 @@
+//! The lines that commands print of plans, of runs and of streams: what became of them, and what they say to their user.
+#![tactic(auto)]
+
+mod fault_lines;
+mod overfull;
+mod plan_lines;
+mod run_end;
+mod run_lines;
+mod stream_line;
+
+pub use fault_lines::print_faults;
+pub use overfull::tell_overfull;
+pub use plan_lines::{print_plan, print_rhythm};
+pub use run_end::print_end;
+pub use run_lines::{print_delays, print_summary};
+pub use stream_line::print_shape;

@@ -1,0 +1,77 @@
+//! Why a run ended, in lines.
+
+use input_files::InputFile;
+use reading::{Report, Stop};
+use serial::Summary;
+use std::io;
+use std::io::Write;
+
+/// How many bytes of an input were framed.
+fn bytes_read(report: &Report) -> u64 {
+    let packets = report.framed.saturating_add(report.bad);
+    packets.saturating_mul(188).saturating_add(report.lost)
+}
+
+/// How much of an input of this length was read, in per cent.
+fn percent_read(report: &Report, length: u64) -> u64 {
+    let read = bytes_read(report).saturating_mul(100);
+    read.checked_div(length).unwrap_or(100).min(100)
+}
+
+/// Prints why an input was read no further before its end, and answers whether it was.
+fn print_left<R: InputFile, E: Write>(
+    number: usize,
+    report: &Report,
+    reader: &R,
+    err: &mut E,
+) -> io::Result<bool> {
+    match (report.stopped, reader.length()) {
+        (None, _) => return Ok(false),
+        (Some(Stop::Gate), Some(length)) => {
+            let percent = percent_read(report, length);
+            writeln!(
+                err,
+                "end: the slot limit: input {number} was read to {percent} %"
+            )?;
+        }
+        (Some(Stop::Gate), None) => {
+            writeln!(
+                err,
+                "end: the slot limit: input {number} was not read to its end"
+            )?;
+        }
+        (Some(_), _) => writeln!(err, "end: input {number} failed")?,
+    }
+    Ok(true)
+}
+
+/// Prints that all inputs of a run were read to their ends. Where some of their packets still wait, the run had all its slots
+/// first.
+fn print_all<E: Write>(summary: &Summary, err: &mut E) -> io::Result<()> {
+    if summary.inputs.iter().any(|input| input.totals.queued > 0) {
+        writeln!(
+            err,
+            "end: the slot limit: all inputs were read to their ends"
+        )
+    } else {
+        writeln!(err, "end: all inputs ended")
+    }
+}
+
+/// Prints why a run ended: a line for each input that wasn't read to its end, or one that says that all were.
+pub fn print_end<R: InputFile, E: Write>(
+    summary: &Summary,
+    readers: &Vec<R>,
+    err: &mut E,
+) -> io::Result<()> {
+    let mut is_all = true;
+    for (number, (input, reader)) in summary.inputs.iter().zip(readers.iter()).enumerate() {
+        if print_left(number, &input.report, reader, err)? {
+            is_all = false;
+        }
+    }
+    if is_all {
+        print_all(summary, err)?;
+    }
+    Ok(())
+}
