@@ -258,7 +258,10 @@ is 'an empty input is told' has err 'empty.ts: it is empty'
 run check --plan zeros.toml
 is 'a file without a sync byte is told' has err 'zeros.ts: it has no sync byte'
 run check --plan long.toml
-is 'packets of 204 bytes are told' has err 'long.ts: it looks like packets of 204 bytes'
+is 'packets of 204 bytes are told' has err 'long.ts: it looks like packets of 204 bytes: state size = 204'
+sed 's|^file = "long.ts"$|&\nsize = 204|' long.toml > sized.toml
+run check --plan sized.toml
+is 'packets of a size that is stated are read' has err 'it has no complete PAT'
 
 # Words.
 run check --plan $'\xff.toml'

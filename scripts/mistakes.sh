@@ -239,10 +239,18 @@ with open("nit.toml", "w") as file:
 END
 mistake 'an input with packets of 204 bytes' 3 's|"north.ts"|"long.ts"|' << 'END'
 fault 5 NoProgram
-input 0, long.ts: it looks like packets of 204 bytes; they have to have 188
+input 0, long.ts: it looks like packets of 204 bytes: state size = 204
+END
+mistake 'an input with packets of 188 bytes at size 204' 3 's|^file = "north.ts"$|&\nsize = 204|' << 'END'
+fault 5 NoProgram
+input 0, north.ts: it looks like packets of 188 bytes: state size = 188
+END
+mistake 'an input of a size that there is not' 3 's|^file = "north.ts"$|&\nsize = 192|' << 'END'
+fault 2 OutOfRange
+line 22: input 0: size is 192, either 188 or 204
 END
 answer 'an analysis of packets of 204 bytes' 1 analyse --rate 1000000 --period 5000 long.ts << 'END'
-long.ts: it looks like packets of 204 bytes; they have to have 188
+long.ts: it looks like packets of 204 bytes: state --size 204
 END
 answer 'an analysis of a file without a byte' 0 analyse --rate 1000000 --period 5000 empty.ts << 'END'
 empty.ts: it is empty

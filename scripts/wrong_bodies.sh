@@ -1,6 +1,6 @@
 #!/usr/bin/env bash
 # Tries the wrong bodies that the merge gate has no time for, those of the folder wrong-bodies: the prover must refuse each. Words name
-# the crates; without words all are tried, which takes about an hour of one processor. From anywhere: scripts/wrong_bodies.sh words.
+# the crates; without words all are tried, which takes about two hours of one processor. From anywhere: scripts/wrong_bodies.sh words.
 # It works in place, over what earlier checks kept: each crate's must-fail folder stands aside meanwhile, and comes back.
 set -euo pipefail
 top=$(cd -- "$(dirname -- "${BASH_SOURCE[0]}")/.." && pwd)

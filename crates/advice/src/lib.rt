@@ -8,6 +8,6 @@ mod load;
 mod rhythm;
 mod waiting;
 
-pub use load::{left_rate, taken_rate};
+pub use load::{left_rate, packets_rate, taken_rate};
 pub use rhythm::{longest_period, pat_interval, run_seconds, sdt_interval, shortest_period};
 pub use waiting::{is_filled, late_by};

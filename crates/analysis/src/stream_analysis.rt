@@ -2,16 +2,18 @@
 
 ghost use Rattle.std.specs.Prelude.{◌≡◌, ◌≤◌, length, IfSome};
 
+use advice::packets_rate;
 use analyse::{Analyser, Fault};
 use messages::CommandFault;
 use reading::Source;
 use std::alloc::{AllocError, Global};
 use std::io::Write;
+use tspkt::PacketFormat;
 
-/// The length of a slot, in bytes.
-const SLOT: usize = 188;
-/// How many bytes are analysed at once: whole slots.
-const PIECE: usize = 348 * SLOT;
+/// The length of a packet, in bytes.
+const PACKET: usize = 188;
+/// How many packets are analysed at once.
+const PACKETS: usize = 348;
 
 /// Reads until the piece is full or the source ends, and answers how many bytes; none where a read fails.
 fn fill<R: Source>(source: &mut R, piece: &mut [u8]) -> Option<usize>
@@ -32,6 +34,7 @@ fn fill<R: Source>(source: &mut R, piece: &mut [u8]) -> Option<usize>
 /// The analysis of a stream that is read in pieces, and printed as it goes.
 #[derive(Drop)]
 pub struct StreamAnalysis {
+    format: PacketFormat,
     analyser: Analyser,
     /// The faults that were not printed yet.
     found: Vec<Fault>,
@@ -40,11 +43,12 @@ pub struct StreamAnalysis {
 }
 
 impl StreamAnalysis {
-    /// That of a stream of this rate, in bits a second, of which nothing was read. Each PID that a PMT refers to has to come
-    /// within `period` slots.
-    pub fn new(alloc: Global, rate: u64, period: u64) -> StreamAnalysis {
+    /// That of a stream of this format and of this rate, in bits a second, which counts all of its bytes, and of which nothing was
+    /// read. Each PID that a PMT refers to has to come within `period` slots.
+    pub fn new(alloc: Global, format: PacketFormat, rate: u64, period: u64) -> StreamAnalysis {
         StreamAnalysis {
-            analyser: Analyser::new(alloc, rate, period),
+            format,
+            analyser: Analyser::new(alloc, packets_rate(format, rate), period),
             found: Vec::new(alloc),
             slots: 0,
             faults: 0,
@@ -59,29 +63,35 @@ impl StreamAnalysis {
         source: &mut R,
         out: &mut O,
     ) -> Result<Option<u64>, CommandFault> {
-        let mut piece = vec![in alloc; 0; PIECE]?;
+        let mut piece = vec![in alloc; 0; PACKETS * self.format.stride()]?;
         for _ in 0..u64::MAX {
             let Some(count) = fill(source, piece.as_mut_slice()) else {
                 return Ok(None);
             };
-            let (slots, rest) = piece[..count].as_chunks::<SLOT>();
-            self.analyse(slots)?;
+            let rest = self.analyse(&piece[..count])?;
             self.print_faults(out)?;
-            if count < PIECE {
-                self.print_end(rest.len(), out)?;
+            if count < piece.len() {
+                self.print_end(rest, out)?;
                 return Ok(Some(self.faults));
             }
         }
         Ok(None)
     }
 
-    /// Analyses the next slots.
-    fn analyse(&mut self, slots: &[[u8; SLOT]]) -> Result<(), AllocError> {
-        for slot in slots {
-            self.analyser.push(slot, &mut self.found)?;
-            self.slots = self.slots.saturating_add(1);
+    /// Analyses the packets of the next piece, without the bytes that follow each, and answers how many bytes are left at its end
+    /// that are no whole packet.
+    fn analyse(&mut self, piece: &[u8]) -> Result<usize, AllocError> {
+        let mut rest = 0;
+        for chunk in piece.chunks(self.format.stride()) {
+            match chunk.first_chunk::<PACKET>() {
+                Some(slot) => {
+                    self.analyser.push(slot, &mut self.found)?;
+                    self.slots = self.slots.saturating_add(1);
+                }
+                None => rest = chunk.len(),
+            }
         }
-        Ok(())
+        Ok(rest)
     }
 
     /// Prints a line for each fault that was told.
@@ -94,7 +104,7 @@ impl StreamAnalysis {
         Ok(())
     }
 
-    /// Prints the line of the stream, which has so many bytes behind its last whole slot.
+    /// Prints the line of the stream, which has so many bytes after its last whole packet.
     fn print_end<O: Write>(&self, rest: usize, out: &mut O) -> Result<(), CommandFault> {
         let (slots, faults) = (self.slots, self.faults);
         writeln!(out, "slots {slots} faults {faults} rest {rest}")?;

@@ -6,5 +6,6 @@ mod memory_files;
 mod rates;
 mod refused_plans;
 mod runs;
+mod sizes;
 mod telling;
 mod whole_commands;

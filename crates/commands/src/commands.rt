@@ -15,6 +15,7 @@ use std::io::{ErrorKind, Write};
 use std::sync::Wait;
 use std::thread::Threads;
 use std::time::Clock;
+use tspkt::PacketFormat;
 use words::{Command, LineFault, line};
 
 /// The status of a refused command line.
@@ -53,6 +54,7 @@ pub fn command<
 ) -> (u8, Option<F::Writer>)
 where
     F::Again: Send + 'static,
+    F::Writer: Send + Drop + 'static,
 {
     if words.is_empty() {
         let ended = print_first(alloc, out);
@@ -64,8 +66,16 @@ where
             let ended = check(alloc, files, plan, out, err);
             (end_over(plan, ended, out, err), None)
         }
-        Ok(Command::Analyse { rate, period, file }) => {
-            let ended = analyse(alloc, files, rate, period, file, out, err);
+        Ok(
+            Command::Analyse {
+                format,
+                rate,
+                period,
+                file,
+            },
+        ) => {
+            let mut analysis = StreamAnalysis::new(alloc, format, rate, period);
+            let ended = analyse(alloc, files, &mut analysis, format, file, out, err);
             (end(ended, out, err), None)
         }
         Ok(
@@ -206,7 +216,7 @@ fn measure<F: Files>(
     first: Vec<F::Reader>,
 ) -> Result<Vec<Metered<F::Again>>, CommandFault> {
     let readers = open_again(alloc, files, plan, first)?;
-    let mut readers: Vec<Metered<F::Again>> = with_meters(alloc, readers)?;
+    let mut readers: Vec<Metered<F::Again>> = with_meters(alloc, plan, readers)?;
     for reader in readers.iter_mut() {
         if reader.length().is_some() {
             read_on(alloc, reader);
@@ -215,12 +225,13 @@ fn measure<F: Files>(
     Ok(readers)
 }
 
-/// Reports the faults of a stream, and on `err` what it looks like, where it has faults and isn't made of packets of 188 bytes.
+/// Reports the faults of a stream of this format, and on `err` what it looks like, where it has faults and isn't made of packets of
+/// that format.
 fn analyse<F: Files, O: Write, E: Write>(
     alloc: Global,
     files: &mut F,
-    rate: u64,
-    period: u64,
+    analysis: &mut StreamAnalysis,
+    format: PacketFormat,
     name: &str,
     out: &mut O,
     err: &mut E,
@@ -229,11 +240,10 @@ fn analyse<F: Files, O: Write, E: Write>(
         Ok(source) => source,
         Err(cause) => return Err(CommandFault::file(alloc, name, cause)),
     };
-    let mut analysis = StreamAnalysis::new(alloc, rate, period);
     let Some(faults) = analysis.read(alloc, &mut source, out)? else {
         return Err(CommandFault::file(alloc, name, source.cause()));
     };
     out.flush()?;
-    let _ = print_shape(name, source.head(), faults, err);
+    let _ = print_shape(name, format, source.head(), faults, err);
     Ok(if faults == 0 { 0 } else { TOLD })
 }

@@ -1,6 +1,7 @@
 //! The command that makes a multiplex.
 
-ghost use Rattle.std.specs.Prelude.{◌≡◌, length, IfOk};
+ghost use Rattle.std.specs.Prelude.{◌≡◌, ℕ, length, IfOk};
+ghost use Rattle.reading.specs.InputLimit.{IsAllowed as IsAllowedLimit};
 ghost use Rattle.words.specs.Ranges.{IsAllowedLength};
 
 use crate::commands::{end, end_over};
@@ -12,14 +13,14 @@ use messages::CommandFault;
 use plan::Plan;
 use printing::{print_delays, print_end, print_faults, print_summary, tell_overfull};
 use rate_meter::Meter;
-use reading::Stop;
+use reading::{InputLimit, Stop};
 use serial::{RunFault, Summary};
 use std::alloc::Global;
 use std::io::Write;
 use std::sync::Wait;
 use std::thread::Threads;
 use std::time::Clock;
-use words::{RunLength, most_bytes, most_slots};
+use words::{RunLength, most_slots};
 
 /// What a run is asked for.
 #[derive(Clone, Copy)]
@@ -36,6 +37,18 @@ pub(crate) struct Asked<'a> {
     pub delays: bool,
     /// Whether a run whose plan is overfull ends with status 1.
     pub strict: bool,
+}
+
+/// The most bytes of an input of a run of this length.
+fn input_limit(length: RunLength) -> InputLimit
+    ensures slots { (most : ℕ) → length ≡ RunLength.Slots most → result ≡ InputLimit.OfFormat }
+    ensures all { length ≡ RunLength.All → result ≡ InputLimit.Bytes 140737488355328 }
+    ensures allowed { IsAllowedLimit result }
+{
+    match length {
+        RunLength::Slots(_) => InputLimit::OfFormat,
+        RunLength::All => InputLimit::Bytes(1 << 47),
+    }
 }
 
 /// What a run needs: a plan, what its inputs are read from, and what its output is written to.
@@ -109,6 +122,7 @@ pub(crate) fn run<
 ) -> (u8, Option<F::Writer>)
 where
     F::Again: Send + 'static,
+    F::Writer: Send + Drop + 'static,
     requires { IsAllowedLength asked.now.length }
 {
     let prepared = match prepare(alloc, files, asked) {
@@ -121,7 +135,7 @@ where
         Ok((ran, named)) => {
             let told = tell_run(&ran, is_standard, asked.delays, out, err);
             let status = end(told.and(named), out, err);
-            let _ = print_end(&ran.summary, &ran.readers, err);
+            let _ = print_end(&ran.plan, &ran.summary, &ran.readers, err);
             let _ = print_faults(&ran.summary, err);
             let status = tell_overfull(&ran.plan, &ran.summary, asked.strict, status, err);
             tell_partial(files, err);
@@ -161,6 +175,7 @@ fn run_prepared<
 )
 where
     F::Again: Send + 'static,
+    F::Writer: Send + Drop + 'static,
     requires readers { length prepared.readers.items ≡ length prepared.plan.request.inputs }
     requires length { IsAllowedLength asked.now.length }
 {
@@ -170,10 +185,10 @@ where
         readers,
         writer,
     } = prepared;
-    let Ok(readers) = with_meters(alloc, readers) else {
+    let Ok(readers) = with_meters(alloc, &plan, readers) else {
         return (writer, Err(CommandFault::Memory));
     };
-    let (slots, limit) = (most_slots(asked.length), most_bytes(asked.length));
+    let (slots, limit) = (most_slots(asked.length), input_limit(asked.length));
     let is_serial = asked.is_serial;
     match run_plan(rt, alloc, is_serial, plan, slots, limit, readers, writer) {
         (writer, Ok((summary, readers))) => {
@@ -193,18 +208,19 @@ where
     }
 }
 
-/// Gives the output of a run its name, where no input failed; each may have so many bytes.
+/// Gives the output of a run its name, where no input failed; each may have as many bytes as the limit says.
 fn name_output<F: Files, R: InputFile>(
     alloc: Global,
     files: &mut F,
     ran: &Ran<R>,
     name: &str,
-    limit: u64,
+    limit: InputLimit,
 ) -> Result<u8, CommandFault> {
     let inputs = ran.plan.inputs().iter().zip(ran.summary.inputs.iter());
     for ((input, summary), reader) in inputs.zip(ran.readers.iter()) {
         if let Some(stop) = failure_of(summary.report.stopped) {
-            return Err(stopped(alloc, input.file.as_str(), reader, stop, limit));
+            let (name, most) = (input.file.as_str(), limit.bytes(input.format));
+            return Err(stopped(alloc, name, reader, stop, most));
         }
     }
     match files.complete() {

@@ -1,17 +1,17 @@
 //! The runs of a plan: in threads, and in one thread alone.
 
 ghost use Rattle.std.specs.Prelude.{◌≡◌, ◌⊎◌, ◌^◌, ◌≤◌, List, true, false, length, map, Err, IfOk, IfErr, OnOk};
-ghost use Rattle.tspkt.specs.declared.framer.TheConstants.{MAX_LIMIT};
 ghost use Rattle.mux.specs.declared.event.Event.{Event};
 ghost use Rattle.mux.specs.Plans.{IsMultiplexPlan};
 ghost use Rattle.reading.specs.Failures.{FailsOnce};
+ghost use Rattle.reading.specs.InputLimit.{IsAllowed};
 ghost use Rattle.serial.specs.Outcome.{HasRun as HasRunInOneThread, HasBegun as HasBegunInOneThread, FailuresAreTold};
 ghost use Rattle.serial.specs.Running.{TakesAsNeeded};
 ghost use Rattle.threaded.specs.Outcome.{HasRun as HasRunInThreads, HasBegun as HasBegunInThreads};
 
 use crate::open_gate::OpenGate;
 use plan::Plan;
-use reading::Source;
+use reading::{InputLimit, Source};
 use serial::{RunFault, Sink, Summary, run_serial_within};
 use std::alloc::{AllocError, Global};
 use std::sync::Wait;
@@ -19,8 +19,9 @@ use std::thread::Threads;
 use std::time::Clock;
 use threaded::run_threads;
 
-/// Runs a plan, in one thread alone if `is_serial`, and else with a thread for each input: reads one reader an input, at most
-/// `limit` bytes of each (up to 140,737,488,355,328), and writes the packet of each slot, at most so many slots (0 to 2^40).
+/// Runs a plan, in one thread alone if `is_serial`, and else with a thread for each input and one for the output: reads one reader an
+/// input, at most as many bytes of each as `limit` says at the input's format (up to 140,737,488,355,328), and writes the packet of
+/// each slot, at most so many slots (0 to 2^40).
 ///
 /// The writer comes back, and without a fault what became of the run and the readers, in their order. `Memory` is answered where
 /// memory or a thread was refused, and no write failed before, and by a run in threads also where a write failed and an input wanted
@@ -28,19 +29,19 @@ use threaded::run_threads;
 pub(crate) fn run_plan<
     T: Threads + Wait + Clock + Copy + Send + Drop + 'static,
     R: Source + Send + Drop + 'static,
-    W: Sink,
+    W: Sink + Send + Drop + 'static,
 >(
     rt: T,
     alloc: Global,
     is_serial: bool,
     plan: Plan,
     slots: u64,
-    limit: u64,
+    limit: InputLimit,
     readers: Vec<R>,
     writer: W,
 ) -> (W, Result<(Summary, Vec<R>), RunFault>)
     requires slots { slots ≤ 2 ^ 40 }
-    requires limit { limit ≤ MAX_LIMIT }
+    requires limit { IsAllowed limit }
     requires readers { length readers.items ≡ length plan.request.inputs }
     ensures serial { is_serial ≡ true → IfOk result.1 (λ done. (h : List Event)
         × HasRunInOneThread (record { run = record { plan = plan; limit = slots }; events = h }) limit
@@ -82,22 +83,22 @@ fn known(plan: &Plan)
     let _ = plan.rounds().rate();
 }
 
-/// Runs a plan with a thread for each input, whose gates never say no.
+/// Runs a plan with a thread for each input, whose gates never say no, and one for the output.
 fn run_in_threads<
     T: Threads + Wait + Clock + Copy + Send + Drop + 'static,
     R: Source + Send + Drop + 'static,
-    W: Sink,
+    W: Sink + Send + Drop + 'static,
 >(
     rt: T,
     alloc: Global,
     plan: Plan,
     slots: u64,
-    limit: u64,
+    limit: InputLimit,
     readers: Vec<R>,
     writer: W,
 ) -> (W, Result<(Summary, Vec<R>), RunFault>)
     requires slots { slots ≤ 2 ^ 40 }
-    requires limit { limit ≤ MAX_LIMIT }
+    requires limit { IsAllowed limit }
     requires readers { length readers.items ≡ length plan.request.inputs }
     ensures runs { IfOk result.1 (λ done. (h : List Event)
         × HasRunInThreads (record { run = record { plan = plan; limit = slots }; events = h }) limit

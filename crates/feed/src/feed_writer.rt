@@ -144,6 +144,27 @@ impl<E: PublishingEnd> FeedWriter<E> {
         }
     }
 
+    /// The same writer over an end that is made of this one, and of which all is known that is known of this one: so a caller may
+    /// stand between a writer and its end.
+    pub fn map_end<N: PublishingEnd, M: FnOnce(E) -> N>(self, make: M) -> FeedWriter<N>
+        requires made { (end : E) → M.pre make end }
+        requires marked { (end : E) (made : N) → M.post make end made → E.is_marked end → N.is_marked made }
+        requires same { (end : E) (made : N) → M.post make end made → (N.feed made ≡ E.feed end) × (N.plan made ≡ E.plan end)
+            × (N.published made ≡ E.published end) × (N.pending made ≡ E.pending end) }
+        ensures { result ≡ self }
+    {
+        let FeedWriter {
+            end,
+            sequence,
+            held,
+        } = self;
+        FeedWriter {
+            end: make(end),
+            sequence,
+            held,
+        }
+    }
+
     /// Waits for the readers that are reading, and closes the feed: what wasn't published is lost, and readers aren't let in any
     /// more.
     pub fn close<R: Wait>(self, rt: &R) {

@@ -42,8 +42,8 @@ fn range_line(text: &str, parts: &Parts, cause: &RangeCause) -> Option<usize> {
         RangeCause::DescriptorsLength(_) | RangeCause::DescriptorsNotWhole => {
             top_key_line(text, "transport_descriptors")
         }
-        RangeCause::Input { input, number } => {
-            key_line(text, "input", *input, parts.inputs.len(), number.key.name())
+        RangeCause::Input { input, cause } => {
+            key_line(text, "input", *input, parts.inputs.len(), cause.key())
         }
         RangeCause::Service { service, cause } => service_line(text, parts, *service, cause),
         RangeCause::InputCount(_) | RangeCause::ServiceCount(_) | RangeCause::StreamCount(_) =>

@@ -15,14 +15,14 @@ use acquire::{Acquire, Found};
 use messages::{CommandFault, FileCause};
 use plan::Plan;
 use plan_causes::{PlanCause, cause_of};
-use reading::{INPUT_LIMIT, Source, Stop, StreamReader};
-use request::{PlanFault, Request};
+use reading::{Source, Stop, StreamReader};
+use request::{Input, PlanFault, Request};
 use selection::seek;
 use std::alloc::{AllocError, Global};
 use std::str;
-use stream_shape::{StreamShape, shape_of};
+use stream_shape::{StreamShape, has_format, shape_of};
 use text_causes::{bytes_cause, text_cause};
-use tspkt::{Item, Packet};
+use tspkt::{Item, Packet, PacketFormat};
 
 /// How many bytes are read at once.
 const PIECE: usize = 1 << 16;
@@ -162,15 +162,16 @@ fn push_told<R: Source>(
     Ok(false)
 }
 
-/// Reads an input until all that is wanted was found or it ends. The answer is its reader, and why it couldn't be read, if it
+/// Reads an input of this format until all that is wanted was found or it ends. The answer is its reader, and why it couldn't be read, if it
 /// couldn't.
 fn read_tables<R: Source + Drop>(
     alloc: Global,
     acquire: &mut Acquire,
+    format: PacketFormat,
     source: R,
 ) -> Result<(R, Option<Stop>), AllocError> {
     let mut piece = vec![in alloc; 0; PIECE]?;
-    let mut stream = StreamReader::new(alloc, source, INPUT_LIMIT);
+    let mut stream = StreamReader::new(alloc, format, source, format.limit());
     loop {
         if push_told(acquire, &mut stream)? || stream.is_over() {
             return Ok((stream.into_source(), None));
@@ -181,29 +182,38 @@ fn read_tables<R: Source + Drop>(
     }
 }
 
-/// What is found in an input, the programs of its PAT, and its reader.
+/// What is found in the input with this number, the programs of its PAT, and its reader.
 fn find<F: Sources>(
     alloc: Global,
     files: &mut F,
     request: &Request,
-    input: usize,
-    name: &str,
+    number: usize,
+    input: &Input,
 ) -> Result<(Found, PatPrograms, F::Reader), CommandFault> {
+    let (name, format) = (input.file.as_str(), input.format);
     let source = open(alloc, files, name)?;
-    let mut acquire = seek(alloc, request, input)?;
-    let (reader, stop) = read_tables(alloc, &mut acquire, source)?;
+    let mut acquire = seek(alloc, request, number)?;
+    let (reader, stop) = read_tables(alloc, &mut acquire, format, source)?;
     let programs = PatPrograms::of(alloc, acquire.pat())?;
     match stop {
         None => Ok((acquire.found(), programs, reader)),
-        Some(stop) => Err(stopped(alloc, name, &reader, stop, INPUT_LIMIT)),
+        Some(stop) => Err(stopped(alloc, name, &reader, stop, format.limit())),
     }
 }
 
-/// Whether programs are sought in an input that has none of them, and that doesn't look like packets of 188 bytes.
-fn is_no_stream(found: &Found, shape: StreamShape) -> bool {
+/// Whether programs are sought in an input that has none of them, and whose first bytes aren't packets of its format.
+fn is_no_stream(found: &Found, format: PacketFormat, head: &[u8]) -> bool {
     !found.pmts.is_empty()
         && found.pmts.iter().all(|pmt| pmt.is_none())
-        && shape != StreamShape::Packets(188)
+        && !has_format(head, format)
+}
+
+/// What an input looks like, in words, and what the plan has to state where it can be read so.
+fn shape_words(alloc: Global, shape: StreamShape) -> Result<String, AllocError> {
+    match shape.format() {
+        Some(format) => format!(in alloc; "{shape}: state size = {}", format.stride()),
+        None => format!(in alloc; "{shape}"),
+    }
 }
 
 /// A cause of this fault of a plan, by what was found in its inputs. There is one wherever they give the plan this fault, and
@@ -250,10 +260,10 @@ fn plan_fault<R: InputFile>(
 ) -> Result<CommandFault, AllocError> {
     let read = found.iter().zip(readers.iter());
     for (number, (input, (found, reader))) in request.inputs().iter().zip(read).enumerate() {
-        let shape = shape_of(reader.head());
-        if fault == PlanFault::NoProgram && is_no_stream(found, shape) {
-            let file = &input.file;
-            let cause = format!(in alloc; "input {number}, {file}: {shape}")?;
+        let head = reader.head();
+        if fault == PlanFault::NoProgram && is_no_stream(found, input.format, head) {
+            let (file, words) = (&input.file, shape_words(alloc, shape_of(head))?);
+            let cause = format!(in alloc; "input {number}, {file}: {words}")?;
             return Ok(CommandFault::PlanCause(fault, cause));
         }
     }
@@ -277,7 +287,7 @@ pub fn read_plan<F: Sources>(
     let mut programs = Vec::new(alloc);
     let mut readers = Vec::new(alloc);
     for (number, input) in request.inputs().iter().enumerate() {
-        let (tables, named, reader) = find(alloc, files, &request, number, input.file.as_str())?;
+        let (tables, named, reader) = find(alloc, files, &request, number, input)?;
         found.push(tables)?;
         programs.push(named)?;
         readers.push(reader)?;

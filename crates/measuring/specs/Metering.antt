@@ -1,6 +1,9 @@
 -- Sources whose bytes a meter sees (profile).
-use Rattle.std.specs.Prelude.{◌≡◌, ℕ, List, Option, Some, None}
-use Rattle.rate_meter.specs.Meter.{shown_piece}
+use Rattle.std.specs.Prelude.{◌≡◌, ℕ, List, map, Option, Some, None, IfSome, slice_get}
+use Rattle.tspkt.specs.declared.packet_format.PacketFormat.{PacketFormat}
+use Rattle.request.specs.Request.{InputValue}
+use Rattle.plan.specs.Build.{PlanValue}
+use Rattle.rate_meter.specs.Meter.{new_meter, shown_piece}
 use Rattle.rate_meter.specs.Steps.{Shown}
 use Rattle.measuring.specs.declared.metered.Metered.{Metered}
 
@@ -11,6 +14,19 @@ source_of m = m.source
 -- what measures it: none where there was no memory for it
 abbrev pub meter_of : {R M : Type 0} → Metered R M → Option M
 meter_of m = m.meter
+
+-- its meter, where there is one, was shown nothing of a stream of this format
+abbrev pub IsNewMeter : {R M : Type 0} → (M → Shown) → PacketFormat → Metered R M → Type 0
+IsNewMeter shown format m = IfSome m.meter (λ meter. shown meter ≡ (new_meter format).shown)
+
+-- how the packets of a plan's inputs follow one another
+abbrev pub formats_of : PlanValue → List PacketFormat
+formats_of p = map (λ (i : InputValue). i.format) p.request.inputs
+
+-- those of a plan's inputs, in their order, each of its input's format
+abbrev pub AreNewMeters : {R M : Type 0} → (M → Shown) → PlanValue → List (Metered R M) → Type 0
+AreNewMeters {R} {M} shown p all = (i : ℕ) (format : PacketFormat) (m : Metered R M) → slice_get (formats_of p) i ≡ Some format
+    → slice_get all i ≡ Some m → IsNewMeter shown format m
 
 -- the bytes that it will give, where they are known
 abbrev pub metered_remaining : {R M : Type 0} → (R → Option (List ℕ)) → Metered R M → Option (List ℕ)

@@ -1,14 +1,16 @@
 //! A source that is measured.
 
-ghost use Rattle.std.specs.Prelude.{◌≡◌, length, map, IfOk};
-ghost use Rattle.measuring.specs.Metering.{source_of};
+ghost use Rattle.std.specs.Prelude.{◌≡◌, ◌<◌, length, map, slice_get, Some, IfOk};
+ghost use Rattle.measuring.specs.Metering.{AreNewMeters, formats_of, source_of};
 
 use input_files::{FileIdentity, InputFile};
 use messages::FileCause;
+use plan::Plan;
 use rate_meter::{Measured, Meter, RateMeter};
 use reading::Source;
 use std::alloc::{AllocError, Global};
 use std::io;
+use tspkt::PacketFormat;
 
 /// A source, and a meter that sees the bytes that are read from it. Without memory for a meter it is read all the same.
 #[derive(Drop)]
@@ -18,18 +20,17 @@ pub struct Metered<R, M = RateMeter> {
 }
 
 impl<R, M: Meter> Metered<R, M> {
-    ghost use Rattle.std.specs.Prelude.{◌≡◌, IfSome, option_copied};
-    ghost use Rattle.rate_meter.specs.Meter.{new_meter};
-    ghost use Rattle.measuring.specs.Metering.{source_of, meter_of};
+    ghost use Rattle.std.specs.Prelude.{◌≡◌, option_copied};
+    ghost use Rattle.measuring.specs.Metering.{IsNewMeter, source_of, meter_of};
 
-    /// One of which nothing was read.
-    pub fn new(alloc: Global, source: R) -> Metered<R, M>
+    /// One of which nothing was read, and whose stream has this format.
+    pub fn new(alloc: Global, format: PacketFormat, source: R) -> Metered<R, M>
         ensures source { source_of result ≡ source }
-        ensures meter { IfSome (meter_of result) (λ m. M.shown m ≡ new_meter.shown) }
+        ensures meter { IsNewMeter M.shown format result }
     {
         Metered {
             source,
-            meter: M::new(alloc).ok(),
+            meter: M::new(alloc, format).ok(),
         }
     }
 
@@ -95,17 +96,30 @@ impl<R: InputFile, M: Meter> InputFile for Metered<R, M> {
     }
 }
 
-/// Each of these sources with a meter, in their order.
+/// How the packets of the input with this number of a plan follow one another.
+fn format_at(plan: &Plan, number: usize) -> PacketFormat
+    requires { number < length plan.now.request.inputs }
+    ensures { slice_get (formats_of plan.now) number ≡ Some result }
+{
+    let input = &plan.inputs()[number];
+    input.format
+}
+
+/// Each of these sources, those of a plan's inputs in their order, with a meter of its input's format.
 pub fn with_meters<R: Drop, M: Meter + Drop>(
     alloc: Global,
+    plan: &Plan,
     sources: Vec<R>,
 ) -> Result<Vec<Metered<R, M>>, AllocError>
+    requires { length sources.items ≡ length plan.now.request.inputs }
+    ensures meters { IfOk result (λ all. AreNewMeters M.shown plan.now all.items) }
     ensures sources { IfOk result (λ all. map source_of all.items ≡ sources.items) }
     ensures count { IfOk result (λ all. length all.items ≡ length sources.items) }
 {
     let mut all = Vec::new(alloc);
     for source in sources {
-        all.push(Metered::new(alloc, source))?;
+        let format = format_at(plan, all.len());
+        all.push(Metered::new(alloc, format, source))?;
     }
     Ok(all)
 }

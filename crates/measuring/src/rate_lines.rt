@@ -1,7 +1,7 @@
 //! What is said of the rates of inputs, on standard error, behind all other lines.
 
 use crate::metered::Metered;
-use advice::left_rate;
+use advice::{left_rate, packets_rate};
 use input_files::InputFile;
 use plan::Plan;
 use rate_meter::{Deviation, Measured, Meter, off_by};
@@ -67,10 +67,15 @@ fn print_unmeasured<R: InputFile, M: Meter, E: Write>(
 }
 
 /// The rate of a stream of a plan, in bits a second; none where its input's isn't known.
-fn stream_rate<R, M: Meter>(readers: &[Metered<R, M>], stream: &Stream) -> Option<u64> {
-    let reader = readers.get(stream.input)?;
+fn stream_rate<R, M: Meter>(
+    plan: &Plan,
+    readers: &[Metered<R, M>],
+    stream: &Stream,
+) -> Option<u64> {
+    let (input, reader) = (plan.inputs().get(stream.input)?, readers.get(stream.input)?);
     let measured = reader.measured()?;
-    Some(reader.meter()?.pid_rate(measured.rate, stream.pid))
+    let rate = packets_rate(input.format, measured.rate);
+    Some(reader.meter()?.pid_rate(rate, stream.pid))
 }
 
 /// Says what the streams of a plan take in all, beside its rate, where all of them were measured, and that it is too much, where
@@ -82,7 +87,7 @@ fn print_sum<R, M: Meter, E: Write>(
 ) -> io::Result<()> {
     let mut sum = 0u64;
     for stream in plan.streams() {
-        match stream_rate(readers, stream) {
+        match stream_rate(plan, readers, stream) {
             Some(rate) => sum = sum.saturating_add(rate),
             None => return Ok(()),
         }
@@ -111,7 +116,7 @@ fn print_leaks<R, M: Meter, E: Write>(
     for stream in plan.streams() {
         let (output_pid, input, pid) = (stream.output_pid, stream.input, stream.pid);
         let leak = stream.leak;
-        if let Some(rate) = stream_rate(readers, stream)
+        if let Some(rate) = stream_rate(plan, readers, stream)
             && leak < rate
         {
             writeln!(

@@ -2,6 +2,7 @@
 
 mod counting;
 mod framing;
+mod framing_at_204;
 mod positions;
 mod reading;
 mod rewriting;

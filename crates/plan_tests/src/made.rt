@@ -160,6 +160,7 @@ fn inputs(alloc: Global, count: usize) -> Result<Vec<InputParts>, Fail> {
             file: String::new(alloc),
             rate: 10_000_000,
             offset: 0,
+            size: None,
         })?;
     }
     Ok(inputs)

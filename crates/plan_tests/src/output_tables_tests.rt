@@ -38,6 +38,7 @@ fn request(alloc: Global, count: u8, name: u8, descriptors: usize) -> Result<Req
         file: String::from_str(alloc, "x.ts")?,
         rate: 1_504_000,
         offset: 0,
+        size: None,
     };
     let mut network_name = String::new(alloc);
     for _ in 0..name {

@@ -1,6 +1,6 @@
 -- How often a gate said no (profile).
-use Rattle.std.specs.Prelude.{◌≡◌, ℕ, ◌+◌, ◌<◌}
+use Rattle.std.specs.Prelude.{◌≡◌, ℕ, ◌+◌, min}
 
 -- once more, as far as a number of 64 bits counts it
 abbrev pub StopsOnce : ℕ → ℕ → Type 0
-StopsOnce before now = before < 18446744073709551615 → now ≡ before + 1
+StopsOnce before now = now ≡ min (before + 1) 18446744073709551615

@@ -1,26 +1,30 @@
 //! Why a run ended, in lines.
 
 use input_files::InputFile;
+use plan::Plan;
 use reading::{Report, Stop};
 use serial::Summary;
 use std::io;
 use std::io::Write;
+use tspkt::PacketFormat;
 
-/// How many bytes of an input were framed.
-fn bytes_read(report: &Report) -> u64 {
+/// How many bytes of an input of this format were framed.
+fn bytes_read(format: PacketFormat, report: &Report) -> u64 {
     let packets = report.framed.saturating_add(report.bad);
-    packets.saturating_mul(188).saturating_add(report.lost)
+    let bytes = packets.saturating_mul(format.stride() as u64);
+    bytes.saturating_add(report.lost)
 }
 
-/// How much of an input of this length was read, in per cent.
-fn percent_read(report: &Report, length: u64) -> u64 {
-    let read = bytes_read(report).saturating_mul(100);
+/// How much of an input of this format and this length was read, in per cent.
+fn percent_read(format: PacketFormat, report: &Report, length: u64) -> u64 {
+    let read = bytes_read(format, report).saturating_mul(100);
     read.checked_div(length).unwrap_or(100).min(100)
 }
 
 /// Prints why an input was read no further before its end, and answers whether it was.
 fn print_left<R: InputFile, E: Write>(
     number: usize,
+    format: PacketFormat,
     report: &Report,
     reader: &R,
     err: &mut E,
@@ -28,7 +32,7 @@ fn print_left<R: InputFile, E: Write>(
     match (report.stopped, reader.length()) {
         (None, _) => return Ok(false),
         (Some(Stop::Gate), Some(length)) => {
-            let percent = percent_read(report, length);
+            let percent = percent_read(format, report, length);
             writeln!(
                 err,
                 "end: the slot limit: input {number} was read to {percent} %"
@@ -58,15 +62,17 @@ fn print_all<E: Write>(summary: &Summary, err: &mut E) -> io::Result<()> {
     }
 }
 
-/// Prints why a run ended: a line for each input that wasn't read to its end, or one that says that all were.
+/// Prints why a run of a plan ended: a line for each input that wasn't read to its end, or one that says that all were.
 pub fn print_end<R: InputFile, E: Write>(
+    plan: &Plan,
     summary: &Summary,
     readers: &Vec<R>,
     err: &mut E,
 ) -> io::Result<()> {
     let mut is_all = true;
-    for (number, (input, reader)) in summary.inputs.iter().zip(readers.iter()).enumerate() {
-        if print_left(number, &input.report, reader, err)? {
+    let ends = summary.inputs.iter().zip(readers.iter());
+    for (number, (input, (end, reader))) in plan.inputs().iter().zip(ends).enumerate() {
+        if print_left(number, input.format, &end.report, reader, err)? {
             is_all = false;
         }
     }

@@ -2,15 +2,25 @@
 
 use std::io;
 use std::io::Write;
-use stream_shape::{StreamShape, shape_of};
+use stream_shape::{has_format, shape_of};
+use tspkt::PacketFormat;
 
-/// Prints what a stream looks like that had so many faults, by its name and its first bytes, where it is empty, or has faults and
-/// isn't made of packets of 188 bytes.
-pub fn print_shape<E: Write>(name: &str, head: &[u8], faults: u64, err: &mut E) -> io::Result<()> {
-    let shape = shape_of(head);
-    let is_odd = shape == StreamShape::Empty || faults > 0 && shape != StreamShape::Packets(188);
-    if is_odd {
-        writeln!(err, "{name}: {shape}")?;
+/// Prints what a stream looks like that was read at this format and had so many faults, by its name and its first bytes, where it is
+/// empty, or has faults and isn't made of packets of that format; and with which `--size` it can be read, if with one.
+pub fn print_shape<E: Write>(
+    name: &str,
+    format: PacketFormat,
+    head: &[u8],
+    faults: u64,
+    err: &mut E,
+) -> io::Result<()> {
+    let is_odd = head.is_empty() || faults > 0 && !has_format(head, format);
+    if !is_odd {
+        return Ok(());
     }
-    Ok(())
+    let shape = shape_of(head);
+    match shape.format() {
+        Some(other) => writeln!(err, "{name}: {shape}: state --size {}", other.stride()),
+        None => writeln!(err, "{name}: {shape}"),
+    }
 }

@@ -9,7 +9,7 @@ use crate::seen::Seen;
 use crate::stepper::Stepper;
 use std::alloc::{AllocError, Global};
 use std::marker::Model;
-use tspkt::MAX_LIMIT;
+use tspkt::{MAX_LIMIT, PacketFormat};
 
 /// Measures a stream that it is shown in pieces: how many packets each PID has, and at which rate it runs by each of its clocks.
 ///
@@ -43,12 +43,12 @@ impl RateMeter {
     ghost use Rattle.rate_meter.specs.Steps.{shown};
     ghost use Rattle.rate_meter.specs.Meter.{IsNoLonger, measured_of, new_meter, readings_of, packets_of, pid_rate_of, shown_piece};
 
-    /// One that was shown nothing.
-    pub fn new(alloc: Global) -> Result<RateMeter, AllocError>
-        ensures { IfOk result (λ m. m ≡ new_meter) }
+    /// One that was shown nothing of a stream of this format.
+    pub fn new(alloc: Global, format: PacketFormat) -> Result<RateMeter, AllocError>
+        ensures { IfOk result (λ m. m ≡ new_meter format) }
     {
         Ok(RateMeter {
-            stepper: Stepper::new(),
+            stepper: Stepper::new(format),
             counts: PidCounts::new(alloc)?,
             clocks: Clocks::new(alloc),
         })
@@ -143,8 +143,8 @@ impl RateMeter {
 impl Meter for RateMeter {
     ghost shown = { λ m. m.shown };
 
-    fn new(alloc: Global) -> Result<RateMeter, AllocError> {
-        RateMeter::new(alloc)
+    fn new(alloc: Global, format: PacketFormat) -> Result<RateMeter, AllocError> {
+        RateMeter::new(alloc, format)
     }
 
     fn show(&mut self, piece: &[u8]) {

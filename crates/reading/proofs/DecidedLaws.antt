@@ -17,8 +17,8 @@ begins_or_passes (x ∷ xs) (y ∷ ys) us vs e =
       | inr p ↦ inr (p.0, p.1, ap (λ l. x ∷ l) p.2 ∙ ap (λ v. v ∷ (ys ++ p.0 ∷ p.1)) first)
     ]
 
-pub all_decided : (f : FramerState) (told : List Item) (bytes : List ℕ) → f.stride ≡ 188 → IsFramedSoFar f told bytes → HasToldAll f → AreAllDecided bytes told
-all_decided f told bytes s same all items begins =
+pub all_decided : (stride : ℕ) (f : FramerState) (told : List Item) (bytes : List ℕ) → f.stride ≡ stride → IsFramedSoFar f told bytes → HasToldAll f → AreAllDecided stride bytes told
+all_decided stride f told bytes s same all items begins =
     let first = begins [] (λ e. refl) in
     let here = begins_framed f told bytes s same [] in
     elim (begins_or_passes items told first.0 here.0 (first.1 ∙ sym here.1)) [

@@ -35,59 +35,59 @@ abbrev lost_before : Mode → ℕ → ℕ
 lost_before (Hunting from) place = place - from
 lost_before (Synced skip) place = 0
 
-weight-from : (mode : Mode) (place : ℕ) (bytes : List ℕ) → sum_by weight (framed_from 188 mode place bytes) ≤ lost_before mode place + 2 * length bytes
+weight-from : (stride : ℕ) (mode : Mode) (place : ℕ) (bytes : List ℕ) → sum_by weight (framed_from stride mode place bytes) ≤ lost_before mode place + 2 * length bytes
 unfolding framed_from
-weight-from (Hunting from) place [] = omega (arith, weight-lost from place)
-weight-from (Hunting from) place (b ∷ bytes) =
+weight-from stride (Hunting from) place [] = omega (arith, weight-lost from place)
+weight-from stride (Hunting from) place (b ∷ bytes) =
     ⊎_elim
-    (λ (t : acquires_sync 188 (b ∷ bytes) ≡ true).
-    let rest = weight-from (Synced 187) (place + 1) bytes in
-    let tail = framed_from 188 (Synced 187) (place + 1) bytes in
+    (λ (t : acquires_sync stride (b ∷ bytes) ≡ true).
+    let rest = weight-from stride (Synced (stride - 1)) (place + 1) bytes in
+    let tail = framed_from stride (Synced (stride - 1)) (place + 1) bytes in
     let item = Packet place (take 188 (b ∷ bytes)) in
     rw t (omega (arith, sum_by-append weight (lost from place) (item ∷ tail), weight-lost from place, sum_by-cons weight item tail, rest)))
-    (λ (f : acquires_sync 188 (b ∷ bytes) ≡ false). let rest = weight-from (Hunting from) (place + 1) bytes in rw f (omega (arith, rest)))
-    (cases_Bool (acquires_sync 188 (b ∷ bytes)))
-weight-from (Synced skip) place [] = omega arith
-weight-from (Synced zero) place (b ∷ bytes) =
+    (λ (f : acquires_sync stride (b ∷ bytes) ≡ false). let rest = weight-from stride (Hunting from) (place + 1) bytes in rw f (omega (arith, rest)))
+    (cases_Bool (acquires_sync stride (b ∷ bytes)))
+weight-from stride (Synced skip) place [] = omega arith
+weight-from stride (Synced zero) place (b ∷ bytes) =
     ⊎_elim
     (λ (l : suc (length bytes) < 188).
     let t : ltb (suc (length bytes)) 188 ≡ true = grind (arith, nat_tests) in
     rw t (omega (arith, sum_by-cons weight (Lost (suc (length bytes))) [])))
     (λ (l : 188 ≤ suc (length bytes)).
     let f : ltb (suc (length bytes)) 188 ≡ false = grind (arith, nat_tests) in
-    let rest = weight-from (Synced 187) (place + 1) bytes in
-    let tail = framed_from 188 (Synced 187) (place + 1) bytes in
+    let rest = weight-from stride (Synced (stride - 1)) (place + 1) bytes in
+    let tail = framed_from stride (Synced (stride - 1)) (place + 1) bytes in
     ⊎_elim
     (λ (s : is_sync (b ∷ bytes) 0 ≡ true). rw (f, s) (omega (arith, rest, sum_by-cons weight (Packet place (take 188 (b ∷ bytes))) tail)))
     (λ (s : is_sync (b ∷ bytes) 0 ≡ false).
     ⊎_elim
-    (λ (k : keeps_sync 188 (b ∷ bytes) ≡ true). rw (f, s, k) (omega (arith, rest, sum_by-cons weight (Bad place) tail)))
-    (λ (k : keeps_sync 188 (b ∷ bytes) ≡ false).
-    let hunt = weight-from (Hunting place) (place + 1) bytes in
-    rw (f, s, k) (omega (arith, hunt, sum_by-cons weight (SyncLoss place) (framed_from 188 (Hunting place) (place + 1) bytes))))
-    (cases_Bool (keeps_sync 188 (b ∷ bytes))))
+    (λ (k : keeps_sync stride (b ∷ bytes) ≡ true). rw (f, s, k) (omega (arith, rest, sum_by-cons weight (Bad place) tail)))
+    (λ (k : keeps_sync stride (b ∷ bytes) ≡ false).
+    let hunt = weight-from stride (Hunting place) (place + 1) bytes in
+    rw (f, s, k) (omega (arith, hunt, sum_by-cons weight (SyncLoss place) (framed_from stride (Hunting place) (place + 1) bytes))))
+    (cases_Bool (keeps_sync stride (b ∷ bytes))))
     (cases_Bool (is_sync (b ∷ bytes) 0)))
     (cases_lt (suc (length bytes)) 188)
-weight-from (Synced (suc skip)) place (b ∷ bytes) = let rest = weight-from (Synced skip) (place + 1) bytes in omega (arith, rest)
+weight-from stride (Synced (suc skip)) place (b ∷ bytes) = let rest = weight-from stride (Synced skip) (place + 1) bytes in omega (arith, rest)
 
 -- the items of a stream add at most twice its length to a count
-pub weight-framed : (bytes : List ℕ) → sum_by weight (framed 188 bytes) ≤ 2 * length bytes
-weight-framed bytes = let h = weight-from (Hunting 0) 0 bytes in omega (arith, h)
+pub weight-framed : (stride : ℕ) (bytes : List ℕ) → sum_by weight (framed stride bytes) ≤ 2 * length bytes
+weight-framed stride bytes = let h = weight-from stride (Hunting 0) 0 bytes in omega (arith, h)
 
 placed_lost : (from place : ℕ) (rest : List Item) → AllByRecursion IsPlaced rest → AllByRecursion IsPlaced (lost from place ++ rest)
 placed_lost from place rest h = elim (ltb from place) as (λ v. AllByRecursion IsPlaced ((if v then Lost (place - from) ∷ [] else []) ++ rest)) [ true ↦ (tt, h) | false ↦ h ]
 
 -- packets of a stream that isn't too long stand within it
-pub placed_from : (mode : Mode) (place : ℕ) (bytes : List ℕ) → place + length bytes ≤ MAX_LIMIT → AllByRecursion IsPlaced (framed_from 188 mode place bytes)
+pub placed_from : (stride : ℕ) (mode : Mode) (place : ℕ) (bytes : List ℕ) → place + length bytes ≤ MAX_LIMIT → AllByRecursion IsPlaced (framed_from stride mode place bytes)
 unfolding framed_from
-placed_from (Hunting from) place [] h = subst (AllByRecursion IsPlaced) (append-nil (lost from place)) (placed_lost from place [] tt)
-placed_from (Hunting from) place (b ∷ bytes) h =
+placed_from stride (Hunting from) place [] h = subst (AllByRecursion IsPlaced) (append-nil (lost from place)) (placed_lost from place [] tt)
+placed_from stride (Hunting from) place (b ∷ bytes) h =
     ⊎_elim
-    (λ (t : acquires_sync 188 (b ∷ bytes) ≡ true). rw t (placed_lost from place (Packet place (take 188 (b ∷ bytes)) ∷ framed_from 188 (Synced 187) (place + 1) bytes) (omega arith, placed_from (Synced 187) (place + 1) bytes (omega arith))))
-    (λ (f : acquires_sync 188 (b ∷ bytes) ≡ false). rw f (placed_from (Hunting from) (place + 1) bytes (omega arith)))
-    (cases_Bool (acquires_sync 188 (b ∷ bytes)))
-placed_from (Synced skip) place [] h = tt
-placed_from (Synced zero) place (b ∷ bytes) h =
+    (λ (t : acquires_sync stride (b ∷ bytes) ≡ true). rw t (placed_lost from place (Packet place (take 188 (b ∷ bytes)) ∷ framed_from stride (Synced (stride - 1)) (place + 1) bytes) (omega arith, placed_from stride (Synced (stride - 1)) (place + 1) bytes (omega arith))))
+    (λ (f : acquires_sync stride (b ∷ bytes) ≡ false). rw f (placed_from stride (Hunting from) (place + 1) bytes (omega arith)))
+    (cases_Bool (acquires_sync stride (b ∷ bytes)))
+placed_from stride (Synced skip) place [] h = tt
+placed_from stride (Synced zero) place (b ∷ bytes) h =
     let on : place + 1 + length bytes ≤ MAX_LIMIT = omega arith in
     ⊎_elim
     (λ (l : suc (length bytes) < 188).
@@ -96,15 +96,15 @@ placed_from (Synced zero) place (b ∷ bytes) h =
     (λ (l : 188 ≤ suc (length bytes)).
     let f : ltb (suc (length bytes)) 188 ≡ false = grind (arith, nat_tests) in
     ⊎_elim
-    (λ (s : is_sync (b ∷ bytes) 0 ≡ true). rw (f, s) (omega arith, placed_from (Synced 187) (place + 1) bytes on))
+    (λ (s : is_sync (b ∷ bytes) 0 ≡ true). rw (f, s) (omega arith, placed_from stride (Synced (stride - 1)) (place + 1) bytes on))
     (λ (s : is_sync (b ∷ bytes) 0 ≡ false).
     ⊎_elim
-    (λ (k : keeps_sync 188 (b ∷ bytes) ≡ true). rw (f, s, k) (tt, placed_from (Synced 187) (place + 1) bytes on))
-    (λ (k : keeps_sync 188 (b ∷ bytes) ≡ false). rw (f, s, k) (tt, placed_from (Hunting place) (place + 1) bytes on))
-    (cases_Bool (keeps_sync 188 (b ∷ bytes))))
+    (λ (k : keeps_sync stride (b ∷ bytes) ≡ true). rw (f, s, k) (tt, placed_from stride (Synced (stride - 1)) (place + 1) bytes on))
+    (λ (k : keeps_sync stride (b ∷ bytes) ≡ false). rw (f, s, k) (tt, placed_from stride (Hunting place) (place + 1) bytes on))
+    (cases_Bool (keeps_sync stride (b ∷ bytes))))
     (cases_Bool (is_sync (b ∷ bytes) 0)))
     (cases_lt (suc (length bytes)) 188)
-placed_from (Synced (suc skip)) place (b ∷ bytes) h = placed_from (Synced skip) (place + 1) bytes (omega arith)
+placed_from stride (Synced (suc skip)) place (b ∷ bytes) h = placed_from stride (Synced skip) (place + 1) bytes (omega arith)
 
 pub all_front : {X : Type 0} (P : X → Type 0) (xs ys : List X) → AllByRecursion P (xs ++ ys) → AllByRecursion P xs
 all_front P [] ys h = tt
@@ -115,11 +115,10 @@ pub fed_items : (limit : ℕ) (old : FramerState) (piece : List ℕ) (new : Fram
 fed_items limit old piece new items most kind takes room =
     let bytes = old.kept ++ (piece ++ []) in
     let size : length bytes ≡ length old.kept + length piece = omega (arith, length-append old.kept (piece ++ []), length-append piece []) in
-    let placed = placed_from old.mode old.position bytes (omega (arith, size, room, most)) in
-    let here = subst (λ s. AllByRecursion IsPlaced (framed_from s old.mode old.position bytes)) (sym kind.stride) placed in
+    let here = placed_from old.stride old.mode old.position bytes (omega (arith, size, room, most)) in
     record {
       within = most;
-      kind = record { stride = takes.stride_is ∙ kind.stride; limit_is = takes.limit_is ∙ kind.limit_is; within = omega (arith, takes.seen_is, room) };
+      kind = record { limit_is = takes.limit_is ∙ kind.limit_is; within = omega (arith, takes.seen_is, room) };
       placed = all_front IsPlaced items (still_to_tell new []) (subst (AllByRecursion IsPlaced) (sym (takes.same_items [])) here);
     }
 
@@ -127,11 +126,11 @@ fed_items limit old piece new items most kind takes room =
 pub finished_items : (limit : ℕ) (f : FramerState) (items : List Item) → limit ≤ MAX_LIMIT → IsFramerWithin limit f → items ≡ still_to_tell f [] → AreItems limit None items
 finished_items limit f items most kind told =
     let bytes = f.kept ++ [] in
-    let placed = placed_from f.mode f.position bytes (omega (arith, kind.within, most, length-append f.kept [])) in
+    let placed = placed_from f.stride f.mode f.position bytes (omega (arith, kind.within, most, length-append f.kept [])) in
     record {
       within = most;
       kind = tt;
-      placed = subst (AllByRecursion IsPlaced) (sym told) (subst (λ s. AllByRecursion IsPlaced (framed_from s f.mode f.position bytes)) (sym kind.stride) placed);
+      placed = subst (AllByRecursion IsPlaced) (sym told) placed;
     }
 
 pub empty_items : (limit : ℕ) (items : List Item) → limit ≤ MAX_LIMIT → items ≡ [] → AreItems limit None items

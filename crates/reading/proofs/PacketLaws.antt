@@ -20,7 +20,7 @@ use Rattle.reading.specs.declared.stop.Stop.TheVariants.{ReadFailed, TooMuch}
 use Rattle.reading.specs.declared.stream_reader.StreamReader.{StreamReader}
 use Rattle.reading.specs.declared.packet_reader.PacketReader.{PacketReader}
 use Rattle.reading.specs.Counting.{sum_within, with_counts, nothing_counted}
-use Rattle.reading.specs.Takeable.{OriginValue, is_well_formed, is_named, taken_of, takeable, counted_of, CountsItems}
+use Rattle.reading.specs.Takeable.{OriginValue, stride_at, is_well_formed, is_named, taken_of, takeable, counted_of, CountsItems}
 use Rattle.reading.specs.Items.{ItemsValue, given_up}
 use Rattle.reading.specs.StreamReading.{HasPassed, BeginsPackets, BeginsFramed, AreAllDecided, ReadsMore, stopped_by}
 use Rattle.reading.specs.PacketReading.{HasLooked, HasRead, ReadsOn, BeginsTakeable, IsSpent, IsWhole, CountsTold}
@@ -46,14 +46,14 @@ takeable-packets_of plan o (Lost count ∷ items) = takeable-packets_of plan o i
 pub takeable_same : (plan : PlanValue) (o : OriginValue) (xs ys : List Item) → packets_of xs ≡ packets_of ys → takeable plan o xs ≡ takeable plan o ys
 takeable_same plan o xs ys e = takeable-packets_of plan o xs ∙ ap (filter_map (taken_at plan o)) e ∙ sym (takeable-packets_of plan o ys)
 
-takeable_begins : (plan : PlanValue) (o : OriginValue) (bytes : List ℕ) (items : List Item) → BeginsPackets bytes items → BeginsTakeable plan o bytes (takeable plan o items)
+takeable_begins : (plan : PlanValue) (o : OriginValue) (bytes : List ℕ) (items : List Item) → BeginsPackets (stride_at o) bytes items → BeginsTakeable plan o bytes (takeable plan o items)
 takeable_begins plan o bytes items h = λ more.
     let b = h more in (
       filter_map (taken_at plan o) b.0,
       ap (λ v. v ++ filter_map (taken_at plan o) b.0) (takeable-packets_of plan o items)
           ∙ sym (filter_map-append (taken_at plan o) (packets_of items) b.0)
           ∙ ap (filter_map (taken_at plan o)) b.1
-          ∙ sym (takeable-packets_of plan o (framed 188 (bytes ++ more))),
+          ∙ sym (takeable-packets_of plan o (framed (stride_at o) (bytes ++ more))),
     )
 
 -- a beginning of a beginning
@@ -65,7 +65,7 @@ looked_begins : {R : Type 0} (remaining : R → Option (List ℕ)) (plan : PlanV
     → HasLooked remaining plan o stream held report bytes given looked → BeginsTakeable plan o bytes (given ++ option_to_list held)
 looked_begins remaining plan o stream held report bytes given looked h =
     let items = stream.items in
-    let packets = front_packets bytes looked items.ahead (told_packets items.limit items.framer (looked ++ items.ahead) bytes (remaining stream.source) report.stopped h.passed) in
+    let packets = front_packets (stride_at o) bytes looked items.ahead (told_packets (stride_at o) items.limit items.framer (looked ++ items.ahead) bytes (remaining stream.source) report.stopped h.passed) in
     subst (BeginsTakeable plan o bytes) h.given_is (takeable_begins plan o bytes looked packets)
 
 -- what was given, with what is held, begins what can be taken
@@ -77,18 +77,18 @@ pub given_begins : {R : Type 0} (remaining : R → Option (List ℕ)) (plan : Pl
 given_begins remaining plan x bytes given h = front_begins plan x.origin bytes given (option_to_list x.held) (held_begins remaining plan x bytes given h)
 
 -- what was looked at begins the framing of the bytes
-pub looked_framed : {R : Type 0} (remaining : R → Option (List ℕ)) (plan : PlanValue) (x : PacketReader R) (bytes : List ℕ) (given : List Stamped) (h : HasRead remaining plan x bytes given) → BeginsFramed bytes (IsAtEnd (remaining x.stream.source)) h.0
+pub looked_framed : {R : Type 0} (remaining : R → Option (List ℕ)) (plan : PlanValue) (x : PacketReader R) (bytes : List ℕ) (given : List Stamped) (h : HasRead remaining plan x bytes given) → BeginsFramed (stride_at x.origin) bytes (IsAtEnd (remaining x.stream.source)) h.0
 looked_framed remaining plan x bytes given h =
     let items = x.stream.items in
-    front_framed bytes (IsAtEnd (remaining x.stream.source)) h.0 items.ahead (told_framed items.limit items.framer (h.0 ++ items.ahead) bytes (remaining x.stream.source) x.report.stopped h.1.passed)
+    front_framed (stride_at x.origin) bytes (IsAtEnd (remaining x.stream.source)) h.0 items.ahead (told_framed (stride_at x.origin) items.limit items.framer (h.0 ++ items.ahead) bytes (remaining x.stream.source) x.report.stopped h.1.passed)
 
 -- what was given begins what can be taken of bytes that aren't too many
 pub given_inside : {R : Type 0} (remaining : R → Option (List ℕ)) (plan : PlanValue) (x : PacketReader R) (bytes : List ℕ) (given : List Stamped) → HasRead remaining plan x bytes given
-    → (inside : List ℕ) × (later : List Stamped) × (length inside ≤ x.stream.items.limit) × ((given ++ option_to_list x.held) ++ later ≡ takeable plan x.origin (framed 188 inside))
+    → (inside : List ℕ) × (later : List Stamped) × (length inside ≤ x.stream.items.limit) × ((given ++ option_to_list x.held) ++ later ≡ takeable plan x.origin (framed (stride_at x.origin) inside))
 given_inside remaining plan x bytes given h =
     let items = x.stream.items in
     let o = x.origin in
-    let told = told_inside items.limit items.framer (h.0 ++ items.ahead) bytes (remaining x.stream.source) x.report.stopped h.1.passed in
+    let told = told_inside (stride_at o) items.limit items.framer (h.0 ++ items.ahead) bytes (remaining x.stream.source) x.report.stopped h.1.passed in
     let rest = takeable plan o items.ahead ++ takeable plan o told.1 in (
       told.0,
       rest,
@@ -104,19 +104,19 @@ given_inside remaining plan x bytes given h =
 pub too_much : {R : Type 0} (remaining : R → Option (List ℕ)) (plan : PlanValue) (x : PacketReader R) (bytes : List ℕ) (given : List Stamped) → HasRead remaining plan x bytes given → x.report.stopped ≡ Some TooMuch → x.stream.items.limit < length bytes
 too_much remaining plan x bytes given h e =
     let items = x.stream.items in
-    told_too_much items.limit items.framer (h.0 ++ items.ahead) bytes (remaining x.stream.source) x.report.stopped h.1.passed e
+    told_too_much (stride_at x.origin) items.limit items.framer (h.0 ++ items.ahead) bytes (remaining x.stream.source) x.report.stopped h.1.passed e
 
 -- one that isn't told as too long isn't
 pub within_read : {R : Type 0} (remaining : R → Option (List ℕ)) (plan : PlanValue) (x : PacketReader R) (bytes : List ℕ) (given : List Stamped) → HasRead remaining plan x bytes given → (x.report.stopped ≡ Some TooMuch → ⊥) → length bytes ≤ x.stream.items.limit
 within_read remaining plan x bytes given h other =
     let items = x.stream.items in
-    told_within items.limit items.framer (h.0 ++ items.ahead) bytes (remaining x.stream.source) x.report.stopped h.1.passed other
+    told_within (stride_at x.origin) items.limit items.framer (h.0 ++ items.ahead) bytes (remaining x.stream.source) x.report.stopped h.1.passed other
 
 -- one that is still read wasn't stopped
 pub unstopped_reading : {R : Type 0} (remaining : R → Option (List ℕ)) (plan : PlanValue) (x : PacketReader R) (bytes : List ℕ) (given : List Stamped) → HasRead remaining plan x bytes given → IsSome x.stream.items.framer → x.report.stopped ≡ None
 unstopped_reading remaining plan x bytes given h going =
     let items = x.stream.items in
-    goes_on items.limit items.framer (h.0 ++ items.ahead) bytes (remaining x.stream.source) x.report.stopped going h.1.passed
+    goes_on (stride_at x.origin) items.limit items.framer (h.0 ++ items.ahead) bytes (remaining x.stream.source) x.report.stopped going h.1.passed
 
 -- of an input with nothing left all items that were told were looked at
 all_looked : {R : Type 0} (x : PacketReader R) (looked : List Item) → IsSpent x → looked ++ x.stream.items.ahead ≡ looked
@@ -129,8 +129,8 @@ all_given remaining plan x bytes given h spent = sym (append-nil given) ∙ ap (
 pub whole_read : {R : Type 0} (remaining : R → Option (List ℕ)) (plan : PlanValue) (x : PacketReader R) (bytes : List ℕ) (given : List Stamped) → HasRead remaining plan x bytes given → IsSpent x → x.report.stopped ≡ None → IsWhole remaining plan x bytes given
 whole_read remaining plan x bytes given h spent goes =
     let items = x.stream.items in
-    let told = told_whole items.limit items.framer (h.0 ++ items.ahead) bytes (remaining x.stream.source) x.report.stopped spent.framer goes h.1.passed in
-    let all : h.0 ≡ framed 188 bytes = sym (all_looked x h.0 spent) ∙ told.0 in
+    let told = told_whole (stride_at x.origin) items.limit items.framer (h.0 ++ items.ahead) bytes (remaining x.stream.source) x.report.stopped spent.framer goes h.1.passed in
+    let all : h.0 ≡ framed (stride_at x.origin) bytes = sym (all_looked x h.0 spent) ∙ told.0 in
     record {
       given_is = all_given remaining plan x bytes given h spent ∙ ap (takeable plan x.origin) all;
       counts = (let P : List Item → Type 0 = λ v. CountsItems plan x.origin v x.report in subst P all h.1.counts);
@@ -138,11 +138,11 @@ whole_read remaining plan x bytes given h spent goes =
     }
 
 -- of an input with a failed read all was given that can be taken of the bytes before it
-pub failed_read : {R : Type 0} (remaining : R → Option (List ℕ)) (plan : PlanValue) (x : PacketReader R) (bytes : List ℕ) (given : List Stamped) → HasRead remaining plan x bytes given → IsSpent x → x.report.stopped ≡ Some ReadFailed → given ≡ takeable plan x.origin (framed 188 bytes)
+pub failed_read : {R : Type 0} (remaining : R → Option (List ℕ)) (plan : PlanValue) (x : PacketReader R) (bytes : List ℕ) (given : List Stamped) → HasRead remaining plan x bytes given → IsSpent x → x.report.stopped ≡ Some ReadFailed → given ≡ takeable plan x.origin (framed (stride_at x.origin) bytes)
 failed_read remaining plan x bytes given h spent failed =
     let items = x.stream.items in
-    let told = told_failed items.limit items.framer (h.0 ++ items.ahead) bytes (remaining x.stream.source) x.report.stopped failed h.1.passed in
-    all_given remaining plan x bytes given h spent ∙ takeable_same plan x.origin h.0 (framed 188 bytes) (ap packets_of (sym (all_looked x h.0 spent)) ∙ told.packets)
+    let told = told_failed (stride_at x.origin) items.limit items.framer (h.0 ++ items.ahead) bytes (remaining x.stream.source) x.report.stopped failed h.1.passed in
+    all_given remaining plan x bytes given h spent ∙ takeable_same plan x.origin h.0 (framed (stride_at x.origin) bytes) (ap packets_of (sym (all_looked x h.0 spent)) ∙ told.packets)
 
 -- the report of an input with a failed read counts what was told of the bytes before it
 pub counts_told : {R : Type 0} (remaining : R → Option (List ℕ)) (plan : PlanValue) (x : PacketReader R) (bytes : List ℕ) (given : List Stamped) → HasRead remaining plan x bytes given → x.report.stopped ≡ Some ReadFailed
@@ -151,12 +151,12 @@ counts_told remaining plan x bytes given h failed =
     let items = x.stream.items in
     let none = h.1.over (subst IsSome (sym failed) refl) in
     let all : h.0 ++ items.ahead ≡ h.0 = ap (λ v. h.0 ++ v) none ∙ append-nil h.0 in
-    let before = told_failed items.limit items.framer (h.0 ++ items.ahead) bytes (remaining x.stream.source) x.report.stopped failed h.1.passed in
+    let before = told_failed (stride_at x.origin) items.limit items.framer (h.0 ++ items.ahead) bytes (remaining x.stream.source) x.report.stopped failed h.1.passed in
     record {
       told = h.0;
       begun = looked_framed remaining plan x bytes given h;
       packets = ap packets_of (sym all) ∙ before.packets;
-      all = subst (AreAllDecided bytes) all before.all;
+      all = subst (AreAllDecided (stride_at x.origin) bytes) all before.all;
       counts = h.1.counts;
     }
 
@@ -220,13 +220,13 @@ count_step f looked item r le bound e =
     omega (arith, all, one, sum, e)
 
 -- what is left of the weight of all items
-weight_left : (limit : ℕ) (looked ahead later : List Item) (item : Item) (inside : List ℕ) → limit ≤ MAX_LIMIT → length inside ≤ limit → (looked ++ item ∷ ahead) ++ later ≡ framed 188 inside → sum_by weight looked + weight item ≤ 281474976710656
-weight_left limit looked ahead later item inside most within e =
+weight_left : (stride limit : ℕ) (looked ahead later : List Item) (item : Item) (inside : List ℕ) → limit ≤ MAX_LIMIT → length inside ≤ limit → (looked ++ item ∷ ahead) ++ later ≡ framed stride inside → sum_by weight looked + weight item ≤ 281474976710656
+weight_left stride limit looked ahead later item inside most within e =
     let all = ap (sum_by weight) e in
     let a = sum_by-append weight (looked ++ item ∷ ahead) later in
     let b = sum_by-append weight looked (item ∷ ahead) in
     let c = sum_by-cons weight item ahead in
-    let d = weight-framed inside in
+    let d = weight-framed stride inside in
     omega (arith, all, a, b, c, d, within, most)
 
 one_taken : (x : Option Stamped) → cons_option x [] ≡ option_to_list x
@@ -236,13 +236,13 @@ one_taken (Some x) = refl
 -- an input after one item more was looked at
 pub looked_on : {R : Type 0} (remaining : R → Option (List ℕ)) (plan : PlanValue) (o : OriginValue) (stream new : StreamReader R) (item : Item) (held found : Option Stamped) (report after : Report) (bytes : List ℕ) (given : List Stamped) (looked : List Item)
     → stream.items.limit ≤ MAX_LIMIT → held ≡ None → slice_get stream.items.ahead 0 ≡ Some item → found ≡ taken_of plan o item → after ≡ with_counts report (counted_of plan o item)
-    → HasPassed remaining new bytes report.stopped (looked ++ item ∷ []) → HasLooked remaining plan o stream held report bytes given looked
+    → HasPassed remaining (stride_at o) new bytes report.stopped (looked ++ item ∷ []) → HasLooked remaining plan o stream held report bytes given looked
     → HasLooked remaining plan o new found after bytes given (looked ++ item ∷ [])
 looked_on {R} remaining plan o stream new item held found report after bytes given looked most none first found_is after_is passed h =
     let items = stream.items in
-    let inside = told_inside items.limit items.framer (looked ++ items.ahead) bytes (remaining stream.source) report.stopped h.passed in
+    let inside = told_inside (stride_at o) items.limit items.framer (looked ++ items.ahead) bytes (remaining stream.source) report.stopped h.passed in
     let split = next_item items looked item first ∙ append_assoc looked (item ∷ []) (drop 1 items.ahead) in
-    let bound = weight_left items.limit looked (drop 1 items.ahead) inside.1 item inside.0 most inside.2 (ap (λ v. v ++ inside.1) (sym split) ∙ inside.3) in
+    let bound = weight_left (stride_at o) items.limit looked (drop 1 items.ahead) inside.1 item inside.0 most inside.2 (ap (λ v. v ++ inside.1) (sym split) ∙ inside.3) in
     let r = report in
     let counted : HasLooked remaining plan o new (taken_of plan o item) (with_counts report (counted_of plan o item)) bytes given (looked ++ item ∷ []) = record {
       passed = passed;
@@ -266,7 +266,7 @@ looked_on {R} remaining plan o stream new item held found report after bytes giv
     subst Q (sym found_is) (subst P (sym after_is) counted)
 
 -- an input of which nothing was read
-pub fresh_looked : {R : Type 0} (remaining : R → Option (List ℕ)) (plan : PlanValue) (o : OriginValue) (stream : StreamReader R) (report : Report) → report ≡ nothing_counted → HasPassed remaining stream [] None [] → HasLooked remaining plan o stream None report [] [] []
+pub fresh_looked : {R : Type 0} (remaining : R → Option (List ℕ)) (plan : PlanValue) (o : OriginValue) (stream : StreamReader R) (report : Report) → report ≡ nothing_counted → HasPassed remaining (stride_at o) stream [] None [] → HasLooked remaining plan o stream None report [] [] []
 fresh_looked remaining plan o stream report is passed =
     let P : Report → Type 0 = λ v. HasLooked remaining plan o stream None v [] [] [] in
     let fresh : HasLooked remaining plan o stream None nothing_counted [] [] [] = record {
@@ -304,7 +304,7 @@ pub read_on : {R : Type 0} (remaining : R → Option (List ℕ)) (plan : PlanVal
     → new ≡ record old { stream = stream; report = record old.report { stopped = stopped_by result old.report.stopped } } → ReadsOn remaining plan old new
 read_on {R} remaining plan old new stream result going gone reads is bytes given h =
     let free = unstopped_reading remaining plan old bytes given h going in
-    let k = reads bytes old.report.stopped h.0 h.1.passed in
+    let k = reads (stride_at old.origin) bytes old.report.stopped h.0 h.1.passed in
     let P : PacketReader R → Type 0 = λ v. (more : List ℕ) × Consumes (remaining old.stream.source) (remaining v.stream.source) more × HasRead remaining plan v (bytes ++ more) given in
     let stopped = stopped_by result old.report.stopped in
     subst P (sym is) (k.0, k.1, (h.0, record { passed = k.2; given_is = h.1.given_is; counts = counted_stopped plan old.origin h.0 old.report stopped h.1.counts; ends = h.1.ends; over = over_read result old.report.stopped old.stream.items stream.items free gone }))

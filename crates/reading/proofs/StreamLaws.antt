@@ -6,7 +6,7 @@ use Rattle.std.proofs.lemmas.Bool.{cases_lt}
 use Rattle.std.specs.List.{slice_get}
 use Rattle.std.specs.Io.KnownBytes.{IsAtEnd}
 use Rattle.std.proofs.lemmas.List.{append-nil}
-use Rattle.tspkt.specs.Framed.{FramerState, new_framer, framed, framed_from, seen, packets_of, still_to_tell, TakesPiece}
+use Rattle.tspkt.specs.Framed.{FramerState, new_framer, framed, framed_from, seen, packets_of, still_to_tell}
 use Rattle.tspkt.specs.declared.item.Item.{Item}
 use Rattle.tspkt.proofs.FramingLaws.{begins_framed, whole_framed, packets_framed, packets_of-append}
 use Rattle.tspkt.proofs.DecidedLaws.{fresh_told_all}
@@ -24,110 +24,110 @@ abbrev pub passed_state : ItemsValue → List Item → List ℕ → Option (List
 passed_state items passed bytes left stopped = state items.limit items.framer (passed ++ items.ahead) bytes left stopped
 
 -- the packets of what was told begin those of the bytes
-pub told_packets : (limit : ℕ) (framer : Option FramerState) (told : List Item) (bytes : List ℕ) (left : Option (List ℕ)) (stopped : Option Stop) → HasTold (state limit framer told bytes left stopped) → BeginsPackets bytes told
-told_packets limit None told bytes left stopped h = h.packets
-told_packets limit (Some f) told bytes left stopped h = λ more.
-    let b = begins_framed f told bytes h.stride h.same more in
+pub told_packets : (stride : ℕ) (limit : ℕ) (framer : Option FramerState) (told : List Item) (bytes : List ℕ) (left : Option (List ℕ)) (stopped : Option Stop) → HasTold stride (state limit framer told bytes left stopped) → BeginsPackets stride bytes told
+told_packets stride limit None told bytes left stopped h = h.packets
+told_packets stride limit (Some f) told bytes left stopped h = λ more.
+    let b = begins_framed f told bytes h.stride_is h.same more in
     (packets_of b.0, sym (packets_of-append told b.0) ∙ ap packets_of b.1)
 
 -- what was told begins the framing of bytes that aren't too many
-pub told_inside : (limit : ℕ) (framer : Option FramerState) (told : List Item) (bytes : List ℕ) (left : Option (List ℕ)) (stopped : Option Stop) → HasTold (state limit framer told bytes left stopped)
-    → (inside : List ℕ) × (later : List Item) × (length inside ≤ limit) × (told ++ later ≡ framed 188 inside)
-told_inside limit None told bytes left stopped h = h.inside
-told_inside limit (Some f) told bytes left stopped h =
-    let b = begins_framed f told bytes h.stride h.same [] in
-    (bytes, b.0, h.within, b.1 ∙ ap (framed 188) (append-nil bytes))
+pub told_inside : (stride : ℕ) (limit : ℕ) (framer : Option FramerState) (told : List Item) (bytes : List ℕ) (left : Option (List ℕ)) (stopped : Option Stop) → HasTold stride (state limit framer told bytes left stopped)
+    → (inside : List ℕ) × (later : List Item) × (length inside ≤ limit) × (told ++ later ≡ framed stride inside)
+told_inside stride limit None told bytes left stopped h = h.inside
+told_inside stride limit (Some f) told bytes left stopped h =
+    let b = begins_framed f told bytes h.stride_is h.same [] in
+    (bytes, b.0, h.within, b.1 ∙ ap (framed stride) (append-nil bytes))
 
 -- a beginning of a beginning
-pub front_packets : (bytes : List ℕ) (xs ys : List Item) → BeginsPackets bytes (xs ++ ys) → BeginsPackets bytes xs
-front_packets bytes xs ys h = λ more.
+pub front_packets : (stride : ℕ) (bytes : List ℕ) (xs ys : List Item) → BeginsPackets stride bytes (xs ++ ys) → BeginsPackets stride bytes xs
+front_packets stride bytes xs ys h = λ more.
     let b = h more in
     (packets_of ys ++ b.0, sym (append_assoc (packets_of xs) (packets_of ys) b.0) ∙ ap (λ v. v ++ b.0) (sym (packets_of-append xs ys)) ∙ b.1)
 
 -- of the packets of fewer bytes
-later_packets : (bytes piece : List ℕ) (xs : List Item) → BeginsPackets bytes xs → BeginsPackets (bytes ++ piece) xs
-later_packets bytes piece xs h = λ more. let b = h (piece ++ more) in (b.0, b.1 ∙ ap (λ v. packets_of (framed 188 v)) (sym (append_assoc bytes piece more)))
+later_packets : (stride : ℕ) (bytes piece : List ℕ) (xs : List Item) → BeginsPackets stride bytes xs → BeginsPackets stride (bytes ++ piece) xs
+later_packets stride bytes piece xs h = λ more. let b = h (piece ++ more) in (b.0, b.1 ∙ ap (λ v. packets_of (framed stride v)) (sym (append_assoc bytes piece more)))
 
 -- what was told begins the framing of the bytes
-pub told_framed : (limit : ℕ) (framer : Option FramerState) (told : List Item) (bytes : List ℕ) (left : Option (List ℕ)) (stopped : Option Stop) → HasTold (state limit framer told bytes left stopped) → BeginsFramed bytes (IsAtEnd left) told
-told_framed limit None told bytes left stopped h = h.begun
-told_framed limit (Some f) told bytes left stopped h = λ more none. begins_framed f told bytes h.stride h.same more
+pub told_framed : (stride : ℕ) (limit : ℕ) (framer : Option FramerState) (told : List Item) (bytes : List ℕ) (left : Option (List ℕ)) (stopped : Option Stop) → HasTold stride (state limit framer told bytes left stopped) → BeginsFramed stride bytes (IsAtEnd left) told
+told_framed stride limit None told bytes left stopped h = h.begun
+told_framed stride limit (Some f) told bytes left stopped h = λ more none. begins_framed f told bytes h.stride_is h.same more
 
-pub front_framed : (bytes : List ℕ) (at_end : Type 0) (xs ys : List Item) → BeginsFramed bytes at_end (xs ++ ys) → BeginsFramed bytes at_end xs
-front_framed bytes at_end xs ys h = λ more none. let b = h more none in (ys ++ b.0, sym (append_assoc xs ys b.0) ∙ b.1)
+pub front_framed : (stride : ℕ) (bytes : List ℕ) (at_end : Type 0) (xs ys : List Item) → BeginsFramed stride bytes at_end (xs ++ ys) → BeginsFramed stride bytes at_end xs
+front_framed stride bytes at_end xs ys h = λ more none. let b = h more none in (ys ++ b.0, sym (append_assoc xs ys b.0) ∙ b.1)
 
 -- of a stream that is still read also where a piece more follows
-reading_framed : (limit : ℕ) (framer : Option FramerState) (told : List Item) (bytes piece : List ℕ) (left : Option (List ℕ)) (stopped : Option Stop) (at_last : Type 0) → IsSome framer → HasTold (state limit framer told bytes left stopped) → BeginsFramed (bytes ++ piece) at_last told
-reading_framed limit None told bytes piece left stopped at_last going h = let bad : false ≡ true = going in cc
-reading_framed limit (Some f) told bytes piece left stopped at_last going h = λ more none.
-    let b = begins_framed f told bytes h.stride h.same (piece ++ more) in (b.0, b.1 ∙ ap (framed 188) (sym (append_assoc bytes piece more)))
+reading_framed : (stride : ℕ) (limit : ℕ) (framer : Option FramerState) (told : List Item) (bytes piece : List ℕ) (left : Option (List ℕ)) (stopped : Option Stop) (at_last : Type 0) → IsSome framer → HasTold stride (state limit framer told bytes left stopped) → BeginsFramed stride (bytes ++ piece) at_last told
+reading_framed stride limit None told bytes piece left stopped at_last going h = let bad : false ≡ true = going in cc
+reading_framed stride limit (Some f) told bytes piece left stopped at_last going h = λ more none.
+    let b = begins_framed f told bytes h.stride_is h.same (piece ++ more) in (b.0, b.1 ∙ ap (framed stride) (sym (append_assoc bytes piece more)))
 
 -- while it is read nothing stopped it
-pub goes_on : (limit : ℕ) (framer : Option FramerState) (told : List Item) (bytes : List ℕ) (left : Option (List ℕ)) (stopped : Option Stop) → IsSome framer → HasTold (state limit framer told bytes left stopped) → stopped ≡ None
-goes_on limit None told bytes left stopped going h = let bad : false ≡ true = going in cc
-goes_on limit (Some f) told bytes left stopped going h = h.goes_on
+pub goes_on : (stride : ℕ) (limit : ℕ) (framer : Option FramerState) (told : List Item) (bytes : List ℕ) (left : Option (List ℕ)) (stopped : Option Stop) → IsSome framer → HasTold stride (state limit framer told bytes left stopped) → stopped ≡ None
+goes_on stride limit None told bytes left stopped going h = let bad : false ≡ true = going in cc
+goes_on stride limit (Some f) told bytes left stopped going h = h.goes_on
 
 -- it wasn't told as too long
-pub not_much : (limit : ℕ) (framer : Option FramerState) (told : List Item) (bytes : List ℕ) (left : Option (List ℕ)) (stopped : Option Stop) → IsSome framer → HasTold (state limit framer told bytes left stopped) → stopped ≡ Some TooMuch → ⊥
-not_much limit framer told bytes left stopped going h e = none-some TooMuch (sym (goes_on limit framer told bytes left stopped going h) ∙ e)
+pub not_much : (stride : ℕ) (limit : ℕ) (framer : Option FramerState) (told : List Item) (bytes : List ℕ) (left : Option (List ℕ)) (stopped : Option Stop) → IsSome framer → HasTold stride (state limit framer told bytes left stopped) → stopped ≡ Some TooMuch → ⊥
+not_much stride limit framer told bytes left stopped going h e = none-some TooMuch (sym (goes_on stride limit framer told bytes left stopped going h) ∙ e)
 
 -- a stream that isn't told as too long isn't
-pub told_within : (limit : ℕ) (framer : Option FramerState) (told : List Item) (bytes : List ℕ) (left : Option (List ℕ)) (stopped : Option Stop) → HasTold (state limit framer told bytes left stopped) → (stopped ≡ Some TooMuch → ⊥) → length bytes ≤ limit
-told_within limit None told bytes left stopped h other = h.within other
-told_within limit (Some f) told bytes left stopped h other = h.within
+pub told_within : (stride : ℕ) (limit : ℕ) (framer : Option FramerState) (told : List Item) (bytes : List ℕ) (left : Option (List ℕ)) (stopped : Option Stop) → HasTold stride (state limit framer told bytes left stopped) → (stopped ≡ Some TooMuch → ⊥) → length bytes ≤ limit
+told_within stride limit None told bytes left stopped h other = h.within other
+told_within stride limit (Some f) told bytes left stopped h other = h.within
 
 pub some_same : {X : Type 0} (x y : X) → Some x ≡ Some y → x ≡ y
 some_same x y e = ap (λ (o : Option _). unwrap_or o x) e
 
-left_with : (limit : ℕ) (framer : Option FramerState) (passed ahead : List Item) (bytes piece : List ℕ) (left at_last : Option (List ℕ)) (stopped : Option Stop) (cause : Stop)
-    → (cause ≡ TooMuch → limit < length (bytes ++ piece)) → ((cause ≡ TooMuch → ⊥) → length (bytes ++ piece) ≤ limit) → BeginsFramed (bytes ++ piece) (IsAtEnd at_last) passed
-    → (cause ≡ ReadFailed → IsAllTold (bytes ++ piece) passed) → HasTold (state limit framer (passed ++ ahead) bytes left stopped)
-    → HasTold (state limit None (passed ++ []) (bytes ++ piece) at_last (Some cause))
-left_with limit framer passed ahead bytes piece left at_last stopped cause full fits framing all_passed h =
-    let packets = front_packets bytes passed ahead (told_packets limit framer (passed ++ ahead) bytes left stopped h) in
-    let inside = told_inside limit framer (passed ++ ahead) bytes left stopped h in
-    let over : IsOver (state limit None (passed ++ []) (bytes ++ piece) at_last (Some cause)) = record {
-      packets = subst (BeginsPackets (bytes ++ piece)) (sym (append-nil passed)) (later_packets bytes piece passed packets);
-      begun = subst (BeginsFramed (bytes ++ piece) (IsAtEnd at_last)) (sym (append-nil passed)) framing;
+left_with : (stride : ℕ) (limit : ℕ) (framer : Option FramerState) (passed ahead : List Item) (bytes piece : List ℕ) (left at_last : Option (List ℕ)) (stopped : Option Stop) (cause : Stop)
+    → (cause ≡ TooMuch → limit < length (bytes ++ piece)) → ((cause ≡ TooMuch → ⊥) → length (bytes ++ piece) ≤ limit) → BeginsFramed stride (bytes ++ piece) (IsAtEnd at_last) passed
+    → (cause ≡ ReadFailed → IsAllTold stride (bytes ++ piece) passed) → HasTold stride (state limit framer (passed ++ ahead) bytes left stopped)
+    → HasTold stride (state limit None (passed ++ []) (bytes ++ piece) at_last (Some cause))
+left_with stride limit framer passed ahead bytes piece left at_last stopped cause full fits framing all_passed h =
+    let packets = front_packets stride bytes passed ahead (told_packets stride limit framer (passed ++ ahead) bytes left stopped h) in
+    let inside = told_inside stride limit framer (passed ++ ahead) bytes left stopped h in
+    let over : IsOver stride (state limit None (passed ++ []) (bytes ++ piece) at_last (Some cause)) = record {
+      packets = subst (BeginsPackets stride (bytes ++ piece)) (sym (append-nil passed)) (later_packets stride bytes piece passed packets);
+      begun = subst (BeginsFramed stride (bytes ++ piece) (IsAtEnd at_last)) (sym (append-nil passed)) framing;
       inside = (inside.0, ahead ++ inside.1, inside.2, ap (λ v. v ++ (ahead ++ inside.1)) (append-nil passed) ∙ sym (append_assoc passed ahead inside.1) ∙ inside.3);
       ended = λ e. absurd (none-some cause (sym e));
       too_much = λ e. full (some_same cause TooMuch e);
       within = λ other. fits (λ same. other (ap Some same));
-      failed = λ e. subst (IsAllTold (bytes ++ piece)) (sym (append-nil passed)) (all_passed (some_same cause ReadFailed e));
+      failed = λ e. subst (IsAllTold stride (bytes ++ piece)) (sym (append-nil passed)) (all_passed (some_same cause ReadFailed e));
     } in
     over
 
 -- a stream that is left while it is read, some bytes later
-pub left_over : (items new : ItemsValue) (passed : List Item) (bytes piece : List ℕ) (left at_last : Option (List ℕ)) (stopped : Option Stop) (cause : Stop)
+pub left_over : (stride : ℕ) (items new : ItemsValue) (passed : List Item) (bytes piece : List ℕ) (left at_last : Option (List ℕ)) (stopped : Option Stop) (cause : Stop)
     → new ≡ given_up items → (cause ≡ TooMuch → items.limit < length (bytes ++ piece)) → ((cause ≡ TooMuch → ⊥) → length (bytes ++ piece) ≤ items.limit) → cause ≢ ReadFailed → IsSome items.framer
-    → HasTold (passed_state items passed bytes left stopped) → HasTold (passed_state new passed (bytes ++ piece) at_last (Some cause))
-left_over items new passed bytes piece left at_last stopped cause gone full fits unfailed going h =
-    let framing = reading_framed items.limit items.framer (passed ++ items.ahead) bytes piece left stopped (IsAtEnd at_last) going h in
-    let P : ItemsValue → Type 0 = λ v. HasTold (passed_state v passed (bytes ++ piece) at_last (Some cause)) in
+    → HasTold stride (passed_state items passed bytes left stopped) → HasTold stride (passed_state new passed (bytes ++ piece) at_last (Some cause))
+left_over stride items new passed bytes piece left at_last stopped cause gone full fits unfailed going h =
+    let framing = reading_framed stride items.limit items.framer (passed ++ items.ahead) bytes piece left stopped (IsAtEnd at_last) going h in
+    let P : ItemsValue → Type 0 = λ v. HasTold stride (passed_state v passed (bytes ++ piece) at_last (Some cause)) in
     subst P (sym gone)
-    (left_with items.limit items.framer passed items.ahead bytes piece left at_last stopped cause full fits (front_framed (bytes ++ piece) (IsAtEnd at_last) passed items.ahead framing) (λ e. absurd (unfailed e)) h)
+    (left_with stride items.limit items.framer passed items.ahead bytes piece left at_last stopped cause full fits (front_framed stride (bytes ++ piece) (IsAtEnd at_last) passed items.ahead framing) (λ e. absurd (unfailed e)) h)
 
 -- a stream that is left, with no bytes more
-pub left_now : (items new : ItemsValue) (passed : List Item) (bytes : List ℕ) (left : Option (List ℕ)) (stopped : Option Stop) (cause : Stop)
-    → new ≡ given_up items → cause ≢ TooMuch → (stopped ≡ Some TooMuch → ⊥) → (cause ≡ ReadFailed → IsAllTold bytes passed)
-    → HasTold (passed_state items passed bytes left stopped) → HasTold (passed_state new passed bytes left (Some cause))
-left_now items new passed bytes left stopped cause gone other few all_passed h =
-    let framing = subst (λ v. BeginsFramed v (IsAtEnd left) passed) (sym (append-nil bytes)) (front_framed bytes (IsAtEnd left) passed items.ahead (told_framed items.limit items.framer (passed ++ items.ahead) bytes left stopped h)) in
-    let size = told_within items.limit items.framer (passed ++ items.ahead) bytes left stopped h few in
-    let here = left_with items.limit items.framer passed items.ahead bytes [] left left stopped cause (λ e. absurd (other e)) (λ f. omega (arith, size, length-append bytes [])) framing (λ e. subst (λ v. IsAllTold v passed) (sym (append-nil bytes)) (all_passed e)) h in
-    let P : ItemsValue → Type 0 = λ v. HasTold (passed_state v passed bytes left (Some cause)) in
-    let Q : List ℕ → Type 0 = λ v. HasTold (state items.limit None (passed ++ []) v left (Some cause)) in
+pub left_now : (stride : ℕ) (items new : ItemsValue) (passed : List Item) (bytes : List ℕ) (left : Option (List ℕ)) (stopped : Option Stop) (cause : Stop)
+    → new ≡ given_up items → cause ≢ TooMuch → (stopped ≡ Some TooMuch → ⊥) → (cause ≡ ReadFailed → IsAllTold stride bytes passed)
+    → HasTold stride (passed_state items passed bytes left stopped) → HasTold stride (passed_state new passed bytes left (Some cause))
+left_now stride items new passed bytes left stopped cause gone other few all_passed h =
+    let framing = subst (λ v. BeginsFramed stride v (IsAtEnd left) passed) (sym (append-nil bytes)) (front_framed stride bytes (IsAtEnd left) passed items.ahead (told_framed stride items.limit items.framer (passed ++ items.ahead) bytes left stopped h)) in
+    let size = told_within stride items.limit items.framer (passed ++ items.ahead) bytes left stopped h few in
+    let here = left_with stride items.limit items.framer passed items.ahead bytes [] left left stopped cause (λ e. absurd (other e)) (λ f. omega (arith, size, length-append bytes [])) framing (λ e. subst (λ v. IsAllTold stride v passed) (sym (append-nil bytes)) (all_passed e)) h in
+    let P : ItemsValue → Type 0 = λ v. HasTold stride (passed_state v passed bytes left (Some cause)) in
+    let Q : List ℕ → Type 0 = λ v. HasTold stride (state items.limit None (passed ++ []) v left (Some cause)) in
     subst P (sym gone) (subst Q (append-nil bytes) here)
 
 -- a piece that doesn't fit makes the bytes too many
-pub full_bytes : (limit : ℕ) (framer : Option FramerState) (told : List Item) (bytes piece : List ℕ) (left : Option (List ℕ)) (stopped : Option Stop) → HasTold (state limit framer told bytes left stopped) → IsFull limit framer piece → limit < length (bytes ++ piece)
-full_bytes limit None told bytes piece left stopped h full = absurd full
-full_bytes limit (Some f) told bytes piece left stopped h full = omega (arith, full, h.seen_is, length-append bytes piece)
+pub full_bytes : (stride : ℕ) (limit : ℕ) (framer : Option FramerState) (told : List Item) (bytes piece : List ℕ) (left : Option (List ℕ)) (stopped : Option Stop) → HasTold stride (state limit framer told bytes left stopped) → IsFull limit framer piece → limit < length (bytes ++ piece)
+full_bytes stride limit None told bytes piece left stopped h full = absurd full
+full_bytes stride limit (Some f) told bytes piece left stopped h full = omega (arith, full, h.seen_is, length-append bytes piece)
 
 -- a piece that fits doesn't
-pub fits_bytes : (limit : ℕ) (framer : Option FramerState) (told : List Item) (bytes piece : List ℕ) (left : Option (List ℕ)) (stopped : Option Stop) → IsSome framer → HasTold (state limit framer told bytes left stopped) → (IsFull limit framer piece → ⊥) → length (bytes ++ piece) ≤ limit
-fits_bytes limit None told bytes piece left stopped going h few = let bad : false ≡ true = going in cc
-fits_bytes limit (Some f) told bytes piece left stopped going h few =
+pub fits_bytes : (stride : ℕ) (limit : ℕ) (framer : Option FramerState) (told : List Item) (bytes piece : List ℕ) (left : Option (List ℕ)) (stopped : Option Stop) → IsSome framer → HasTold stride (state limit framer told bytes left stopped) → (IsFull limit framer piece → ⊥) → length (bytes ++ piece) ≤ limit
+fits_bytes stride limit None told bytes piece left stopped going h few = let bad : false ≡ true = going in cc
+fits_bytes stride limit (Some f) told bytes piece left stopped going h few =
     elim (cases_lt limit (seen f + length piece)) [
       | inl l ↦ absurd (few l)
       | inr l ↦ omega (arith, l, h.seen_is, length-append bytes piece)
@@ -138,24 +138,24 @@ told_before : (passed ahead : List Item) → ahead ≡ [] → passed ≡ passed 
 told_before passed ahead none = sym (append-nil passed) ∙ ap (λ v. passed ++ v) (sym none)
 
 -- where no item is ahead, all packets of the bytes so far were taken, and all other items that they decide
-pub all_passed : (limit : ℕ) (framer : Option FramerState) (passed ahead : List Item) (bytes : List ℕ) (left : Option (List ℕ)) (stopped : Option Stop) → ahead ≡ [] → IsSome framer → HasTold (state limit framer (passed ++ ahead) bytes left stopped) → IsAllTold bytes passed
-all_passed limit None passed ahead bytes left stopped none going h = let bad : false ≡ true = going in cc
-all_passed limit (Some f) passed ahead bytes left stopped none going h =
-    let told : IsAllTold bytes (passed ++ ahead) = record {
-      packets = packets_framed f (passed ++ ahead) bytes h.stride h.same h.prompt;
-      all = all_decided f (passed ++ ahead) bytes h.stride h.same h.told_all;
+pub all_passed : (stride : ℕ) (limit : ℕ) (framer : Option FramerState) (passed ahead : List Item) (bytes : List ℕ) (left : Option (List ℕ)) (stopped : Option Stop) → ahead ≡ [] → IsSome framer → HasTold stride (state limit framer (passed ++ ahead) bytes left stopped) → IsAllTold stride bytes passed
+all_passed stride limit None passed ahead bytes left stopped none going h = let bad : false ≡ true = going in cc
+all_passed stride limit (Some f) passed ahead bytes left stopped none going h =
+    let told : IsAllTold stride bytes (passed ++ ahead) = record {
+      packets = packets_framed f (passed ++ ahead) bytes h.stride_is h.same h.prompt;
+      all = all_decided stride f (passed ++ ahead) bytes h.stride_is h.same h.told_all;
     } in
-    subst (IsAllTold bytes) (sym (told_before passed ahead none)) told
+    subst (IsAllTold stride bytes) (sym (told_before passed ahead none)) told
 
-fed_told : (limit : ℕ) (framer : Option FramerState) (passed ahead : List Item) (new : ItemsValue) (bytes piece : List ℕ) (left at_last : Option (List ℕ)) (stopped : Option Stop)
-    → ahead ≡ [] → IsSome framer → TakesMore limit framer piece new → HasTold (state limit framer (passed ++ ahead) bytes left stopped) → HasTold (passed_state new passed (bytes ++ piece) at_last stopped)
-fed_told limit None passed ahead new bytes piece left at_last stopped none going feeds h = let bad : false ≡ true = going in cc
-fed_told limit (Some f) passed ahead new bytes piece left at_last stopped none going feeds h =
+fed_told : (stride : ℕ) (limit : ℕ) (framer : Option FramerState) (passed ahead : List Item) (new : ItemsValue) (bytes piece : List ℕ) (left at_last : Option (List ℕ)) (stopped : Option Stop)
+    → ahead ≡ [] → IsSome framer → TakesMore limit framer piece new → HasTold stride (state limit framer (passed ++ ahead) bytes left stopped) → HasTold stride (passed_state new passed (bytes ++ piece) at_last stopped)
+fed_told stride limit None passed ahead new bytes piece left at_last stopped none going feeds h = let bad : false ≡ true = going in cc
+fed_told stride limit (Some f) passed ahead new bytes piece left at_last stopped none going feeds h =
     let g = feeds.0 in
     let fed = feeds.2 in
     let takes = fed.takes in
-    let reading : IsReading (state limit (Some g) (passed ++ new.ahead) (bytes ++ piece) at_last stopped) g = record {
-      stride = takes.stride_is ∙ h.stride;
+    let reading : IsReading stride (state limit (Some g) (passed ++ new.ahead) (bytes ++ piece) at_last stopped) g = record {
+      stride_is = takes.stride_is ∙ h.stride_is;
       seen_is = omega (arith, takes.seen_is, h.seen_is, length-append bytes piece);
       within = omega (arith, fed.room, h.seen_is, length-append bytes piece);
       same = λ more.
@@ -169,39 +169,39 @@ fed_told limit (Some f) passed ahead new bytes piece left at_last stopped none g
       told_all = fed.told_all;
       goes_on = h.goes_on;
     } in
-    let P : ItemsValue → Type 0 = λ v. HasTold (passed_state v passed (bytes ++ piece) at_last stopped) in
+    let P : ItemsValue → Type 0 = λ v. HasTold stride (passed_state v passed (bytes ++ piece) at_last stopped) in
     subst P (sym feeds.1) reading
 
 -- a stream after a piece
-pub fed_passed : (items new : ItemsValue) (passed : List Item) (bytes piece : List ℕ) (left at_last : Option (List ℕ)) (stopped : Option Stop)
-    → items.ahead ≡ [] → IsSome items.framer → TakesMore items.limit items.framer piece new → HasTold (passed_state items passed bytes left stopped) → HasTold (passed_state new passed (bytes ++ piece) at_last stopped)
-fed_passed items new passed bytes piece left at_last stopped none going feeds h = fed_told items.limit items.framer passed items.ahead new bytes piece left at_last stopped none going feeds h
+pub fed_passed : (stride : ℕ) (items new : ItemsValue) (passed : List Item) (bytes piece : List ℕ) (left at_last : Option (List ℕ)) (stopped : Option Stop)
+    → items.ahead ≡ [] → IsSome items.framer → TakesMore items.limit items.framer piece new → HasTold stride (passed_state items passed bytes left stopped) → HasTold stride (passed_state new passed (bytes ++ piece) at_last stopped)
+fed_passed stride items new passed bytes piece left at_last stopped none going feeds h = fed_told stride items.limit items.framer passed items.ahead new bytes piece left at_last stopped none going feeds h
 
-finished_told : (limit : ℕ) (framer : Option FramerState) (passed ahead : List Item) (new : ItemsValue) (bytes : List ℕ) (left : Option (List ℕ)) (stopped : Option Stop)
-    → ahead ≡ [] → IsSome framer → Finishes limit framer new → IsAtEnd left → HasTold (state limit framer (passed ++ ahead) bytes left stopped) → HasTold (passed_state new passed bytes left stopped)
-finished_told limit None passed ahead new bytes left stopped none going ends there h = let bad : false ≡ true = going in cc
-finished_told limit (Some f) passed ahead new bytes left stopped none going ends there h =
+finished_told : (stride : ℕ) (limit : ℕ) (framer : Option FramerState) (passed ahead : List Item) (new : ItemsValue) (bytes : List ℕ) (left : Option (List ℕ)) (stopped : Option Stop)
+    → ahead ≡ [] → IsSome framer → Finishes limit framer new → IsAtEnd left → HasTold stride (state limit framer (passed ++ ahead) bytes left stopped) → HasTold stride (passed_state new passed bytes left stopped)
+finished_told stride limit None passed ahead new bytes left stopped none going ends there h = let bad : false ≡ true = going in cc
+finished_told stride limit (Some f) passed ahead new bytes left stopped none going ends there h =
     let rest = still_to_tell f [] in
     let before = told_before passed ahead none in
-    let whole = whole_framed f (passed ++ ahead) (passed ++ rest) bytes h.stride h.same (ap (λ v. v ++ rest) before) in
-    let packets : packets_of (passed ++ rest) ≡ packets_of (framed 188 bytes) = ap packets_of whole in
-    let same : packets_of (passed ++ rest) ≡ packets_of (passed ++ ahead) = packets ∙ sym (packets_framed f (passed ++ ahead) bytes h.stride h.same h.prompt) in
-    let over : IsOver (state limit None (passed ++ rest) bytes left stopped) = record {
-      packets = λ more. (let b = told_packets limit (Some f) (passed ++ ahead) bytes left stopped h more in (b.0, ap (λ v. v ++ b.0) same ∙ b.1));
-      begun = λ more none. ([], append-nil (passed ++ rest) ∙ whole ∙ ap (framed 188) (sym (ap (λ v. bytes ++ v) (none there) ∙ append-nil bytes)));
+    let whole = whole_framed f (passed ++ ahead) (passed ++ rest) bytes h.stride_is h.same (ap (λ v. v ++ rest) before) in
+    let packets : packets_of (passed ++ rest) ≡ packets_of (framed stride bytes) = ap packets_of whole in
+    let same : packets_of (passed ++ rest) ≡ packets_of (passed ++ ahead) = packets ∙ sym (packets_framed f (passed ++ ahead) bytes h.stride_is h.same h.prompt) in
+    let over : IsOver stride (state limit None (passed ++ rest) bytes left stopped) = record {
+      packets = λ more. (let b = told_packets stride limit (Some f) (passed ++ ahead) bytes left stopped h more in (b.0, ap (λ v. v ++ b.0) same ∙ b.1));
+      begun = λ more none. ([], append-nil (passed ++ rest) ∙ whole ∙ ap (framed stride) (sym (ap (λ v. bytes ++ v) (none there) ∙ append-nil bytes)));
       inside = (bytes, [], h.within, append-nil (passed ++ rest) ∙ whole);
       ended = λ e. (whole, there);
       too_much = λ e. absurd (none-some TooMuch (sym h.goes_on ∙ e));
       within = λ f. h.within;
       failed = λ e. absurd (none-some ReadFailed (sym h.goes_on ∙ e));
     } in
-    let P : ItemsValue → Type 0 = λ v. HasTold (passed_state v passed bytes left stopped) in
+    let P : ItemsValue → Type 0 = λ v. HasTold stride (passed_state v passed bytes left stopped) in
     subst P (sym ends) over
 
 -- a stream whose source ended
-pub finished_passed : (items new : ItemsValue) (passed : List Item) (bytes : List ℕ) (left : Option (List ℕ)) (stopped : Option Stop)
-    → items.ahead ≡ [] → IsSome items.framer → Finishes items.limit items.framer new → IsAtEnd left → HasTold (passed_state items passed bytes left stopped) → HasTold (passed_state new passed bytes left stopped)
-finished_passed items new passed bytes left stopped none going ends there h = finished_told items.limit items.framer passed items.ahead new bytes left stopped none going ends there h
+pub finished_passed : (stride : ℕ) (items new : ItemsValue) (passed : List Item) (bytes : List ℕ) (left : Option (List ℕ)) (stopped : Option Stop)
+    → items.ahead ≡ [] → IsSome items.framer → Finishes items.limit items.framer new → IsAtEnd left → HasTold stride (passed_state items passed bytes left stopped) → HasTold stride (passed_state new passed bytes left stopped)
+finished_passed stride items new passed bytes left stopped none going ends there h = finished_told stride items.limit items.framer passed items.ahead new bytes left stopped none going ends there h
 
 first_of : {X : Type 0} (x : X) (xs : List X) → slice_get xs 0 ≡ Some x → xs ≡ x ∷ drop 1 xs
 first_of x [] e = cc
@@ -212,51 +212,51 @@ pub next_item : (items : ItemsValue) (passed : List Item) (item : Item) → slic
 next_item items passed item first = ap (λ v. passed ++ v) (first_of item items.ahead first) ∙ sym (append_assoc passed (item ∷ []) (drop 1 items.ahead))
 
 -- a stream of which one item more was taken
-pub passed_on : (items new : ItemsValue) (passed : List Item) (item : Item) (bytes : List ℕ) (left : Option (List ℕ)) (stopped : Option Stop)
-    → slice_get items.ahead 0 ≡ Some item → new ≡ record items { ahead = drop 1 items.ahead } → HasTold (passed_state items passed bytes left stopped) → HasTold (passed_state new (passed ++ item ∷ []) bytes left stopped)
-passed_on items new passed item bytes left stopped first is h =
-    let P : ItemsValue → Type 0 = λ v. HasTold (passed_state v (passed ++ item ∷ []) bytes left stopped) in
-    let Q : List Item → Type 0 = λ v. HasTold (state items.limit items.framer v bytes left stopped) in
+pub passed_on : (stride : ℕ) (items new : ItemsValue) (passed : List Item) (item : Item) (bytes : List ℕ) (left : Option (List ℕ)) (stopped : Option Stop)
+    → slice_get items.ahead 0 ≡ Some item → new ≡ record items { ahead = drop 1 items.ahead } → HasTold stride (passed_state items passed bytes left stopped) → HasTold stride (passed_state new (passed ++ item ∷ []) bytes left stopped)
+passed_on stride items new passed item bytes left stopped first is h =
+    let P : ItemsValue → Type 0 = λ v. HasTold stride (passed_state v (passed ++ item ∷ []) bytes left stopped) in
+    let Q : List Item → Type 0 = λ v. HasTold stride (state items.limit items.framer v bytes left stopped) in
     subst P (sym is) (subst Q (next_item items passed item first) h)
 
-told_elsewhere : (limit : ℕ) (framer : Option FramerState) (told : List Item) (bytes : List ℕ) (left at_last : Option (List ℕ)) (stopped : Option Stop) → IsSome framer → HasTold (state limit framer told bytes left stopped) → HasTold (state limit framer told bytes at_last stopped)
-told_elsewhere limit None told bytes left at_last stopped going h = let bad : false ≡ true = going in cc
-told_elsewhere limit (Some f) told bytes left at_last stopped going h = record { stride = h.stride; seen_is = h.seen_is; within = h.within; same = h.same; prompt = h.prompt; told_all = h.told_all; goes_on = h.goes_on }
+told_elsewhere : (stride : ℕ) (limit : ℕ) (framer : Option FramerState) (told : List Item) (bytes : List ℕ) (left at_last : Option (List ℕ)) (stopped : Option Stop) → IsSome framer → HasTold stride (state limit framer told bytes left stopped) → HasTold stride (state limit framer told bytes at_last stopped)
+told_elsewhere stride limit None told bytes left at_last stopped going h = let bad : false ≡ true = going in cc
+told_elsewhere stride limit (Some f) told bytes left at_last stopped going h = record { stride_is = h.stride_is; seen_is = h.seen_is; within = h.within; same = h.same; prompt = h.prompt; told_all = h.told_all; goes_on = h.goes_on }
 
 -- while a stream is read, what its source has left doesn't matter
-pub passed_elsewhere : (items : ItemsValue) (passed : List Item) (bytes : List ℕ) (left at_last : Option (List ℕ)) (stopped : Option Stop) → IsSome items.framer → HasTold (passed_state items passed bytes left stopped) → HasTold (passed_state items passed bytes at_last stopped)
-passed_elsewhere items passed bytes left at_last stopped going h = told_elsewhere items.limit items.framer (passed ++ items.ahead) bytes left at_last stopped going h
+pub passed_elsewhere : (stride : ℕ) (items : ItemsValue) (passed : List Item) (bytes : List ℕ) (left at_last : Option (List ℕ)) (stopped : Option Stop) → IsSome items.framer → HasTold stride (passed_state items passed bytes left stopped) → HasTold stride (passed_state items passed bytes at_last stopped)
+passed_elsewhere stride items passed bytes left at_last stopped going h = told_elsewhere stride items.limit items.framer (passed ++ items.ahead) bytes left at_last stopped going h
 
-fresh_prompt : (limit : ℕ) → packets_of (still_to_tell (new_framer 188 limit) []) ≡ []
+fresh_prompt : (stride : ℕ) (limit : ℕ) → packets_of (still_to_tell (new_framer stride limit) []) ≡ []
 unfolding framed_from
-fresh_prompt limit = refl
+fresh_prompt stride limit = refl
 
 -- a stream of which nothing was read
-pub fresh_passed : (limit : ℕ) (items : ItemsValue) (left : Option (List ℕ)) → items ≡ new_items limit → HasTold (passed_state items [] [] left None)
-fresh_passed limit items left is =
-    let reading : IsReading (state limit (Some (new_framer 188 limit)) [] [] left None) (new_framer 188 limit) = record {
-      stride = refl;
+pub fresh_passed : (stride : ℕ) (limit : ℕ) (items : ItemsValue) (left : Option (List ℕ)) → 188 ≤ stride → items ≡ new_items stride limit → HasTold stride (passed_state items [] [] left None)
+fresh_passed stride limit items left long is =
+    let reading : IsReading stride (state limit (Some (new_framer stride limit)) [] [] left None) (new_framer stride limit) = record {
+      stride_is = refl;
       seen_is = omega arith;
       within = omega arith;
       same = λ more. refl;
-      prompt = fresh_prompt limit;
-      told_all = fresh_told_all limit;
+      prompt = fresh_prompt stride limit;
+      told_all = fresh_told_all stride limit long;
       goes_on = refl;
     } in
-    let P : ItemsValue → Type 0 = λ v. HasTold (passed_state v [] [] left None) in
+    let P : ItemsValue → Type 0 = λ v. HasTold stride (passed_state v [] [] left None) in
     subst P (sym is) reading
 
 -- a stream is told as too long only where it is
-pub told_too_much : (limit : ℕ) (framer : Option FramerState) (told : List Item) (bytes : List ℕ) (left : Option (List ℕ)) (stopped : Option Stop) → HasTold (state limit framer told bytes left stopped) → stopped ≡ Some TooMuch → limit < length bytes
-told_too_much limit None told bytes left stopped h e = h.too_much e
-told_too_much limit (Some f) told bytes left stopped h e = absurd (none-some TooMuch (sym h.goes_on ∙ e))
+pub told_too_much : (stride : ℕ) (limit : ℕ) (framer : Option FramerState) (told : List Item) (bytes : List ℕ) (left : Option (List ℕ)) (stopped : Option Stop) → HasTold stride (state limit framer told bytes left stopped) → stopped ≡ Some TooMuch → limit < length bytes
+told_too_much stride limit None told bytes left stopped h e = h.too_much e
+told_too_much stride limit (Some f) told bytes left stopped h e = absurd (none-some TooMuch (sym h.goes_on ∙ e))
 
 -- of a stream that ended by itself all was told
-pub told_whole : (limit : ℕ) (framer : Option FramerState) (told : List Item) (bytes : List ℕ) (left : Option (List ℕ)) (stopped : Option Stop) → framer ≡ None → stopped ≡ None → HasTold (state limit framer told bytes left stopped) → (told ≡ framed 188 bytes) × IsAtEnd left
-told_whole limit None told bytes left stopped none goes h = h.ended goes
-told_whole limit (Some f) told bytes left stopped none goes h = absurd (none-some f (sym none))
+pub told_whole : (stride : ℕ) (limit : ℕ) (framer : Option FramerState) (told : List Item) (bytes : List ℕ) (left : Option (List ℕ)) (stopped : Option Stop) → framer ≡ None → stopped ≡ None → HasTold stride (state limit framer told bytes left stopped) → (told ≡ framed stride bytes) × IsAtEnd left
+told_whole stride limit None told bytes left stopped none goes h = h.ended goes
+told_whole stride limit (Some f) told bytes left stopped none goes h = absurd (none-some f (sym none))
 
 -- of a stream with a failed read all packets before it were told, and all other items that its bytes decide
-pub told_failed : (limit : ℕ) (framer : Option FramerState) (told : List Item) (bytes : List ℕ) (left : Option (List ℕ)) (stopped : Option Stop) → stopped ≡ Some ReadFailed → HasTold (state limit framer told bytes left stopped) → IsAllTold bytes told
-told_failed limit None told bytes left stopped e h = h.failed e
-told_failed limit (Some f) told bytes left stopped e h = absurd (none-some ReadFailed (sym h.goes_on ∙ e))
+pub told_failed : (stride : ℕ) (limit : ℕ) (framer : Option FramerState) (told : List Item) (bytes : List ℕ) (left : Option (List ℕ)) (stopped : Option Stop) → stopped ≡ Some ReadFailed → HasTold stride (state limit framer told bytes left stopped) → IsAllTold stride bytes told
+told_failed stride limit None told bytes left stopped e h = h.failed e
+told_failed stride limit (Some f) told bytes left stopped e h = absurd (none-some ReadFailed (sym h.goes_on ∙ e))

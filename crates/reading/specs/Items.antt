@@ -12,8 +12,9 @@ pub record ItemsValue : Type 0 where
   pub framer : Option FramerState
   pub ahead : List Item
 
-abbrev pub new_items : ℕ → ItemsValue
-new_items limit = record { limit = limit; framer = Some (new_framer 188 limit); ahead = [] }
+-- one that has read nothing, of packets so far apart
+abbrev pub new_items : ℕ → ℕ → ItemsValue
+new_items stride limit = record { limit = limit; framer = Some (new_framer stride limit); ahead = [] }
 
 -- no more will be told, and nothing is left of what was
 abbrev pub given_up : ItemsValue → ItemsValue
@@ -27,7 +28,6 @@ IsPlaced (SyncLoss position) = Unit {0}
 IsPlaced (Lost count) = Unit {0}
 
 pub record IsFramerWithin (limit : ℕ) (f : FramerState) : Type 0 where
-  pub stride : f.stride ≡ 188
   pub limit_is : f.limit ≡ limit
   pub within : seen f ≤ limit
 
@@ -46,7 +46,7 @@ pub record FeedsFramer (limit : ℕ) (old : FramerState) (piece : List ℕ) (new
 
 -- a piece was taken; where no framer goes on, nothing is told
 abbrev pub TakesMore : ℕ → Option FramerState → List ℕ → ItemsValue → Type 0
-TakesMore limit None piece new = new ≡ given_up (new_items limit)
+TakesMore limit None piece new = new ≡ record { limit = limit; framer = None; ahead = [] }
 TakesMore limit (Some f) piece new =
     (g : FramerState) × (new ≡ record { limit = limit; framer = Some g; ahead = new.ahead }) × FeedsFramer limit f piece g new.ahead
 
@@ -57,7 +57,7 @@ IsFull limit (Some f) piece = limit < seen f + length piece
 
 -- the framer ended, and told what was left
 abbrev pub Finishes : ℕ → Option FramerState → ItemsValue → Type 0
-Finishes limit None new = new ≡ given_up (new_items limit)
+Finishes limit None new = new ≡ record { limit = limit; framer = None; ahead = [] }
 Finishes limit (Some f) new = new ≡ record { limit = limit; framer = None; ahead = still_to_tell f [] }
 
 -- how much may still be read, at most: it falls with each piece

@@ -1,6 +1,7 @@
 pub mod Failures
 pub mod Devices
 pub mod Takeable
+pub mod InputLimit
 pub mod Counting
 pub mod Items
 pub mod StreamReading

@@ -1,16 +1,15 @@
 -- What an input has read, and which packets it has given (profile).
-use Rattle.std.specs.Prelude.{◌≡◌, ℕ, ◌<◌, ◌≤◌, List, [], ◌++◌, length, Option, Some, None, IsSome}
+use Rattle.std.specs.Prelude.{◌≡◌, ℕ, List, [], ◌++◌, Option, Some, None, IsSome}
 use Rattle.std.specs.Option.{option_to_list}
 use Rattle.std.specs.Io.KnownBytes.{Consumes, IsAtEnd}
-use Rattle.tspkt.specs.Framed.{framed, packets_of}
+use Rattle.tspkt.specs.Framed.{packets_of}
 use Rattle.tspkt.specs.declared.item.Item.{Item}
 use Rattle.tspkt.specs.declared.stamped.Stamped.{Stamped}
 use Rattle.plan.specs.Build.{PlanValue}
 use Rattle.reading.specs.Failures.{FailsOnce}
-use Rattle.reading.specs.Takeable.{OriginValue, takeable, CountsItems, EndsAtTaken}
+use Rattle.reading.specs.Takeable.{OriginValue, stride_at, framed_at, takeable, CountsItems, EndsAtTaken}
 use Rattle.reading.specs.StreamReading.{HasPassed, BeginsFramed, AreAllDecided}
 use Rattle.reading.specs.declared.report.Report.{Report}
-use Rattle.reading.specs.declared.stop.Stop.{Stop}
 use Rattle.reading.specs.declared.stop.Stop.TheVariants.{Gate, ReadFailed}
 use Rattle.reading.specs.declared.stream_reader.StreamReader.{StreamReader}
 use Rattle.reading.specs.declared.packet_reader.PacketReader.{PacketReader}
@@ -18,13 +17,13 @@ use Rattle.reading.specs.declared.packet_reader.PacketReader.{PacketReader}
 -- These packets begin what can be taken of the bytes, whatever follows them.
 abbrev pub BeginsTakeable : PlanValue → OriginValue → List ℕ → List Stamped → Type 0
 BeginsTakeable plan origin bytes given =
-    (more : List ℕ) → (later : List Stamped) × (given ++ later ≡ takeable plan origin (framed 188 (bytes ++ more)))
+    (more : List ℕ) → (later : List Stamped) × (given ++ later ≡ takeable plan origin (framed_at origin (bytes ++ more)))
 
 -- These of the items were looked at: those of their packets that can be taken were given, but for one that is held, and
 -- the report counts them. Behind one that is held none was looked at, and none is left of what was told once the input was
 -- stopped.
 pub record HasLooked {R : Type 0} (remaining : R → Option (List ℕ)) (plan : PlanValue) (origin : OriginValue) (stream : StreamReader R) (held : Option Stamped) (report : Report) (bytes : List ℕ) (given : List Stamped) (looked : List Item) : Type 0 where
-  pub passed : HasPassed remaining stream bytes report.stopped looked
+  pub passed : HasPassed remaining (stride_at origin) stream bytes report.stopped looked
   pub given_is : takeable plan origin looked ≡ given ++ option_to_list held
   pub counts : CountsItems plan origin looked report
   pub ends : IsSome held → EndsAtTaken plan origin looked
@@ -72,15 +71,15 @@ pub record IsSpent {R : Type 0} (x : PacketReader R) : Type 0 where
 
 -- An input that ended by itself: all packets that can be taken were given, and the report counts all items.
 pub record IsWhole {R : Type 0} (remaining : R → Option (List ℕ)) (plan : PlanValue) (x : PacketReader R) (bytes : List ℕ) (given : List Stamped) : Type 0 where
-  pub given_is : given ≡ takeable plan x.origin (framed 188 bytes)
-  pub counts : CountsItems plan x.origin (framed 188 bytes) x.report
+  pub given_is : given ≡ takeable plan x.origin (framed_at x.origin bytes)
+  pub counts : CountsItems plan x.origin (framed_at x.origin bytes) x.report
   pub at_end : IsAtEnd (remaining x.stream.source)
 
 -- The report counts what was told of these bytes: items that begin their framing, whatever follows them, with all of their
 -- packets and all other items that they decide.
 pub record CountsTold (plan : PlanValue) (origin : OriginValue) (bytes : List ℕ) (at_end : Type 0) (report : Report) : Type 0 where
   pub told : List Item
-  pub begun : BeginsFramed bytes at_end told
-  pub packets : packets_of told ≡ packets_of (framed 188 bytes)
-  pub all : AreAllDecided bytes told
+  pub begun : BeginsFramed (stride_at origin) bytes at_end told
+  pub packets : packets_of told ≡ packets_of (framed_at origin bytes)
+  pub all : AreAllDecided (stride_at origin) bytes told
   pub counts : CountsItems plan origin told report

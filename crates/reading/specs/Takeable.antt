@@ -2,8 +2,11 @@
 -- ISO/IEC 13818-1, 2.4.3.2, and ETSI TR 101 290, 5.2.1).
 use Rattle.std.specs.Prelude.{◌≡◌, ◌⊎◌, ℕ, ◌+◌, List, [], ◌∷◌, ◌++◌, Bool, Option, Some, None, IsSome, if◌then◌else◌, is_some, is_none, unwrap_or, option_map, length, sum_by}
 use Rattle.std.specs.List.{filter_map}
+use Rattle.tspkt.specs.Framed.{framed}
 use Rattle.tspkt.specs.Packet.{fault_of, pid_of}
 use Rattle.tspkt.specs.Stamps.{time_of}
+use Rattle.tspkt.specs.PacketFormat.{stride_of}
+use Rattle.tspkt.specs.declared.packet_format.PacketFormat.{PacketFormat}
 use Rattle.tspkt.specs.declared.stamped.Stamped.{Stamped}
 use Rattle.tspkt.specs.declared.item.Item.{Item}
 use Rattle.tspkt.specs.declared.item.Item.TheVariants.{Packet, Bad, SyncLoss, Lost}
@@ -13,14 +16,23 @@ use Rattle.plan.specs.declared.planned_stream.PlannedStream.{PlannedStream}
 use Rattle.plan.specs.StreamPlace.{planned_stream}
 use Rattle.reading.specs.declared.report.Report.{Report}
 
--- an input by its number in the plan, its rate in bits a second and the time of its first byte
+-- an input by its number in the plan, how its packets follow one another, its rate in bits a second and the time of its first byte
 pub record OriginValue : Type 0 where
   pub number : ℕ
+  pub format : PacketFormat
   pub rate : ℕ
   pub offset : ℕ
 
 abbrev pub origin_of : ℕ → InputValue → OriginValue
-origin_of number input = record { number = number; rate = input.rate; offset = input.offset }
+origin_of number input = record { number = number; format = input.format; rate = input.rate; offset = input.offset }
+
+-- from the first byte of a packet of the input to that of the next
+abbrev pub stride_at : OriginValue → ℕ
+stride_at origin = stride_of origin.format
+
+-- the items of an input with these bytes
+abbrev pub framed_at : OriginValue → List ℕ → List Item
+framed_at origin bytes = framed (stride_at origin) bytes
 
 -- the packet's bytes have the standard's layout
 abbrev pub is_well_formed : List ℕ → Bool

@@ -2,7 +2,7 @@
 
 use std::alloc::{AllocError, Global};
 use std::marker::Model;
-use tspkt::{FeedFault, Framer, Item, MAX_LIMIT};
+use tspkt::{FeedFault, Framer, Item, MAX_LIMIT, PacketFormat};
 
 /// A framer, and the items that it told and that weren't taken yet. Without a framer no more will be told.
 #[derive(Drop)]
@@ -28,16 +28,17 @@ impl Model for ItemReader {
 impl ItemReader {
     ghost use Rattle.std.specs.Prelude.{◌≡◌, ◌<◌, ◌≤◌, [], length, drop, slice_get, option_copied, IfSome, OnOk, OnErr, Err, is_none};
     ghost use Rattle.tspkt.specs.declared.framer.TheConstants.{MAX_LIMIT};
+    ghost use Rattle.tspkt.specs.PacketFormat.{stride_of};
     ghost use Rattle.reading.specs.Items.{new_items, given_up, TakesMore, IsFull, Finishes, IsPlaced};
 
-    /// One that has read nothing, of a stream of at most so many bytes.
-    pub fn new(alloc: Global, limit: u64) -> ItemReader
+    /// One that has read nothing, of a stream of this format and of at most so many bytes.
+    pub fn new(alloc: Global, format: PacketFormat, limit: u64) -> ItemReader
         requires { limit ≤ MAX_LIMIT }
-        ensures { result ≡ new_items limit }
+        ensures { result ≡ new_items (stride_of format) limit }
     {
         ItemReader {
             limit,
-            framer: Some(Framer::with_limit(limit)),
+            framer: Some(Framer::with_size(format, limit)),
             items: Vec::new(alloc),
             taken: 0,
         }

@@ -6,6 +6,7 @@
 #![tactic(auto)]
 
 mod classify;
+mod input_limit;
 mod item_reader;
 mod look;
 mod origin;
@@ -15,9 +16,10 @@ mod source;
 mod stop;
 mod stream_reader;
 
+pub use input_limit::InputLimit;
 pub use look::Look;
 pub use origin::Origin;
-pub use packet_reader::{INPUT_LIMIT, PacketReader};
+pub use packet_reader::PacketReader;
 pub use report::Report;
 pub use source::{ReadSource, Source};
 pub use stop::Stop;

@@ -7,12 +7,13 @@ ghost use Rattle.reading.specs.Takeable.{OriginValue, origin_of, stamp_at};
 
 use request::Input;
 use std::marker::Model;
-use tspkt::PositionClock;
+use tspkt::{PacketFormat, PositionClock};
 
-/// An input of a plan, as its packets need it: its number, and when its bytes come.
+/// An input of a plan, as its packets need it: its number, how they follow one another, and when its bytes come.
 #[derive(Drop)]
 pub struct Origin {
     number: usize,
+    format: PacketFormat,
     offset: u64,
     clock: PositionClock,
 }
@@ -24,7 +25,7 @@ impl Model for Origin {
 
     ghost Value = { OriginValue };
 
-    ghost view = { λ o. record { number = o.number; rate = o.clock.rate; offset = o.offset } };
+    ghost view = { λ o. record { number = o.number; format = o.format; rate = o.clock.rate; offset = o.offset } };
 
     ghost invariant = { λ o. o.offset ≤ MAX_OFFSET };
 }
@@ -37,8 +38,9 @@ impl Origin {
     {
         Origin {
             number,
+            format: input.format,
             offset: input.offset,
-            clock: PositionClock::new(input.rate),
+            clock: PositionClock::with_size(input.format, input.rate),
         }
     }
 

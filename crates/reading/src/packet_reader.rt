@@ -12,9 +12,6 @@ use request::Input;
 use std::alloc::{AllocError, Global};
 use tspkt::Stamped;
 
-/// How many bytes an input may have, where the caller doesn't say more: 16,777,216 packets (profile).
-pub const INPUT_LIMIT: u64 = 3_154_116_608;
-
 /// An input: its stream, when its packets come, the packet that it gives next, and what was found so far.
 #[derive(Drop)]
 pub struct PacketReader<R> {
@@ -59,7 +56,7 @@ impl<R: Source> PacketReader<R> {
     {
         PacketReader {
             origin: Origin::new(number, input),
-            stream: StreamReader::new(alloc, source, limit),
+            stream: StreamReader::new(alloc, input.format, source, limit),
             held: None,
             report: Report::new(),
         }

@@ -4,7 +4,7 @@ use crate::item_reader::ItemReader;
 use crate::source::Source;
 use crate::stop::Stop;
 use std::alloc::Global;
-use tspkt::{FeedFault, Item};
+use tspkt::{FeedFault, Item, PacketFormat};
 
 /// A stream: what it is read from, and the items that framing told of it and that weren't taken yet.
 #[derive(Drop)]
@@ -19,19 +19,20 @@ impl<R: Source> StreamReader<R> {
     ghost use Rattle.tspkt.specs.declared.framer.TheConstants.{MAX_LIMIT};
     ghost use Rattle.tspkt.specs.declared.item.Item.{Item as ToldItem};
     ghost use Rattle.reading.specs.declared.stop.Stop.{Stop as Cause};
+    ghost use Rattle.tspkt.specs.PacketFormat.{stride_of};
     ghost use Rattle.reading.specs.Items.{new_items, given_up, left_to_read, IsPlaced};
     ghost use Rattle.reading.specs.StreamReading.{HasPassed, ReadsMore, ToldOfRead, stopped_by};
 
-    /// A stream of which nothing was read, of at most so many bytes: up to 140,737,488,355,328.
-    pub fn new(alloc: Global, source: R, limit: u64) -> StreamReader<R>
+    /// A stream of this format of which nothing was read, of at most so many bytes: up to 140,737,488,355,328.
+    pub fn new(alloc: Global, format: PacketFormat, source: R, limit: u64) -> StreamReader<R>
         requires { limit ≤ MAX_LIMIT }
-        ensures passed { HasPassed R.remaining result [] None [] }
+        ensures passed { HasPassed R.remaining (stride_of format) result [] None [] }
         ensures source { result.source ≡ source }
-        ensures items { result.items ≡ new_items limit }
+        ensures items { result.items ≡ new_items (stride_of format) limit }
     {
         StreamReader {
             source,
-            items: ItemReader::new(alloc, limit),
+            items: ItemReader::new(alloc, format, limit),
         }
     }
 
@@ -54,10 +55,10 @@ impl<R: Source> StreamReader<R> {
     /// Takes the next item.
     pub fn pass(&mut self)
         requires { 0 < length self.old.items.ahead }
-        ensures passed { (bytes : List ℕ) (stopped : Option Cause) (passed : List ToldItem) (item : ToldItem)
+        ensures passed { (stride : ℕ) (bytes : List ℕ) (stopped : Option Cause) (passed : List ToldItem) (item : ToldItem)
             → slice_get self.old.items.ahead 0 ≡ Some item
-            → HasPassed R.remaining self.old bytes stopped passed
-            → HasPassed R.remaining self.new bytes stopped (passed ++ item ∷ []) }
+            → HasPassed R.remaining stride self.old bytes stopped passed
+            → HasPassed R.remaining stride self.new bytes stopped (passed ++ item ∷ []) }
         ensures items { self.new ≡ record self.old {
           items = record self.old.items { ahead = drop 1 self.old.items.ahead };
         } }
@@ -92,9 +93,9 @@ impl<R: Source> StreamReader<R> {
         requires piece { 0 < length piece.now }
         requires ahead { self.old.items.ahead ≡ [] }
         requires open { IsSome self.old.items.framer }
-        ensures read { (bytes : List ℕ) (stopped : Option Cause) (passed : List ToldItem)
-            → HasPassed R.remaining self.old bytes stopped passed
-            → HasPassed R.remaining self.new (bytes ++ piece.now) (stopped_by result stopped) passed }
+        ensures read { (stride : ℕ) (bytes : List ℕ) (stopped : Option Cause) (passed : List ToldItem)
+            → HasPassed R.remaining stride self.old bytes stopped passed
+            → HasPassed R.remaining stride self.new (bytes ++ piece.now) (stopped_by result stopped) passed }
         ensures going { result ≡ Err Stop.Gate → ⊥ }
         ensures unfailed { result ≡ Err Stop.ReadFailed → ⊥ }
         ensures smaller { left_to_read self.new.items < left_to_read self.old.items }
@@ -113,10 +114,10 @@ impl<R: Source> StreamReader<R> {
     fn finish(&mut self) -> Result<(), Stop>
         requires ahead { self.old.items.ahead ≡ [] }
         requires open { IsSome self.old.items.framer }
-        ensures read { (bytes : List ℕ) (stopped : Option Cause) (passed : List ToldItem)
+        ensures read { (stride : ℕ) (bytes : List ℕ) (stopped : Option Cause) (passed : List ToldItem)
             → IsAtEnd (R.remaining self.old.source)
-            → HasPassed R.remaining self.old bytes stopped passed
-            → HasPassed R.remaining self.new bytes (stopped_by result stopped) passed }
+            → HasPassed R.remaining stride self.old bytes stopped passed
+            → HasPassed R.remaining stride self.new bytes (stopped_by result stopped) passed }
         ensures going { result ≡ Err Stop.Gate → ⊥ }
         ensures unfailed { result ≡ Err Stop.ReadFailed → ⊥ }
         ensures smaller { left_to_read self.new.items < left_to_read self.old.items }
@@ -132,9 +133,9 @@ impl<R: Source> StreamReader<R> {
 
     /// Reads no further, where nothing else stopped the stream, and gives up what wasn't taken.
     pub fn leave(&mut self)
-        ensures left { (bytes : List ℕ) (passed : List ToldItem)
-            → HasPassed R.remaining self.old bytes None passed
-            → HasPassed R.remaining self.new bytes (Some Stop.Gate) passed }
+        ensures left { (stride : ℕ) (bytes : List ℕ) (passed : List ToldItem)
+            → HasPassed R.remaining stride self.old bytes None passed
+            → HasPassed R.remaining stride self.new bytes (Some Stop.Gate) passed }
         ensures stays { self.new ≡ record self.old { items = given_up self.old.items } }
     {
         self.items.give_up();

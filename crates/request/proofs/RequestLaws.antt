@@ -16,7 +16,7 @@ use Rattle.request.specs.declared.plan_fault.PlanFault.TheVariants.{OutOfRange, 
 use Rattle.request.specs.declared.stream_row.StreamRow.{StreamRow}
 use Rattle.request.specs.declared.stream.Stream.{Stream}
 use Rattle.request.specs.Parts.{InputPartsValue, ServicePartsValue, PartsValue}
-use Rattle.request.specs.Ranges.{is_count_between, is_between, is_place, is_rate, is_pid, is_program_number, has_good_rates, has_good_sizes, has_good_ids, is_letter, is_network_name, are_descriptors, is_input, are_inputs, is_stream, is_service, are_services, has_good_top, has_good_lists}
+use Rattle.request.specs.Ranges.{is_count_between, is_between, is_place, is_rate, is_pid, is_program_number, has_good_rates, has_good_sizes, has_good_ids, is_letter, is_network_name, are_descriptors, is_size, is_input, are_inputs, is_stream, is_service, are_services, has_good_top, has_good_lists}
 use Rattle.request.specs.Request.{row_of, service_rows, rows_of, has_same_source, without_repeats, stream_rows_of, has_repeat, has_bad_range, has_service_twice, output_pids, has_pid_twice, request_fault_of, natural_of, ServiceValue, input_of, stream_of, stream_number, service_of, request_of, IsBetween, IsInput, IsStream, IsService, IsRequest}
 use Rattle.request.proofs.ListLaws.{list_all_weaker, list_all-filter, list_all-flat_map, all_from, map-map, map-append, all_pairs-map}
 use Rattle.request.proofs.StreamLaws.{same_source_symm, same_source_congr}
@@ -143,7 +143,7 @@ services_are inputs services e =
 input_is : (i : InputPartsValue) → is_input i ≡ true → IsInput (input_of i)
 unfolding is_input
 input_is i e =
-    let both = and_parts (is_rate i.rate) (is_between 0 MAX_OFFSET i.offset) e in
+    let both = and_parts (is_rate i.rate) (is_between 0 MAX_OFFSET i.offset) (and_parts (is_rate i.rate && is_between 0 MAX_OFFSET i.offset) (is_size i.size) e).0 in
     record { rate = between MIN_RATE MAX_RATE i.rate both.0; offset = (between 0 MAX_OFFSET i.offset both.1).1 }
 
 -- numbers that are there once

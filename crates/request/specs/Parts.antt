@@ -1,16 +1,18 @@
 -- The values of a plan as its text gives them, before any range is looked at (profile), and those of the Rust types
 -- without where they lie in memory.
-use Rattle.std.specs.Prelude.{ℕ, ℤ, List, map, string_bytes}
+use Rattle.std.specs.Prelude.{ℕ, ℤ, List, Option, map, string_bytes}
 use Rattle.request.specs.declared.stream_parts.StreamParts.{StreamParts}
 use Rattle.request.specs.declared.service_parts.ServiceParts.{ServiceParts}
 use Rattle.request.specs.declared.input_parts.InputParts.{InputParts}
 use Rattle.request.specs.declared.parts.Parts.{Parts}
 
--- an input: the bytes of the file's name, the rate in bits a second, the offset in ticks of 27 MHz
+-- an input: the bytes of the file's name, the rate in bits a second, the offset in ticks of 27 MHz, the size of its packets where
+-- it is said
 pub record InputPartsValue : Type 0 where
   pub file : List ℕ
   pub rate : ℤ
   pub offset : ℤ
+  pub size : Option ℤ
 
 -- a service: the place of its input, its number there and in the output, its PMT's PID, and its streams
 pub record ServicePartsValue : Type 0 where
@@ -36,7 +38,7 @@ pub record PartsValue : Type 0 where
   pub services : List ServicePartsValue
 
 abbrev pub input_parts_value : InputParts → InputPartsValue
-input_parts_value i = record { file = string_bytes i.file; rate = i.rate; offset = i.offset }
+input_parts_value i = record { file = string_bytes i.file; rate = i.rate; offset = i.offset; size = i.size }
 
 abbrev pub service_parts_value : ServiceParts → ServicePartsValue
 service_parts_value s = record {

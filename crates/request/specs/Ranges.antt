@@ -1,7 +1,8 @@
 -- The ranges of a plan's numbers, as tests. A PID has 13 bits; 0x0000 to 0x001F are kept for tables and 0x1FFF is that
 -- of null packets (ISO/IEC 13818-1, 2.4.3.3, table 2-3, and EN 300 468, 5.1.3). The other ranges are profile.
-use Rattle.std.specs.Prelude.{ℕ, ℤ, pos, negsuc, nat_le, nat_lt, Bool, false, ◌&&◌, List, length}
+use Rattle.std.specs.Prelude.{ℕ, ℤ, pos, negsuc, nat_le, nat_lt, Bool, true, false, ◌&&◌, ◌||◌, List, length, Option, Some, None}
 use Rattle.std.specs.List.{list_all}
+use Rattle.std.specs.Ordering.{int_eq}
 use Rattle.tables.specs.Descriptors.{are_whole}
 use Rattle.request.specs.Limits.{MIN_RATE, MAX_RATE, MIN_LEAK, MAX_LEAK, MAX_OFFSET, MAX_SLOTS, MAX_VERSION, MAX_ITEMS, MAX_ID, FIRST_PID, LAST_PID, MAX_INPUTS, MAX_SERVICES, MAX_NAME, FIRST_LETTER, LAST_LETTER, MAX_DESCRIPTORS}
 use Rattle.request.specs.declared.stream_parts.StreamParts.{StreamParts}
@@ -50,8 +51,13 @@ is_network_name bytes = is_count_between 1 MAX_NAME (length bytes) && list_all i
 unfoldable pub are_descriptors : List ℕ → Bool
 are_descriptors bytes = nat_le (length bytes) MAX_DESCRIPTORS && are_whole 0 bytes
 
+-- the size of an input's packets, where it is said
+abbrev pub is_size : Option ℤ → Bool
+is_size None = true
+is_size (Some z) = int_eq z (pos 188) || int_eq z (pos 204)
+
 unfoldable pub is_input : InputPartsValue → Bool
-is_input i = is_rate i.rate && is_between 0 MAX_OFFSET i.offset
+is_input i = (is_rate i.rate && is_between 0 MAX_OFFSET i.offset) && is_size i.size
 
 unfoldable pub are_inputs : List InputPartsValue → Bool
 are_inputs inputs = is_count_between 1 MAX_INPUTS (length inputs) && list_all is_input inputs

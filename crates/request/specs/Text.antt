@@ -94,7 +94,7 @@ services_at key ms = list_at key ms >>= each_of service_of
 
 -- [[input]]
 abbrev pub input_keys : List (List ℕ)
-input_keys = codes "file" ∷ codes "rate" ∷ codes "offset" ∷ []
+input_keys = codes "file" ∷ codes "rate" ∷ codes "offset" ∷ codes "size" ∷ []
 
 unfoldable pub input_of : Members → Option InputPartsValue
 input_of ms =
@@ -102,7 +102,8 @@ input_of ms =
       file ← text_at (codes "file") ms
       rate ← number_at (codes "rate") ms
       offset ← number_at (codes "offset") ms
-      Some (record { file = file; rate = rate; offset = offset }))
+      size ← optional_number_at (codes "size") ms
+      Some (record { file = file; rate = rate; offset = offset; size = size }))
     else None
 
 abbrev pub inputs_at : List ℕ → Members → Option (List InputPartsValue)

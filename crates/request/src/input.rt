@@ -1,5 +1,7 @@
 //! An input of a request.
 
+use tspkt::PacketFormat;
+
 /// A transport stream that services are taken from.
 #[derive(Drop)]
 pub struct Input {
@@ -9,4 +11,6 @@ pub struct Input {
     pub rate: u64,
     /// When its first byte comes, in ticks of 27 MHz, 0 to 97,200,000,000.
     pub offset: u64,
+    /// How its packets follow one another.
+    pub format: PacketFormat,
 }

@@ -9,4 +9,6 @@ pub struct InputParts {
     pub rate: i64,
     /// When its first byte comes, in ticks of 27 MHz, 0 to 97,200,000,000.
     pub offset: i64,
+    /// How many bytes lie from one packet to the next, 188 or 204. Where it isn't said, it is 188.
+    pub size: Option<i64>,
 }

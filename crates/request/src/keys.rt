@@ -48,7 +48,7 @@ fn get<'a>(table: &'a Table, key: &str) -> Option<&'a Value>
 }
 
 /// The number at a key that needn't be there. `None` where the value is of another type.
-fn optional_number(table: &Table, key: &str) -> Option<Option<i64>>
+pub fn optional_number(table: &Table, key: &str) -> Option<Option<i64>>
     ensures { result ≡ optional_number_at key.now (table_view table.now) }
 {
     match get(table, key) {

@@ -6,7 +6,7 @@ ghost use Rattle.request.specs.Text.{IsTextFault, each_of, stream_of, streams_at
 ghost use Rattle.request.specs.Parts.{input_parts_value, service_parts_value};
 
 use crate::input_parts::InputParts;
-use crate::keys::{is_closed, list, number, text};
+use crate::keys::{is_closed, list, number, optional_number, text};
 use crate::plan_fault::PlanFault;
 use crate::service_parts::ServiceParts;
 use crate::stream_parts::StreamParts;
@@ -109,14 +109,20 @@ fn table_input(alloc: Global, table: &Table) -> Result<InputParts, PlanFault>
     ensures ok { IfOk result (λ v. input_of (table_view table.now) ≡ Some (input_parts_value v)) }
     ensures err { IfErr result (IsTextFault (input_of (table_view table.now))) }
 {
-    if !is_closed(&["file", "rate", "offset"], table) {
+    if !is_closed(&["file", "rate", "offset", "size"], table) {
         return Err(PlanFault::BadText);
     }
     let file = text(table, "file").ok_or(PlanFault::BadText)?;
     let rate = number(table, "rate").ok_or(PlanFault::BadText)?;
     let offset = number(table, "offset").ok_or(PlanFault::BadText)?;
+    let size = optional_number(table, "size").ok_or(PlanFault::BadText)?;
     let file = String::from_str(alloc, file)?;
-    Ok(InputParts { file, rate, offset })
+    Ok(InputParts {
+        file,
+        rate,
+        offset,
+        size,
+    })
 }
 
 /// The inputs of a list of tables.

@@ -2,7 +2,7 @@
 
 ghost use Rattle.std.specs.Prelude.{◌≡◌, map, length, string_bytes};
 ghost use Rattle.std.specs.List.{list_all};
-ghost use Rattle.request.specs.Ranges.{is_count_between, is_between, is_place, is_rate, is_pid, is_program_number, has_good_rates, has_good_sizes, has_good_ids, is_letter, is_network_name, are_descriptors, is_input, are_inputs, is_stream, is_service, are_services};
+ghost use Rattle.request.specs.Ranges.{is_count_between, is_between, is_place, is_rate, is_pid, is_program_number, has_good_rates, has_good_sizes, has_good_ids, is_letter, is_network_name, are_descriptors, is_size, is_input, are_inputs, is_stream, is_service, are_services};
 ghost use Rattle.request.specs.Parts.{input_parts_value, service_parts_value, parts_value};
 
 use crate::input_parts::InputParts;
@@ -124,11 +124,21 @@ pub fn are_descriptors(bytes: &[u8]) -> bool
     bytes.len() <= MAX_DESCRIPTORS && are_whole(bytes)
 }
 
+/// The size of an input's packets, where it is said.
+fn is_size(size: Option<i64>) -> bool
+    ensures { result ≡ is_size size }
+{
+    match size {
+        Some(size) => size == 188 || size == 204,
+        None => true,
+    }
+}
+
 #[tactic(auto, unfolding(crate::specs::Ranges::is_input))]
 fn is_input(input: &InputParts) -> bool
     ensures { result ≡ is_input (input_parts_value input.now) }
 {
-    is_rate(input.rate) && is_between(0, MAX_OFFSET, input.offset)
+    is_rate(input.rate) && is_between(0, MAX_OFFSET, input.offset) && is_size(input.size)
 }
 
 /// Whether each is an input in its ranges.

@@ -7,7 +7,7 @@ use Rattle.tables.specs.Descriptors.{are_whole}
 use Rattle.request.specs.declared.stream_parts.StreamParts.{StreamParts}
 use Rattle.request.specs.Limits.{MIN_LEAK, MAX_LEAK, MAX_OFFSET, MAX_SLOTS, MAX_VERSION, MAX_ITEMS, MAX_ID, MAX_INPUTS, MAX_SERVICES, MAX_NAME, MAX_DESCRIPTORS}
 use Rattle.request.specs.Parts.{InputPartsValue, ServicePartsValue, PartsValue}
-use Rattle.request.specs.Ranges.{is_between, is_count_between, is_place, is_rate, is_pid, is_program_number, is_letter, has_good_rates, has_good_sizes, has_good_ids, is_network_name, are_descriptors, is_input, are_inputs, is_stream, is_service, are_services, has_good_top, has_good_lists}
+use Rattle.request.specs.Ranges.{is_between, is_count_between, is_place, is_rate, is_pid, is_program_number, is_letter, has_good_rates, has_good_sizes, has_good_ids, is_network_name, are_descriptors, is_size, is_input, are_inputs, is_stream, is_service, are_services, has_good_top, has_good_lists}
 use Rattle.request.proofs.ListLaws.{list_any_agree}
 use Rattle.request_causes.specs.RangeCauses.{is_outside, top_numbers, input_numbers, service_numbers, stream_numbers}
 
@@ -21,14 +21,11 @@ not_all p [] = refl
 not_all p (x ∷ xs) = ap (λ b. not (p x) || b) (not_all p xs) ∙ not_and (p x) (list_all p xs)
 
 -- the tables of numbers, against the ranges
-two : (a b : Bool) → (not a || (not b || false)) ≡ not (a && b)
-two false b = refl
-two true false = refl
-two true true = refl
-
 three : (a b d : Bool) → (not a || (not b || (not d || false))) ≡ not ((a && b) && d)
 three false b d = refl
-three true b d = two b d
+three true false d = refl
+three true true false = refl
+three true true true = refl
 
 nine : (a b d e f g h i j : Bool) → (not a || (not b || (not d || (not e || (not f || (not g || (not h || (not i || (not j || false))))))))) ≡ not ((((a && b) && d) && ((e && f) && g)) && ((h && i) && j))
 nine false b d e f g h i j = refl
@@ -39,9 +36,24 @@ nine true true true true false g h i j = refl
 nine true true true true true false h i j = refl
 nine true true true true true true h i j = three h i j
 
-pub input_is : (i : InputPartsValue) → list_any is_outside (input_numbers i) ≡ not (is_input i)
+-- an input: one of its numbers, else its size
+bad_numbers_of : (a b d : Bool) → (not a || (not b || false)) ≡ true → true ≡ not ((a && b) && d)
+bad_numbers_of false b d h = refl
+bad_numbers_of true false d h = refl
+bad_numbers_of true true d h = cc
+
+pub bad_input_number : (i : InputPartsValue) → list_any is_outside (input_numbers i) ≡ true → true ≡ not (is_input i)
 unfolding is_input
-input_is i = two (is_rate i.rate) (is_between 0 MAX_OFFSET i.offset)
+bad_input_number i h = bad_numbers_of (is_rate i.rate) (is_between 0 MAX_OFFSET i.offset) (is_size i.size) h
+
+size_left_of : (a b d any : Bool) → (not a || (not b || false)) ≡ false → any ≡ not d → any ≡ not ((a && b) && d)
+size_left_of false b d any h t = cc
+size_left_of true false d any h t = cc
+size_left_of true true d any h t = t
+
+pub size_left : (i : InputPartsValue) (any : Bool) → list_any is_outside (input_numbers i) ≡ false → any ≡ not (is_size i.size) → any ≡ not (is_input i)
+unfolding is_input
+size_left i any h t = size_left_of (is_rate i.rate) (is_between 0 MAX_OFFSET i.offset) (is_size i.size) any h t
 
 pub stream_is : (s : StreamParts) → list_any is_outside (stream_numbers s) ≡ not (is_stream s)
 unfolding is_stream
@@ -112,11 +124,10 @@ unfolding are_inputs
 bad_input_count inputs h = count_fails (is_count_between 1 MAX_INPUTS (length inputs)) (list_all is_input inputs) h
 
 pub inputs_left : (inputs : List InputPartsValue) (any : Bool) → is_count_between 1 MAX_INPUTS (length inputs) ≡ true
-    → any ≡ list_any (λ i. list_any is_outside (input_numbers i)) inputs → any ≡ not (are_inputs inputs)
+    → any ≡ list_any (λ i. not (is_input i)) inputs → any ≡ not (are_inputs inputs)
 unfolding are_inputs
 inputs_left inputs any h t =
-    count_holds (is_count_between 1 MAX_INPUTS (length inputs)) (list_all is_input inputs) any h
-    (t ∙ list_any_agree (λ i. list_any is_outside (input_numbers i)) (λ i. not (is_input i)) input_is inputs ∙ not_all is_input inputs)
+    count_holds (is_count_between 1 MAX_INPUTS (length inputs)) (list_all is_input inputs) any h (t ∙ not_all is_input inputs)
 
 pub bad_service_count : (count : ℕ) (services : List ServicePartsValue) → is_count_between 1 MAX_SERVICES (length services) ≡ false → true ≡ not (are_services count services)
 unfolding are_services

@@ -4,11 +4,13 @@ use Rattle.tables.specs.Descriptors.{are_whole}
 use Rattle.request.specs.declared.stream_parts.StreamParts.{StreamParts}
 use Rattle.request.specs.Limits.{MIN_RATE, MAX_RATE, MIN_LEAK, MAX_LEAK, MAX_OFFSET, MAX_SLOTS, MAX_VERSION, MAX_ITEMS, MAX_ID, FIRST_PID, LAST_PID, MAX_INPUTS, MAX_SERVICES, MAX_STREAMS, MAX_NAME, MAX_DESCRIPTORS}
 use Rattle.request.specs.Parts.{InputPartsValue, ServicePartsValue, PartsValue}
-use Rattle.request.specs.Ranges.{is_between, is_count_between, is_place, is_letter}
+use Rattle.request.specs.Ranges.{is_between, is_count_between, is_place, is_letter, is_size}
 use Rattle.request.specs.Request.{stream_rows_of}
 use Rattle.request_causes.specs.declared.number_key.NumberKey.{NumberKey}
 use Rattle.request_causes.specs.declared.number_key.NumberKey.TheVariants as Key
 use Rattle.request_causes.specs.declared.ranged_number.RangedNumber.{RangedNumber}
+use Rattle.request_causes.specs.declared.input_cause.InputCause.{InputCause}
+use Rattle.request_causes.specs.declared.input_cause.InputCause.TheVariants as InputsCause
 use Rattle.request_causes.specs.declared.service_cause.ServiceCause.{ServiceCause}
 use Rattle.request_causes.specs.declared.service_cause.ServiceCause.TheVariants.{NoInput, Number, Stream}
 use Rattle.request_causes.specs.declared.range_cause.RangeCause.{RangeCause}
@@ -55,6 +57,11 @@ stream_numbers s =
     ∷ ranged Key.Leak s.leak MIN_LEAK MAX_LEAK
     ∷ []
 
+-- of an input: a number of it, or the size of its packets
+abbrev pub IsInputCause : InputPartsValue → InputCause → Type 0
+IsInputCause i (InputsCause.Number n) = IsOutside (input_numbers i) n
+IsInputCause i (InputsCause.PacketSize size) = (i.size ≡ Some size) × (is_size (Some size) ≡ false)
+
 -- of a service of a plan with so many inputs
 abbrev pub IsServiceCause : ℕ → ServicePartsValue → ServiceCause → Type 0
 IsServiceCause count s (NoInput input inputs) = (input ≡ s.input) × (inputs ≡ count) × (is_place count s.input ≡ false)
@@ -69,7 +76,7 @@ IsRangeCause p (NameByte place byte) = (slice_get p.network_name place ≡ Some 
 IsRangeCause p (DescriptorsLength n) = (n ≡ length p.transport_descriptors) × (is_count_between 0 MAX_DESCRIPTORS n ≡ false)
 IsRangeCause p DescriptorsNotWhole = are_whole 0 p.transport_descriptors ≡ false
 IsRangeCause p (InputCount n) = (n ≡ length p.inputs) × (is_count_between 1 MAX_INPUTS n ≡ false)
-IsRangeCause p (Input input n) = (i : InputPartsValue) × (slice_get p.inputs input ≡ Some i) × IsOutside (input_numbers i) n
+IsRangeCause p (Input input cause) = (i : InputPartsValue) × (slice_get p.inputs input ≡ Some i) × IsInputCause i cause
 IsRangeCause p (ServiceCount n) = (n ≡ length p.services) × (is_count_between 1 MAX_SERVICES n ≡ false)
 IsRangeCause p (Service service cause) = (s : ServicePartsValue) × (slice_get p.services service ≡ Some s) × IsServiceCause (length p.inputs) s cause
 IsRangeCause p (StreamCount n) = (n ≡ length (stream_rows_of p.services)) × (is_count_between 1 MAX_STREAMS n ≡ false)

@@ -3,6 +3,7 @@
 #![tactic(auto)]
 
 mod causes;
+mod input_cause;
 mod number_key;
 mod numbers;
 mod pid_cause;
@@ -19,6 +20,7 @@ mod service_cause;
 mod stream_count;
 
 pub use causes::cause_of;
+pub use input_cause::InputCause;
 pub use number_key::NumberKey;
 pub use pid_cause::PidCause;
 pub use placed_row::PlacedRow;

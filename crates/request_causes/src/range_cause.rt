@@ -1,5 +1,6 @@
 //! What of a plan is out of its range.
 
+use crate::input_cause::InputCause;
 use crate::ranged_number::RangedNumber;
 use crate::service_cause::ServiceCause;
 use request::{
@@ -24,8 +25,8 @@ pub enum RangeCause {
     DescriptorsNotWhole,
     /// There are so many inputs.
     InputCount(usize),
-    /// This number of the input at this place.
-    Input { input: usize, number: RangedNumber },
+    /// The input at this place.
+    Input { input: usize, cause: InputCause },
     /// There are so many services.
     ServiceCount(usize),
     /// The service at this place.
@@ -55,7 +56,7 @@ impl Display for RangeCause {
             RangeCause::InputCount(count) => {
                 write!(f, "the plan has {count} inputs, from 1 to {MAX_INPUTS}")
             }
-            RangeCause::Input { input, number } => write!(f, "input {input}: {number}"),
+            RangeCause::Input { input, cause } => write!(f, "input {input}: {cause}"),
             RangeCause::ServiceCount(count) => {
                 write!(f, "the plan has {count} services, from 1 to {MAX_SERVICES}")
             }

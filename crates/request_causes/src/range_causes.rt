@@ -1,12 +1,13 @@
 //! What of a plan is out of its range.
 
-ghost use Rattle.std.specs.Prelude.{◌≡◌, ◌&&◌, not, true, IfOk, IfSome, is_some, length, map};
+ghost use Rattle.std.specs.Prelude.{◌≡◌, ◌&&◌, not, true, Some, IfOk, IfSome, is_some, length, map};
 ghost use Rattle.std.specs.List.{list_any};
 ghost use Rattle.request.specs.Parts.{input_parts_value, service_parts_value, parts_value};
-ghost use Rattle.request.specs.Ranges.{is_count_between, is_place, is_letter, has_good_rates, has_good_sizes, has_good_ids, is_network_name, are_descriptors, is_input, are_inputs, is_stream, is_service, are_services, has_good_top, has_good_lists};
+ghost use Rattle.request.specs.Ranges.{is_count_between, is_place, is_letter, has_good_rates, has_good_sizes, has_good_ids, is_network_name, are_descriptors, is_size, is_input, are_inputs, is_stream, is_service, are_services, has_good_top, has_good_lists};
 ghost use Rattle.request.specs.Request.{has_bad_range, stream_rows_of};
-ghost use Rattle.request_causes.specs.RangeCauses.{IsServiceCause, IsRangeCause, is_outside, input_numbers, stream_numbers};
+ghost use Rattle.request_causes.specs.RangeCauses.{IsInputCause, IsServiceCause, IsRangeCause, is_outside, stream_numbers};
 
+use crate::input_cause::InputCause;
 use crate::numbers::{
     find_outside_input, find_outside_service, find_outside_stream, find_outside_top,
 };
@@ -14,8 +15,8 @@ use crate::range_cause::RangeCause;
 use crate::service_cause::ServiceCause;
 use crate::stream_count::count_streams;
 use request::{
-    FIRST_LETTER, LAST_LETTER, MAX_DESCRIPTORS, MAX_INPUTS, MAX_NAME, MAX_SERVICES, MAX_STREAMS,
-    Parts, ServiceParts,
+    FIRST_LETTER, InputParts, LAST_LETTER, MAX_DESCRIPTORS, MAX_INPUTS, MAX_NAME, MAX_SERVICES,
+    MAX_STREAMS, Parts, ServiceParts,
 };
 use std::alloc::{AllocError, Global};
 use tables::are_whole;
@@ -103,29 +104,53 @@ fn top_cause(parts: &Parts) -> Option<RangeCause>
     descriptors_cause(parts)
 }
 
-/// The first number of an input that is out of its range.
-fn input_cause(parts: &Parts) -> Option<RangeCause>
+/// The size of an input's packets, where it is said and is neither 188 nor 204.
+fn find_wrong_size(input: &InputParts) -> Option<i64>
+    ensures size { IfSome result (λ size. input.now.size ≡ Some size) }
+    ensures some { is_some result ≡ not (is_size input.now.size) }
+{
+    let size = input.size?;
+    if size == 188 || size == 204 {
+        None
+    } else {
+        Some(size)
+    }
+}
+
+/// What of an input is out of its range: one of its numbers, else the size of its packets.
+fn input_cause(input: &InputParts) -> Option<InputCause>
+    ensures cause { IfSome result (IsInputCause (input_parts_value input.now)) }
+    ensures some { is_some result ≡ not (is_input (input_parts_value input.now)) }
+{
+    if let Some(number) = find_outside_input(input) {
+        return Some(InputCause::Number(number));
+    }
+    let size = find_wrong_size(input)?;
+    Some(InputCause::PacketSize(size))
+}
+
+/// What is out of its range in the first input that has something.
+fn first_input_cause(parts: &Parts) -> Option<RangeCause>
     ensures cause { IfSome result (IsRangeCause (parts_value parts.now)) }
-    ensures some { is_some result ≡ list_any (λ i. list_any is_outside (input_numbers i))
-        (parts_value parts.now).inputs }
+    ensures some { is_some result ≡ list_any (λ i. not (is_input i)) (parts_value parts.now).inputs }
 {
     let inputs = parts.inputs.as_slice();
     for (input, row) in inputs.iter().enumerate() {
-        if let Some(number) = find_outside_input(row) {
-            return Some(RangeCause::Input { input, number });
+        if let Some(cause) = input_cause(row) {
+            return Some(RangeCause::Input { input, cause });
         }
     }
     None
 }
 
-/// The count of the inputs, or the first of their numbers that is out of its range.
+/// The count of the inputs, or what is out of its range in the first that has something.
 fn inputs_cause(parts: &Parts) -> Option<RangeCause>
     ensures cause { IfSome result (IsRangeCause (parts_value parts.now)) }
     ensures some { is_some result ≡ not (are_inputs (parts_value parts.now).inputs) }
 {
     let count = parts.inputs.len();
     if is_count(MAX_INPUTS, count) {
-        input_cause(parts)
+        first_input_cause(parts)
     } else {
         Some(RangeCause::InputCount(count))
     }

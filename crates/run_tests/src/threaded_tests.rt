@@ -1,6 +1,8 @@
 //! Runs in threads over the example plan, beside the run in one thread.
 
 mod devices;
+mod formats;
+mod full_ring;
 mod gates;
 mod limits;
 mod meeting;

@@ -6,7 +6,6 @@ use Rattle.std.specs.Prelude.{IsSome, Result, Ok, Err, OnOk}
 use Rattle.std.proofs.lemmas.Bool.{cases_Bool, ne_eqb, false≢true}
 use Rattle.std.proofs.lemmas.Option.{same_Some}
 use Rattle.tspkt.specs.Packet.{pid_of}
-use Rattle.tspkt.specs.Framed.{framed}
 use Rattle.tspkt.specs.declared.framer.TheConstants.{MAX_LIMIT}
 use Rattle.tspkt.specs.declared.item.Item.{Item}
 use Rattle.tspkt.specs.declared.item.Item.TheVariants.{Packet, Bad, SyncLoss, Lost}
@@ -21,14 +20,14 @@ use Rattle.mux.specs.History.{History, with_event, slots, slot_time, taken, last
 use Rattle.mux.specs.Lawful.{is_mapped, is_queue_full, is_ready}
 use Rattle.mux.proofs.Mapped.{planned_some, planned_none}
 use Rattle.mux.proofs.Refusals.{goes_from, goes_both, unmapped, mapped_at, is_refused_full, is_unrefused}
-use Rattle.reading.specs.Takeable.{OriginValue, takeable, is_well_formed, is_named, stream_number, EndsAtTaken}
+use Rattle.reading.specs.Takeable.{OriginValue, framed_at, takeable, is_well_formed, is_named, stream_number, EndsAtTaken}
 use Rattle.serial.specs.Order.{ComeFrom}
 use Rattle.reading.specs.PacketReading.{HasLooked, ReadsOn, IsSpent, TellsFailures}
 use Rattle.serial.specs.declared.serial_input.SerialInput.{SerialInput}
 use Rattle.serial.specs.Feeding.{IsOrigin, HasGiven, IsOwnStop, Feeds, MayBeTaken, GoesTo, IsOfInput, IsGivenOrHeld, turns_left}
 use Rattle.reading.proofs.PacketLaws.{given_inside, released}
 use Rattle.reading.proofs.KnownLaws.{consumes_on}
-use Rattle.serial.proofs.OrderLaws.{come_in_order, are_few}
+use Rattle.serial.proofs.OrderLaws.{come_in_order, fewer_than_bytes}
 
 -- Each packet that can be taken is one that the plan names.
 
@@ -82,12 +81,12 @@ last_taken i (Slot c ∷ h) = last_taken i h
 -- What was given begins what can be taken of bytes that aren't too many.
 
 abbrev pub IsInside : PlanValue → OriginValue → List Stamped → Type 0
-IsInside plan origin given = (inside : List ℕ) × (later : List Stamped) × (length inside ≤ MAX_LIMIT) × (given ++ later ≡ takeable plan origin (framed 188 inside))
+IsInside plan origin given = (inside : List ℕ) × (later : List Stamped) × (length inside ≤ MAX_LIMIT) × (given ++ later ≡ takeable plan origin (framed_at origin inside))
 
 pub few : (plan : PlanValue) (o : OriginValue) (given : List Stamped) → IsInside plan o given → length given ≤ MAX_LIMIT
 few plan o given is =
-    let all = takeable plan o (framed 188 is.0) in
-    let most = are_few plan o is.0 in
+    let all = takeable plan o (framed_at o is.0) in
+    let most = fewer_than_bytes plan o is.0 in
     let size = is.2 in
     let parts : length given ≤ length all = omega (arith, length-append given is.1, ap length is.3) in
     omega (arith, most, parts, size)
@@ -98,11 +97,11 @@ pub record IsNextInOrder (p : PlanValue) (h : List Event) (i : ℕ) (item : Stam
   pub later : last_stamp i h ≤ item.stamp
 
 pub next_in_order : (p : PlanValue) (h : List Event) (i : ℕ) (o : OriginValue) (item : Stamped) (bytes : List ℕ) (later : List Stamped) → o.number ≡ i → 0 < o.rate
-    → (taken i h ++ item ∷ []) ++ later ≡ takeable p o (framed 188 bytes) → IsNextInOrder p h i item
+    → (taken i h ++ item ∷ []) ++ later ≡ takeable p o (framed_at o bytes) → IsNextInOrder p h i item
 next_in_order p h i o item bytes later number rate is =
-    let split : taken i h ++ item ∷ later ≡ takeable p o (framed 188 bytes) = sym (append_assoc (taken i h) (item ∷ []) later) ∙ is in
+    let split : taken i h ++ item ∷ later ≡ takeable p o (framed_at o bytes) = sym (append_assoc (taken i h) (item ∷ []) later) ∙ is in
     let named_here : is_named p o item.packet ≡ true =
-    (let P : List Stamped → Type 0 = AreNamed p o in named_at p o (taken i h) later item (subst P (sym split) (named p o (framed 188 bytes)))) in
+    (let P : List Stamped → Type 0 = AreNamed p o in named_at p o (taken i h) later item (subst P (sym split) (named p o (framed_at o bytes)))) in
     let order : last_of 0 (taken i h) ≤ item.stamp =
     (let P : List Stamped → Type 0 = ComeFrom 0 in come_at 0 (taken i h) later item (subst P (sym split) (come_in_order p o bytes rate))) in
     let last = last_taken i h in

@@ -7,14 +7,14 @@ use Rattle.std.specs.Io.KnownBytes.{Consumes, IsAtEnd}
 use Rattle.std.proofs.lemmas.Bool.{cases_eq, false≢true}
 use Rattle.std.proofs.lemmas.List.{append-nil, append_cancel_right}
 use Rattle.std.proofs.lemmas.Option.{none-some, same_Some, slice_get-get_or, slice_get_within, slice_get_cases}
-use Rattle.tspkt.specs.Framed.{framed, packets_of}
+use Rattle.tspkt.specs.Framed.{packets_of}
 use Rattle.tspkt.specs.declared.stamped.Stamped.{Stamped}
 use Rattle.plan.specs.Build.{PlanValue}
 use Rattle.mux.specs.declared.event.Event.{Event}
 use Rattle.mux.specs.declared.event.Event.TheVariants.{Took, Full, Close, Slot}
 use Rattle.mux.specs.History.{History, with_event, taken, is_closed}
 use Rattle.mux.specs.Faithful.{PacketLists, IsFaithful, IsPrefix}
-use Rattle.reading.specs.Takeable.{takeable, origin_of}
+use Rattle.reading.specs.Takeable.{stride_at, framed_at, takeable, origin_of}
 use Rattle.reading.specs.PacketReading.{HasRead, IsSpent}
 use Rattle.reading.specs.declared.packet_reader.PacketReader.{PacketReader}
 use Rattle.reading.specs.declared.stop.Stop.{Stop}
@@ -125,7 +125,7 @@ keep_order {R} inputs i x y old new at within one others lists all =
 
 -- what it gave, and what it holds, begins what can be taken
 held_front : {R : Type 0} (remaining : R → Option (List ℕ)) (p : PlanValue) (i : ℕ) (all : List ℕ) (rest : Option (List ℕ)) (x : SerialInput R) (given : List Stamped)
-    → rest ≡ remaining x.reader.stream.source → (g : HasGiven remaining p i (Some all) x given) → IsPrefix (given ++ option_to_list x.reader.held) (takeable p x.reader.origin (framed 188 all))
+    → rest ≡ remaining x.reader.stream.source → (g : HasGiven remaining p i (Some all) x given) → IsPrefix (given ++ option_to_list x.reader.held) (takeable p x.reader.origin (framed_at x.reader.origin all))
 held_front remaining p i all None x given e g =
     let b = g.read in
     let C : Option (List ℕ) → Type 0 = λ v. Consumes (Some all) v b.0 in
@@ -135,7 +135,7 @@ held_front remaining p i all (Some more) x given e g =
     let C : Option (List ℕ) → Type 0 = λ v. Consumes (Some all) v b.0 in
     let parts : all ≡ b.0 ++ more = subst C (sym e) b.1 in
     let later = held_begins remaining p x.reader b.0 given b.2 more in
-    (later.0, sym (later.1 ∙ ap (λ v. takeable p x.reader.origin (framed 188 v)) (sym parts)))
+    (later.0, sym (later.1 ∙ ap (λ v. takeable p x.reader.origin (framed_at x.reader.origin v)) (sym parts)))
 
 pub consumed_all : (all : List ℕ) (rest : Option (List ℕ)) (bytes : List ℕ) → Consumes (Some all) rest bytes → IsAtEnd rest → bytes ≡ all
 consumed_all all None bytes used end = absurd used
@@ -143,21 +143,21 @@ consumed_all all (Some more) bytes used end = sym (used ∙ ap (λ v. bytes ++ v
 
 -- what was given of an input that ended by itself is all
 all_given : {R : Type 0} (remaining : R → Option (List ℕ)) (p : PlanValue) (i : ℕ) (all : List ℕ) (x : SerialInput R) (given : List Stamped)
-    → IsSpent x.reader → x.reader.report.stopped ≡ None → HasGiven remaining p i (Some all) x given → given ≡ takeable p x.reader.origin (framed 188 all)
+    → IsSpent x.reader → x.reader.report.stopped ≡ None → HasGiven remaining p i (Some all) x given → given ≡ takeable p x.reader.origin (framed_at x.reader.origin all)
 all_given remaining p i all x given done goes has =
     let b = has.read in
     let whole = whole_read remaining p x.reader b.0 given b.2 done goes in
-    whole.given_is ∙ ap (λ v. takeable p x.reader.origin (framed 188 v)) (consumed_all all (remaining x.reader.stream.source) b.0 b.1 whole.at_end)
+    whole.given_is ∙ ap (λ v. takeable p x.reader.origin (framed_at x.reader.origin v)) (consumed_all all (remaining x.reader.stream.source) b.0 b.1 whole.at_end)
 
 -- where a read failed, what was given and is held is what can be taken of the bytes before
 failed_given : {R : Type 0} (remaining : R → Option (List ℕ)) (p : PlanValue) (x : PacketReader R) (bytes : List ℕ) (given : List Stamped) → HasRead remaining p x bytes given → x.report.stopped ≡ Some ReadFailed
-    → given ++ option_to_list x.held ≡ takeable p x.origin (framed 188 bytes)
+    → given ++ option_to_list x.held ≡ takeable p x.origin (framed_at x.origin bytes)
 failed_given remaining p x bytes given has failed =
     let items = x.stream.items in
     let none = has.1.over (subst IsSome (sym failed) refl) in
     let all : has.0 ++ items.ahead ≡ has.0 = ap (λ v. has.0 ++ v) none ∙ append-nil has.0 in
-    let told = told_failed items.limit items.framer (has.0 ++ items.ahead) bytes (remaining x.stream.source) x.report.stopped failed has.1.passed in
-    sym has.1.given_is ∙ takeable_same p x.origin has.0 (framed 188 bytes) (ap packets_of (sym all) ∙ told.packets)
+    let told = told_failed (stride_at x.origin) items.limit items.framer (has.0 ++ items.ahead) bytes (remaining x.stream.source) x.report.stopped failed has.1.passed in
+    sym has.1.given_is ∙ takeable_same p x.origin has.0 (framed_at x.origin bytes) (ap packets_of (sym all) ∙ told.packets)
 
 pub same_bytes : (all : List ℕ) (left : Option (List ℕ)) (a b : List ℕ) → Consumes (Some all) left a → Consumes (Some all) left b → a ≡ b
 same_bytes all None a b first second = absurd first
@@ -202,7 +202,7 @@ cut_may_give remaining p h i all x fed = record {
 }
 
 one_may_give : {R : Type 0} (remaining : R → Option (List ℕ)) (p : PlanValue) (h : List Event) (i : ℕ) (all : List ℕ) (list : List Stamped) (x : SerialInput R) (s : Option Stop)
-    → x.reader.report.stopped ≡ s → HasFed remaining p h i (Some all) x → (s ≡ Some Gate → ⊥) → (s ≡ Some Memory → is_closed i h ≡ false) → list ≡ takeable p x.reader.origin (framed 188 all)
+    → x.reader.report.stopped ≡ s → HasFed remaining p h i (Some all) x → (s ≡ Some Gate → ⊥) → (s ≡ Some Memory → is_closed i h ≡ false) → list ≡ takeable p x.reader.origin (framed_at x.reader.origin all)
     → MayGive x (taken i h) (given_of list (taken i h) x s)
 one_may_give remaining p h i all list x None is fed unleft refused list_is =
     let begins = held_front remaining p i all (remaining x.reader.stream.source) x (taken i h) refl fed.given in
@@ -221,7 +221,7 @@ one_may_give remaining p h i all list x (Some Memory) is fed unleft refused list
     }
 
 begins_all : {R : Type 0} (remaining : R → Option (List ℕ)) (p : PlanValue) (h : List Event) (i : ℕ) (all : List ℕ) (list : List Stamped) (x : SerialInput R) (b : Bool)
-    → HasFed remaining p h i (Some all) x → list ≡ takeable p x.reader.origin (framed 188 all) → IsPrefix (if b then taken i h ++ option_to_list x.reader.held else list) list
+    → HasFed remaining p h i (Some all) x → list ≡ takeable p x.reader.origin (framed_at x.reader.origin all) → IsPrefix (if b then taken i h ++ option_to_list x.reader.held else list) list
 begins_all remaining p h i all list x true fed list_is =
     let begins = held_front remaining p i all (remaining x.reader.stream.source) x (taken i h) refl fed.given in
     (begins.0, list_is ∙ begins.1)
@@ -240,12 +240,12 @@ known None h = let bad : false ≡ true = h in cc
 known (Some all) h = (all, refl)
 
 list_is : {R : Type 0} (remaining : R → Option (List ℕ)) (p : PlanValue) (h : List Event) (starts : List (Option (List ℕ))) (i : ℕ) (x : SerialInput R) (all : List ℕ)
-    → slice_get starts i ≡ Some (Some all) → HasFed remaining p h i (Some all) x → packet_lists p starts i ≡ takeable p x.reader.origin (framed 188 all)
+    → slice_get starts i ≡ Some (Some all) → HasFed remaining p h i (Some all) x → packet_lists p starts i ≡ takeable p x.reader.origin (framed_at x.reader.origin all)
 list_is remaining p h starts i x all at fed =
     let o = fed.given.origin in
     ap (λ v. packet_list p i v (slice_get starts i)) o.1
     ∙ ap (packet_list p i (Some o.0)) at
-    ∙ ap (λ v. takeable p v (framed 188 all)) (sym o.3)
+    ∙ ap (λ v. takeable p v (framed_at v all)) (sym o.3)
 
 -- The lists of all inputs.
 
@@ -283,8 +283,8 @@ one_gives {R} remaining p h starts lefts stops i x e are =
           let origin : x.reader.origin ≡ origin_of i input = o.3 ∙ ap (origin_of i) (same_Some o.0 input (sym o.1 ∙ named)) in
           ap (given_of (packet_lists p starts i) (taken i h) x) failed
           ∙ failed_given remaining p x.reader read.0 (taken i h) read.2 failed
-          ∙ ap (λ v. takeable p x.reader.origin (framed 188 v)) (same_bytes all.0 (remaining x.reader.stream.source) read.0 bytes read.1 here)
-          ∙ ap (λ v. takeable p v (framed 188 bytes)) origin;
+          ∙ ap (λ v. takeable p x.reader.origin (framed_at x.reader.origin v)) (same_bytes all.0 (remaining x.reader.stream.source) read.0 bytes read.1 here)
+          ∙ ap (λ v. takeable p v (framed_at v bytes)) origin;
       begins = begins_all remaining p h i all.0 (packet_lists p starts i) x (is_cut x.reader.report.stopped) fed list;
     }
 

@@ -9,6 +9,8 @@ use Rattle.mux.specs.declared.event.Event.{Event}
 use Rattle.mux.specs.History.{taken}
 use Rattle.mux.specs.Lawful.{is_ready}
 use Rattle.reading.specs.declared.stop.Stop.TheVariants.{Memory}
+use Rattle.reading.specs.InputLimit.{limit_of_input}
+use Rattle.reading.specs.declared.input_limit.InputLimit.{InputLimit}
 use Rattle.reading.proofs.PacketLaws.{too_much}
 use Rattle.serial.specs.declared.serial_input.SerialInput.{SerialInput}
 use Rattle.serial.specs.declared.serial_run.SerialRun.{SerialRun}
@@ -35,21 +37,22 @@ has_fed : {R : Type 0} (remaining : R → Option (List ℕ)) (p : PlanValue) (h 
 has_fed remaining p h i start x f = record { given = f.given; closed = f.closed; over = f.over }
 
 -- inputs that go on
-pub halted_fed : {R : Type 0} (remaining : R → Option (List ℕ)) (limit : ℕ) (p : PlanValue) (h : List Event) (starts : List (Option (List ℕ))) (inputs : List (SerialInput R))
-    → AreFed remaining p h starts inputs → AreLimited limit inputs → TakesInOrder h inputs → AreHalted remaining limit p h starts inputs
+pub halted_fed : {R : Type 0} (remaining : R → Option (List ℕ)) (limit : InputLimit) (p : PlanValue) (h : List Event) (starts : List (Option (List ℕ))) (inputs : List (SerialInput R))
+    → AreFed remaining p h starts inputs → AreLimited limit p inputs → TakesInOrder h inputs → AreHalted remaining limit p h starts inputs
 halted_fed remaining limit p h starts inputs fed limited order = record {
   count = fed.count;
-  each = λ i start x from at.
+  each = λ i input start x named from at.
       let f = fed.each i x at in
-      let P : Option (List ℕ) → Type 0 = λ v. IsHalted limit p h i v x.reader.report.stopped in
-      subst P (same_Some f.0 start (sym f.1 ∙ from)) (halted_one remaining limit p h i f.0 x f.2 (limited i x at));
+      let most = limit_of_input limit input.format in
+      let P : Option (List ℕ) → Type 0 = λ v. IsHalted most p h i v x.reader.report.stopped in
+      subst P (same_Some f.0 start (sym f.1 ∙ from)) (halted_one remaining most p h i f.0 x f.2 (limited i input x named at));
   fed = λ i x at. (let f = fed.each i x at in (f.0, f.1, has_fed remaining p h i f.0 x f.2));
   in_order = order;
 }
 
 -- memory was refused for an input that was still read
-pub halted_refused : {R : Type 0} (remaining : R → Option (List ℕ)) (limit : ℕ) (p : PlanValue) (h : List Event) (i : ℕ) (starts : List (Option (List ℕ))) (inputs : List (SerialInput R)) (x y : SerialInput R)
-    → x ≡ get_or inputs i x → i < length inputs → is_ready p i h ≡ false → y.reader.report.stopped ≡ Some Memory → AreFed remaining p h starts inputs → AreLimited limit inputs
+pub halted_refused : {R : Type 0} (remaining : R → Option (List ℕ)) (limit : InputLimit) (p : PlanValue) (h : List Event) (i : ℕ) (starts : List (Option (List ℕ))) (inputs : List (SerialInput R)) (x y : SerialInput R)
+    → x ≡ get_or inputs i x → i < length inputs → is_ready p i h ≡ false → y.reader.report.stopped ≡ Some Memory → AreFed remaining p h starts inputs → AreLimited limit p inputs
     → ((start : Option (List ℕ)) → Feeds remaining p h i start x → HasFed remaining p h i start y) → KeepOrder h h inputs (set inputs i y) → TakesInOrder h inputs
     → AreHalted remaining limit p h starts (set inputs i y)
 halted_refused {R} remaining limit p h i starts inputs x y at within waits memory fed limited given keeps order =
@@ -57,7 +60,7 @@ halted_refused {R} remaining limit p h i starts inputs x y at within waits memor
     let here : slice_get inputs i ≡ Some x = slice_get-get_or inputs i x within ∙ ap Some (sym at) in
     record {
       count = length-set inputs i y ∙ fed.count;
-      each = λ j start z from there.
+      each = λ j input start z named from there.
           elim (cases_eq i j) [
             | inl same ↦
                 (let new : y ≡ z = same_Some y z (sym (set_here inputs i y within) ∙ ap (slice_get (set inputs i y)) same ∙ there) in
@@ -68,7 +71,7 @@ halted_refused {R} remaining limit p h i starts inputs x y at within waits memor
                   refused = λ e. subst P same waits;
                   too_much = λ e all known. (let bad = sym stop ∙ e in cc);
                 })
-            | inr ne ↦ before.each j start z from (sym (set_there inputs i j y ne) ∙ there)
+            | inr ne ↦ before.each j input start z named from (sym (set_there inputs i j y ne) ∙ there)
           ];
       fed = λ j z there.
           elim (cases_eq i j) [
@@ -84,23 +87,23 @@ halted_refused {R} remaining limit p h i starts inputs x y at within waits memor
     }
 
 -- a run that goes on
-pub halted_running : {R : Type 0} (remaining : R → Option (List ℕ)) (run : Run) (limit : ℕ) (starts : List (Option (List ℕ))) (r : SerialRun R)
+pub halted_running : {R : Type 0} (remaining : R → Option (List ℕ)) (run : Run) (limit : InputLimit) (starts : List (Option (List ℕ))) (r : SerialRun R)
     → IsRunning remaining run limit starts r → AreHalted remaining limit run.plan r.mux.events starts r.inputs.items
 halted_running remaining run limit starts r is = halted_fed remaining limit run.plan r.mux.events starts r.inputs.items is.fed is.limited is.in_order
 
 -- for no input of it memory was refused
-pub unrefused_running : {R : Type 0} (remaining : R → Option (List ℕ)) (run : Run) (limit : ℕ) (starts : List (Option (List ℕ))) (r : SerialRun R)
+pub unrefused_running : {R : Type 0} (remaining : R → Option (List ℕ)) (run : Run) (limit : InputLimit) (starts : List (Option (List ℕ))) (r : SerialRun R)
     → IsRunning remaining run limit starts r → AreUnrefused r.inputs.items
 unrefused_running remaining run limit starts r is i x at = (is.fed.each i x at).2.own.unrefused
 
 -- input i goes on with its limit
-pub all_limited : {R : Type 0} (limit : ℕ) (inputs : List (SerialInput R)) (i : ℕ) (x y : SerialInput R) → x ≡ get_or inputs i x → i < length inputs
-    → y.reader.stream.items.limit ≡ x.reader.stream.items.limit → AreLimited limit inputs → AreLimited limit (set inputs i y)
-all_limited limit inputs i x y at within size all j z there =
+pub all_limited : {R : Type 0} (limit : InputLimit) (p : PlanValue) (inputs : List (SerialInput R)) (i : ℕ) (x y : SerialInput R) → x ≡ get_or inputs i x → i < length inputs
+    → y.reader.stream.items.limit ≡ x.reader.stream.items.limit → AreLimited limit p inputs → AreLimited limit p (set inputs i y)
+all_limited limit p inputs i x y at within size all j input z named there =
     elim (cases_eq i j) [
       | inl same ↦
           (let here : slice_get inputs i ≡ Some x = slice_get-get_or inputs i x within ∙ ap Some (sym at) in
           let new : y ≡ z = same_Some y z (sym (set_here inputs i y within) ∙ ap (slice_get (set inputs i y)) same ∙ there) in
-          ap (λ (v : SerialInput _). v.reader.stream.items.limit) (sym new) ∙ size ∙ all i x here)
-      | inr ne ↦ all j z (sym (set_there inputs i j y ne) ∙ there)
+          ap (λ (v : SerialInput _). v.reader.stream.items.limit) (sym new) ∙ size ∙ all i input x (ap (slice_get p.request.inputs) same ∙ named) here)
+      | inr ne ↦ all j input z named (sym (set_there inputs i j y ne) ∙ there)
     ]

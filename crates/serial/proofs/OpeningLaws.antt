@@ -10,10 +10,12 @@ use Rattle.request.specs.Request.{InputValue, IsInput, input_value}
 use Rattle.request.specs.declared.input.Input.{Input}
 use Rattle.plan.specs.Build.{PlanValue}
 use Rattle.reading.specs.Counting.{nothing_counted}
-use Rattle.reading.specs.Takeable.{origin_of}
+use Rattle.reading.specs.Takeable.{stride_at, origin_of}
+use Rattle.reading.specs.InputLimit.{limit_of_input}
 use Rattle.reading.specs.PacketReading.{HasRead}
 use Rattle.reading.specs.PacketReading.{TellsFailures}
 use Rattle.reading.specs.declared.packet_reader.PacketReader.{PacketReader}
+use Rattle.reading.specs.declared.input_limit.InputLimit.{InputLimit}
 use Rattle.reading.proofs.PacketLaws.{looked_framed}
 use Rattle.tspkt.specs.Framed.{framed, framed_from}
 use Rattle.tspkt.specs.declared.framer.TheConstants.{MAX_LIMIT}
@@ -40,7 +42,7 @@ from_map f [] i y at = cc
 from_map f (x ∷ xs) zero y at = (x, refl, same_Some (f x) y at)
 from_map f (x ∷ xs) (suc i) y at = from_map f xs i y at
 
-pub opened_push : {R : Type 0} (remaining : R → Option (List ℕ)) (failures : R → ℕ) (limit : ℕ) (p : PlanValue) (readers : List R) (inputs : List (SerialInput R)) (reader : R) (x : SerialInput R)
+pub opened_push : {R : Type 0} (remaining : R → Option (List ℕ)) (failures : R → ℕ) (limit : InputLimit) (p : PlanValue) (readers : List R) (inputs : List (SerialInput R)) (reader : R) (x : SerialInput R)
     → AreOpened remaining failures limit p readers inputs → IsOpened remaining failures limit p (length inputs) reader x
     → AreOpened remaining failures limit p (readers ++ reader ∷ []) (inputs ++ x ∷ [])
 opened_push {R} remaining failures limit p readers inputs reader x are is = record {
@@ -62,7 +64,7 @@ opened_push {R} remaining failures limit p readers inputs reader x are is = reco
       ];
 }
 
-pub fed_of_opened : {R : Type 0} (remaining : R → Option (List ℕ)) (failures : R → ℕ) (limit : ℕ) (p : PlanValue) (readers : List R) (inputs : List (SerialInput R)) → length readers ≡ length p.request.inputs
+pub fed_of_opened : {R : Type 0} (remaining : R → Option (List ℕ)) (failures : R → ℕ) (limit : InputLimit) (p : PlanValue) (readers : List R) (inputs : List (SerialInput R)) → length readers ≡ length p.request.inputs
     → AreOpened remaining failures limit p readers inputs → AreFed remaining p [] (map remaining readers) inputs
 fed_of_opened remaining failures limit p readers inputs count are = record {
   count = are.count ∙ count;
@@ -73,18 +75,18 @@ fed_of_opened remaining failures limit p readers inputs count are = record {
       ];
 }
 
-pub told_of_opened : {R : Type 0} (remaining : R → Option (List ℕ)) (failures : R → ℕ) (limit : ℕ) (p : PlanValue) (readers : List R) (inputs : List (SerialInput R))
+pub told_of_opened : {R : Type 0} (remaining : R → Option (List ℕ)) (failures : R → ℕ) (limit : InputLimit) (p : PlanValue) (readers : List R) (inputs : List (SerialInput R))
     → AreOpened remaining failures limit p readers inputs → AllTellFailures failures (map failures readers) inputs
 told_of_opened remaining failures limit p readers inputs are i x before at from =
     let r = from_map failures readers i before from in
     let P : ℕ → Type 0 = λ n. TellsFailures failures n x.reader in
     subst P r.2 ((are.each i r.0 x r.1 at).told)
 
-pub limited_of_opened : {R : Type 0} (remaining : R → Option (List ℕ)) (failures : R → ℕ) (limit : ℕ) (p : PlanValue) (readers : List R) (inputs : List (SerialInput R))
-    → AreOpened remaining failures limit p readers inputs → AreLimited limit inputs
-limited_of_opened remaining failures limit p readers inputs are i x at =
+pub limited_of_opened : {R : Type 0} (remaining : R → Option (List ℕ)) (failures : R → ℕ) (limit : InputLimit) (p : PlanValue) (readers : List R) (inputs : List (SerialInput R))
+    → AreOpened remaining failures limit p readers inputs → AreLimited limit p inputs
+limited_of_opened remaining failures limit p readers inputs are i input x named at =
     elim (slice_get_cases readers i).1 [
-      | inl found ↦ (are.each i found.0 x found.2 at).limited
+      | inl found ↦ (are.each i found.0 x found.2 at).limited input named
       | inr past ↦ absurd (omega (arith, slice_get_within inputs i x at, past.0, are.count))
     ]
 
@@ -99,18 +101,18 @@ append_none : {X : Type 0} (xs ys : List X) → xs ++ ys ≡ [] → xs ≡ []
 append_none [] ys e = refl
 append_none (x ∷ xs) ys e = cc
 
-framed_none : framed 188 [] ≡ []
+framed_none : (stride : ℕ) → framed stride [] ≡ []
 unfolding framed_from
-framed_none = refl
+framed_none stride = refl
 
 -- of an input of which nothing was read nothing was looked at
 nothing_looked : {R : Type 0} (remaining : R → Option (List ℕ)) (p : PlanValue) (x : PacketReader R) (h : HasRead remaining p x [] []) → h.0 ≡ []
 nothing_looked remaining p x h =
     let b = looked_framed remaining p x [] [] h [] (λ end. refl) in
-    append_none h.0 b.0 (b.1 ∙ framed_none)
+    append_none h.0 b.0 (b.1 ∙ framed_none (stride_at x.origin))
 
-pub opened_input : {R : Type 0} (remaining : R → Option (List ℕ)) (failures : R → ℕ) (limit : ℕ) (p : PlanValue) (i : ℕ) (input : InputValue) (reader : R) (x : SerialInput R)
-    → slice_get p.request.inputs i ≡ Some input → IsInput input → x.reader.origin ≡ origin_of i input → limit ≤ MAX_LIMIT → x.reader.stream.items.limit ≡ limit → x.reader.stream.source ≡ reader
+pub opened_input : {R : Type 0} (remaining : R → Option (List ℕ)) (failures : R → ℕ) (limit : InputLimit) (p : PlanValue) (i : ℕ) (input : InputValue) (reader : R) (x : SerialInput R)
+    → slice_get p.request.inputs i ≡ Some input → IsInput input → x.reader.origin ≡ origin_of i input → limit_of_input limit input.format ≤ MAX_LIMIT → x.reader.stream.items.limit ≡ limit_of_input limit input.format → x.reader.stream.source ≡ reader
     → x.reader.report ≡ nothing_counted → x.is_closed ≡ false → HasRead remaining p x.reader [] [] → TellsFailures failures (failures reader) x.reader → IsOpened remaining failures limit p i reader x
 opened_input {R} remaining failures limit p i input reader x at is origin most size source report opened read tells =
     let C : R → Type 0 = λ v. Consumes (remaining reader) (remaining v) [] in
@@ -126,12 +128,12 @@ opened_input {R} remaining failures limit p i input reader x at is origin most s
         own = record { unleft = λ e. (let bad = sym (ap (λ v. v.stopped) report) ∙ e in cc); unrefused = λ e. (let bad = sym (ap (λ v. v.stopped) report) ∙ e in cc) };
         stands = λ e. inl (nothing_looked remaining p x.reader read);
       };
-      limited = size;
+      limited = λ other there. size ∙ ap (λ (v : InputValue). limit_of_input limit v.format) (same_Some input other (sym at ∙ there));
       told = tells;
     }
 
 -- a run of which nothing was read or sent
-pub runs_opened : {R : Type 0} (remaining : R → Option (List ℕ)) (failures : R → ℕ) (limit : ℕ) (p : PlanValue) (slots : ℕ) (readers : List R) (r : SerialRun R)
+pub runs_opened : {R : Type 0} (remaining : R → Option (List ℕ)) (failures : R → ℕ) (limit : InputLimit) (p : PlanValue) (slots : ℕ) (readers : List R) (r : SerialRun R)
     → r.mux ≡ opened p slots → length readers ≡ length p.request.inputs → AreOpened remaining failures limit p readers r.inputs.items → 0 < length r.piece.items
     → HasAnalysed r.output p.request.rate p.request.watch [] → IsRunning remaining (record { plan = p; limit = slots }) limit (map remaining readers) r
 runs_opened remaining failures limit p slots readers r mux count are piece analysed =

@@ -1,20 +1,23 @@
 -- The packets of an input: their order, and how many they may be.
-use Rattle.std.proofs.Common.{ℕ, zero, suc, ◌+◌, ◌*◌, ◌/◌, ◌<◌, ◌≤◌, Bool, true, false, cond, nat_lt, List, [], ◌∷◌, ◌++◌, length, take, arith, inl, inr}
+use Rattle.std.proofs.Common.{ℕ, zero, suc, ◌+◌, ◌-◌, ◌*◌, ◌/◌, ◌<◌, ◌≤◌, Bool, true, false, cond, nat_lt, List, [], ◌∷◌, ◌++◌, length, take, arith, inl, inr}
 use Rattle.std.proofs.lemmas.Bool.{cases_Bool}
 use Rattle.std.proofs.lemmas.Nat.{le-div}
-use Rattle.std.proofs.Math.Nat.{div-mul-le_self}
+use Rattle.std.proofs.Math.Nat.{div-mul-le_self, mul-suc}
 use Rattle.tspkt.specs.Stamps.{time_of}
-use Rattle.tspkt.specs.Framed.{framed, framed_from, lost, acquires_sync, is_sync, keeps_sync, covered}
-use Rattle.tspkt.proofs.FramedLaws.{sum-framed}
+use Rattle.tspkt.specs.Framed.{framed_from, lost, acquires_sync, is_sync, keeps_sync, covered}
+use Rattle.tspkt.proofs.FramedLaws.{covered-framed}
 use Rattle.std.specs.List.{sum_by}
 use Rattle.std.proofs.lemmas.List.Sums.{sum_by-cons}
 use Rattle.tspkt.specs.declared.item.Item.{Item}
 use Rattle.tspkt.specs.declared.item.Item.TheVariants.{Packet, Bad, SyncLoss, Lost}
 use Rattle.tspkt.specs.declared.mode.Mode.{Mode}
 use Rattle.tspkt.specs.declared.mode.Mode.TheVariants.{Hunting, Synced}
+use Rattle.tspkt.specs.PacketFormat.{stride_of}
+use Rattle.tspkt.specs.declared.packet_format.PacketFormat.{PacketFormat}
+use Rattle.tspkt.specs.declared.packet_format.PacketFormat.TheVariants.{Ts188, Ts204}
 use Rattle.tspkt.specs.declared.stamped.Stamped.{Stamped}
 use Rattle.plan.specs.Build.{PlanValue}
-use Rattle.reading.specs.Takeable.{OriginValue, takeable, stamp_at, is_well_formed, is_named}
+use Rattle.reading.specs.Takeable.{OriginValue, stride_at, framed_at, takeable, stamp_at, is_well_formed, is_named}
 use Rattle.serial.specs.Order.{ComeFrom, PacketsComeInOrder, PacketsAreFew}
 
 -- packets stand at this place or behind it, and each behind those before it
@@ -43,29 +46,29 @@ if_stand : (n : ℕ) (b : Bool) (xs ys : List Item) → StandFrom n xs → Stand
 if_stand n true xs ys s t = s
 if_stand n false xs ys s t = t
 
-stand : (mode : Mode) (place : ℕ) (bytes : List ℕ) → StandFrom place (framed_from 188 mode place bytes)
+stand : (stride : ℕ) (mode : Mode) (place : ℕ) (bytes : List ℕ) → StandFrom place (framed_from stride mode place bytes)
 unfolding framed_from
-stand (Hunting from) place [] = loss_alone place from place
-stand (Hunting from) place (b ∷ bytes) =
-    let synced = framed_from 188 (Synced 187) (place + 1) bytes in
+stand stride (Hunting from) place [] = loss_alone place from place
+stand stride (Hunting from) place (b ∷ bytes) =
+    let synced = framed_from stride (Synced (stride - 1)) (place + 1) bytes in
     let packet = Packet place (take 188 (b ∷ bytes)) ∷ synced in
-    let hunting = framed_from 188 (Hunting from) (place + 1) bytes in
-    if_stand place (acquires_sync 188 (b ∷ bytes)) (lost from place ++ packet) hunting
-    (behind_loss place from place packet (omega arith, stand (Synced 187) (place + 1) bytes))
-    (earlier place (place + 1) hunting (omega arith) (stand (Hunting from) (place + 1) bytes))
-stand (Synced skip) place [] = tt
-stand (Synced zero) place (b ∷ bytes) =
-    let synced = framed_from 188 (Synced 187) (place + 1) bytes in
-    let hunting = framed_from 188 (Hunting place) (place + 1) bytes in
+    let hunting = framed_from stride (Hunting from) (place + 1) bytes in
+    if_stand place (acquires_sync stride (b ∷ bytes)) (lost from place ++ packet) hunting
+    (behind_loss place from place packet (omega arith, stand stride (Synced (stride - 1)) (place + 1) bytes))
+    (earlier place (place + 1) hunting (omega arith) (stand stride (Hunting from) (place + 1) bytes))
+stand stride (Synced skip) place [] = tt
+stand stride (Synced zero) place (b ∷ bytes) =
+    let synced = framed_from stride (Synced (stride - 1)) (place + 1) bytes in
+    let hunting = framed_from stride (Hunting place) (place + 1) bytes in
     let packet = Packet place (take 188 (b ∷ bytes)) ∷ synced in
-    let kept = if_stand place (keeps_sync 188 (b ∷ bytes)) (Bad place ∷ synced) (SyncLoss place ∷ hunting)
-    (earlier place (place + 1) synced (omega arith) (stand (Synced 187) (place + 1) bytes))
-    (earlier place (place + 1) hunting (omega arith) (stand (Hunting place) (place + 1) bytes)) in
-    let told = if_stand place (is_sync (b ∷ bytes) 0) packet (cond (keeps_sync 188 (b ∷ bytes)) (Bad place ∷ synced) (SyncLoss place ∷ hunting))
-    (omega arith, stand (Synced 187) (place + 1) bytes) kept in
+    let kept = if_stand place (keeps_sync stride (b ∷ bytes)) (Bad place ∷ synced) (SyncLoss place ∷ hunting)
+    (earlier place (place + 1) synced (omega arith) (stand stride (Synced (stride - 1)) (place + 1) bytes))
+    (earlier place (place + 1) hunting (omega arith) (stand stride (Hunting place) (place + 1) bytes)) in
+    let told = if_stand place (is_sync (b ∷ bytes) 0) packet (cond (keeps_sync stride (b ∷ bytes)) (Bad place ∷ synced) (SyncLoss place ∷ hunting))
+    (omega arith, stand stride (Synced (stride - 1)) (place + 1) bytes) kept in
     if_stand place (nat_lt (length (b ∷ bytes)) 188) (Lost (length (b ∷ bytes)) ∷ [])
-    (cond (is_sync (b ∷ bytes) 0) packet (cond (keeps_sync 188 (b ∷ bytes)) (Bad place ∷ synced) (SyncLoss place ∷ hunting))) tt told
-stand (Synced (suc skip)) place (b ∷ bytes) = earlier place (place + 1) (framed_from 188 (Synced skip) (place + 1) bytes) (omega arith) (stand (Synced skip) (place + 1) bytes)
+    (cond (is_sync (b ∷ bytes) 0) packet (cond (keeps_sync stride (b ∷ bytes)) (Bad place ∷ synced) (SyncLoss place ∷ hunting))) tt told
+stand stride (Synced (suc skip)) place (b ∷ bytes) = earlier place (place + 1) (framed_from stride (Synced skip) (place + 1) bytes) (omega arith) (stand stride (Synced skip) (place + 1) bytes)
 
 time_grows : (rate a b : ℕ) → 0 < rate → a ≤ b → time_of a rate ≤ time_of b rate
 time_grows rate a b r l = le-div (a * 216000000 / rate) (b * 216000000) rate r (omega (arith, l, div-mul-le_self (a * 216000000) rate))
@@ -96,25 +99,44 @@ come plan origin n (SyncLoss place ∷ items) r s = come plan origin n items r s
 come plan origin n (Lost count ∷ items) r s = come plan origin n items r s
 
 pub come_in_order : PacketsComeInOrder
-come_in_order plan origin bytes r = since 0 _ _ (omega arith) (come plan origin 0 (framed 188 bytes) r (stand (Hunting 0) 0 bytes))
+come_in_order plan origin bytes r = since 0 _ _ (omega arith) (come plan origin 0 (framed_at origin bytes) r (stand (stride_at origin) (Hunting 0) 0 bytes))
 
 -- An input has at most so many packets.
 
-weigh : (plan : PlanValue) (origin : OriginValue) (items : List Item) → 188 * length (takeable plan origin items) ≤ sum_by covered items
-weigh plan origin [] = omega arith
-weigh plan origin (Packet place bytes ∷ items) =
-    let rest = weigh plan origin items in
-    let sum = sum_by-cons covered (Packet place bytes) items in
+-- a packet more
+one_more : (stride count weight : ℕ) → stride * count ≤ weight → stride * suc count ≤ stride + weight
+one_more stride count weight few = omega (arith, few, mul-suc stride count)
+
+weigh : (plan : PlanValue) (origin : OriginValue) (stride : ℕ) (items : List Item) → stride * length (takeable plan origin items) ≤ sum_by (covered stride) items
+weigh plan origin stride [] = omega arith
+weigh plan origin stride (Packet place bytes ∷ items) =
+    let rest = weigh plan origin stride items in
+    let sum = sum_by-cons (covered stride) (Packet place bytes) items in
+    let more = one_more stride (length (takeable plan origin items)) (sum_by (covered stride) items) rest in
     elim (cases_Bool (is_well_formed bytes)) [
-      | inl e ↦ elim (cases_Bool (is_named plan origin bytes)) [ inl f ↦ rw (e, f) (omega (arith, rest, sum)) | inr f ↦ rw (e, f) (omega (arith, rest, sum)) ]
+      | inl e ↦ elim (cases_Bool (is_named plan origin bytes)) [ inl f ↦ rw (e, f) (omega (arith, more, sum)) | inr f ↦ rw (e, f) (omega (arith, rest, sum)) ]
       | inr e ↦ rw e (omega (arith, rest, sum))
     ]
-weigh plan origin (Bad place ∷ items) = let rest = weigh plan origin items in omega (arith, rest, sum_by-cons covered (Bad place) items)
-weigh plan origin (SyncLoss place ∷ items) = let rest = weigh plan origin items in omega (arith, rest, sum_by-cons covered (SyncLoss place) items)
-weigh plan origin (Lost count ∷ items) = let rest = weigh plan origin items in omega (arith, rest, sum_by-cons covered (Lost count) items)
+weigh plan origin stride (Bad place ∷ items) = let rest = weigh plan origin stride items in omega (arith, rest, sum_by-cons (covered stride) (Bad place) items)
+weigh plan origin stride (SyncLoss place ∷ items) = let rest = weigh plan origin stride items in omega (arith, rest, sum_by-cons (covered stride) (SyncLoss place) items)
+weigh plan origin stride (Lost count ∷ items) = let rest = weigh plan origin stride items in omega (arith, rest, sum_by-cons (covered stride) (Lost count) items)
+
+-- a packet has room between one and the next
+long_enough : (format : PacketFormat) → 188 ≤ stride_of format
+long_enough Ts188 = omega arith
+long_enough Ts204 = omega arith
 
 pub are_few : PacketsAreFew
 are_few plan origin bytes =
-    let weight = weigh plan origin (framed 188 bytes) in
-    let sum = sum-framed bytes in
-    omega (arith, weight, sum)
+    let stride = stride_at origin in
+    let weight = weigh plan origin stride (framed_at origin bytes) in
+    let covers = covered-framed stride bytes (long_enough origin.format) in
+    omega (arith, weight, covers.no_more)
+
+-- so few are no more than the bytes
+fewer_than : (format : PacketFormat) (count size : ℕ) → stride_of format * count ≤ size + (stride_of format - 188) → count ≤ size
+fewer_than Ts188 count size few = omega (arith, few)
+fewer_than Ts204 count size few = omega (arith, few)
+
+pub fewer_than_bytes : (plan : PlanValue) (origin : OriginValue) (bytes : List ℕ) → length (takeable plan origin (framed_at origin bytes)) ≤ length bytes
+fewer_than_bytes plan origin bytes = fewer_than origin.format (length (takeable plan origin (framed_at origin bytes))) (length bytes) (are_few plan origin bytes)

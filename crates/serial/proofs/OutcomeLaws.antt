@@ -28,7 +28,8 @@ use Rattle.analyse.specs.Faults.{faults}
 use Rattle.fault_report.specs.ReportValue.{ReportValue}
 use Rattle.fault_report.specs.FaultReport.{IsReportOf}
 use Rattle.reading.specs.Failures.{FailsOnce}
-use Rattle.reading.specs.Takeable.{OriginValue, takeable, origin_of, CountsItems, EndsAtTaken}
+use Rattle.reading.specs.Takeable.{OriginValue, stride_at, framed_at, takeable, origin_of, CountsItems, EndsAtTaken}
+use Rattle.reading.specs.InputLimit.{limit_of_input}
 use Rattle.reading.specs.PacketReading.{BeginsTakeable, CountsTold}
 use Rattle.reading.specs.StreamReading.{BeginsFramed}
 use Rattle.serial.specs.Feeding.{Feeds, AreUnrefused, AreLimited, AllTellFailures, packet_lists}
@@ -40,6 +41,7 @@ use Rattle.serial.specs.Ending.{IsLast, AreReported, ArePeaks}
 use Rattle.serial.specs.Outcome.{HasEnded, IsCounted, IsInputSummary, IsReadOn, AreReadOn, stops_of, IsFailureTold, FailuresAreTold, HasRun, HasBegun}
 use Rattle.serial.specs.declared.run_fault.RunFault.{RunFault}
 use Rattle.serial.specs.declared.run_fault.RunFault.TheVariants as run_faults
+use Rattle.reading.specs.declared.input_limit.InputLimit.{InputLimit}
 use Rattle.reading.specs.declared.report.Report.{Report}
 use Rattle.reading.specs.declared.stop.Stop.{Stop}
 use Rattle.reading.specs.declared.stop.Stop.TheVariants.{Gate, Memory, ReadFailed, TooMuch}
@@ -165,11 +167,11 @@ ended remaining limit p h i input start x s all at f size closed same unstopped 
     let w = whole_read remaining p x.reader r.0 (taken i h) r.2 done free in
     let few = within_read remaining p x.reader r.0 (taken i h) r.2 (λ e. none-some TooMuch (sym free ∙ e)) in
     let bytes : all ≡ r.0 = all_read start (remaining x.reader.stream.source) r.0 all known r.1 w.at_end in
-    let P : List ℕ → Type 0 = λ v. taken i h ≡ takeable p (origin_of i input) (framed 188 v) in
-    let Q : OriginValue → Type 0 = λ v. taken i h ≡ takeable p v (framed 188 r.0) in
-    let C : List ℕ → Type 0 = λ v. CountsItems p (origin_of i input) (framed 188 v) s.report in
-    let D : OriginValue → Type 0 = λ v. CountsItems p v (framed 188 r.0) s.report in
-    let E : Report → Type 0 = λ v. CountsItems p x.reader.origin (framed 188 r.0) v in
+    let P : List ℕ → Type 0 = λ v. taken i h ≡ takeable p (origin_of i input) (framed_at (origin_of i input) v) in
+    let Q : OriginValue → Type 0 = λ v. taken i h ≡ takeable p v (framed_at v r.0) in
+    let C : List ℕ → Type 0 = λ v. CountsItems p (origin_of i input) (framed_at (origin_of i input) v) s.report in
+    let D : OriginValue → Type 0 = λ v. CountsItems p v (framed_at v r.0) s.report in
+    let E : Report → Type 0 = λ v. CountsItems p x.reader.origin (framed_at x.reader.origin r.0) v in
     record { within = omega (arith, few, size, ap length bytes); taken_is = subst P (sym bytes) (subst Q origin w.given_is); counts = subst C (sym bytes) (subst D origin (subst E (sym same) w.counts)) }
 
 -- ---- what is said of each input
@@ -196,13 +198,13 @@ last_counts p o items x report last has =
     ]
 
 -- what begins the framing of the bytes that were read begins that of all bytes
-pub framed_all : (start rest : Option (List ℕ)) (bytes all : List ℕ) (looked : List Item) → start ≡ Some all → Consumes start rest bytes → BeginsFramed bytes (IsAtEnd rest) looked
-    → (later : List Item) × (looked ++ later ≡ framed 188 all)
-framed_all None rest bytes all looked e used begins = cc
-framed_all (Some first) None bytes all looked e used begins = absurd used
-framed_all (Some first) (Some more) bytes all looked e used begins =
+pub framed_all : (stride : ℕ) (start rest : Option (List ℕ)) (bytes all : List ℕ) (looked : List Item) → start ≡ Some all → Consumes start rest bytes → BeginsFramed stride bytes (IsAtEnd rest) looked
+    → (later : List Item) × (looked ++ later ≡ framed stride all)
+framed_all stride None rest bytes all looked e used begins = cc
+framed_all stride (Some first) None bytes all looked e used begins = absurd used
+framed_all stride (Some first) (Some more) bytes all looked e used begins =
     let b = begins more (λ none. none) in
-    (b.0, b.1 ∙ ap (framed 188) (sym used ∙ same_Some first all e))
+    (b.0, b.1 ∙ ap (framed stride) (sym used ∙ same_Some first all e))
 
 -- an input that the end of the run stopped was open
 left_open : {R : Type 0} (remaining : R → Option (List ℕ)) (p : PlanValue) (h : List Event) (i : ℕ) (start : Option (List ℕ)) (x : SerialInput R) (report : Report)
@@ -227,12 +229,12 @@ counted remaining p h i input start x s all at f last known =
     let items = r.2.0 in
     let has = r.2.1 in
     let begins = looked_framed remaining p x.reader r.0 (taken i h) r.2 in
-    let framing = framed_all start (remaining x.reader.stream.source) r.0 all items known r.1 begins in
+    let framing = framed_all (stride_at x.reader.origin) start (remaining x.reader.stream.source) r.0 all items known r.1 begins in
     let C : OriginValue → Type 0 = λ v. CountsItems p v items s.report in
     record {
       looked = items;
       later = framing.0;
-      framing = framing.1;
+      framing = framing.1 ∙ ap (λ v. framed_at v all) origin;
       counts = subst C origin (last_counts p x.reader.origin items x s.report last has.counts);
       held = x.reader.held;
       taken_is = ap (λ v. takeable p v items) (sym origin) ∙ has.given_is;
@@ -292,13 +294,13 @@ read_on remaining limit p h i input start x s at f size last =
       failed = λ e closed.
           let same = stopped_before x s.report ReadFailed last e (λ bad. cc) in
           let done = f.over (f.closed ∙ closed) in
-          let O : OriginValue → Type 0 = λ v. taken i h ≡ takeable p v (framed 188 r.0) in
+          let O : OriginValue → Type 0 = λ v. taken i h ≡ takeable p v (framed_at v r.0) in
           subst O (origin_same remaining p h i input start x at f)
           (failed_read remaining p x.reader r.0 (taken i h) r.2 done (ap (λ v. v.stopped) (sym same) ∙ e));
     }
 
-pub all_read_on : {R : Type 0} (remaining : R → Option (List ℕ)) (limit : ℕ) (p : PlanValue) (h : List Event) (starts : List (Option (List ℕ))) (inputs : List (SerialInput R)) (summaries : List InputSummary) (sources : List R)
-    → AreFed remaining p h starts inputs → AreLimited limit inputs → AreReported p h inputs summaries sources → AreReadOn limit p h starts (map remaining sources) summaries
+pub all_read_on : {R : Type 0} (remaining : R → Option (List ℕ)) (limit : InputLimit) (p : PlanValue) (h : List Event) (starts : List (Option (List ℕ))) (inputs : List (SerialInput R)) (summaries : List InputSummary) (sources : List R)
+    → AreFed remaining p h starts inputs → AreLimited limit p inputs → AreReported p h inputs summaries sources → AreReadOn limit p h starts (map remaining sources) summaries
 all_read_on {R} remaining limit p h starts inputs summaries sources fed limited are i input start left s at from to told =
     let l = from_map remaining sources i left to in
     let M : List R → Type 0 = λ v. slice_get v i ≡ Some l.0 in
@@ -306,9 +308,10 @@ all_read_on {R} remaining limit p h starts inputs summaries sources fed limited 
     let x = m.0 in
     let f = fed.each i x m.1 in
     let P : Option (List ℕ) → Type 0 = λ v. Feeds remaining p h i v x in
-    let Q : Option (List ℕ) → Type 0 = λ v. IsReadOn limit p h i input start v s in
+    let most = limit_of_input limit input.format in
+    let Q : Option (List ℕ) → Type 0 = λ v. IsReadOn most p h i input start v s in
     subst Q (ap remaining m.2 ∙ l.2)
-    (read_on remaining limit p h i input start x s at (subst P (same_Some f.0 start (sym f.1 ∙ from)) f.2) (limited i x m.1) (are.reports i x s m.1 told))
+    (read_on remaining most p h i input start x s at (subst P (same_Some f.0 start (sym f.1 ∙ from)) f.2) (limited i input x at m.1) (are.reports i x s m.1 told))
 
 -- ---- what each input gave
 
@@ -384,21 +387,21 @@ faults_exact run h told within few is =
     let fits : all ≤ 18446744073709551615 = omega (arith, bound, count, within, few) in
     is ∙ min-eq_left fits
 
-summary_input : {R : Type 0} (remaining : R → Option (List ℕ)) (limit : ℕ) (p : PlanValue) (h : List Event) (starts : List (Option (List ℕ))) (inputs : List (SerialInput R)) (summaries : List InputSummary) (sources : List R)
-    → AreFed remaining p h starts inputs → AreLimited limit inputs → AreReported p h inputs summaries sources
+summary_input : {R : Type 0} (remaining : R → Option (List ℕ)) (limit : InputLimit) (p : PlanValue) (h : List Event) (starts : List (Option (List ℕ))) (inputs : List (SerialInput R)) (summaries : List InputSummary) (sources : List R)
+    → AreFed remaining p h starts inputs → AreLimited limit p inputs → AreReported p h inputs summaries sources
     → (i : ℕ) (input : InputValue) (start : Option (List ℕ)) (s : InputSummary) → slice_get p.request.inputs i ≡ Some input → slice_get starts i ≡ Some start → slice_get summaries i ≡ Some s
-    → IsInputSummary limit p h i input start s
+    → IsInputSummary (limit_of_input limit input.format) p h i input start s
 summary_input remaining limit p h starts inputs summaries sources fed limited are i input start s at from told =
     elim (slice_get_cases inputs i).1 [
       | inl found ↦
           (let x = found.0 in
           let f = fed.each i x found.2 in
           let P : Option (List ℕ) → Type 0 = λ v. Feeds remaining p h i v x in
-          input_summary remaining limit p h i input start x s at (subst P (same_Some f.0 start (sym f.1 ∙ from)) f.2) (limited i x found.2) (are.totals i s told) (are.reports i x s found.2 told))
+          input_summary remaining (limit_of_input limit input.format) p h i input start x s at (subst P (same_Some f.0 start (sym f.1 ∙ from)) f.2) (limited i input x at found.2) (are.totals i s told) (are.reports i x s found.2 told))
       | inr past ↦ absurd (omega (arith, slice_get_within summaries i s told, past.0, are.length_is))
     ]
 
-pub has_run : {R : Type 0} (remaining : R → Option (List ℕ)) (run : Run) (limit : ℕ) (starts : List (Option (List ℕ))) (r : SerialRun R) (before after : Option (List ℕ)) (s : Summary) (sources : List R)
+pub has_run : {R : Type 0} (remaining : R → Option (List ℕ)) (run : Run) (limit : InputLimit) (starts : List (Option (List ℕ))) (r : SerialRun R) (before after : Option (List ℕ)) (s : Summary) (sources : List R)
     → run.limit ≤ 1099511627776 → IsRunning remaining run limit starts r → IsOver run r.mux.events → IsSound r.mux → Appends before after (bytes_of (emitted run.plan r.mux.events))
     → AreReported r.mux.run.plan r.mux.events r.inputs.items s.inputs.items sources → ArePeaks r.mux.run.plan r.mux.events s.streams.items → IsCounts r.mux.events s.counts → s.faults ≡ r.output.faults → s.fault_report ≡ r.output.report
     → HasRun (record { run = run; events = r.mux.events }) limit starts (map remaining sources) before after s
@@ -450,7 +453,7 @@ unread_takes p starts lefts stops none = (
   tt,
 )
 
-pub has_begun_nothing : {R : Type 0} (remaining : R → Option (List ℕ)) (failures : R → ℕ) (run : Run) (limit : ℕ) (readers : List R) (before : Option (List ℕ)) (fault : RunFault)
+pub has_begun_nothing : {R : Type 0} (remaining : R → Option (List ℕ)) (failures : R → ℕ) (run : Run) (limit : InputLimit) (readers : List R) (before : Option (List ℕ)) (fault : RunFault)
     → IsMultiplexPlan run.plan → run.limit ≤ 1099511627776 → HasBegun remaining failures (record { run = run; events = [] }) limit readers before before fault
 has_begun_nothing {R} remaining failures run limit readers before fault plan few =
     let unread : R → R × Option Stop = λ r. (r, None) in
@@ -459,11 +462,11 @@ has_begun_nothing {R} remaining failures run limit readers before fault plan few
     let same : (i : ℕ) (old : R) (left : R × Option Stop) → slice_get readers i ≡ Some old → slice_get (map unread readers) i ≡ Some left → left.0 ≡ old = λ i old left from at. (let l = from_map unread readers i left at in ap (λ (v : R × Option Stop). v.0) (sym l.2) ∙ same_Some l.0 old (sym l.1 ∙ from)) in
     record {
       sound = sound_nothing run.plan run.limit plan few;
-      begun = λ i input all at start. (takeable run.plan (origin_of i input) (framed 188 all), refl);
+      begun = λ i input all at start. (takeable run.plan (origin_of i input) (framed_at (origin_of i input) all), refl);
       written = ([], nothing_sent run.plan [] before [] refl refl);
       lefts = map unread readers;
       count = length-map readers unread;
-      halted = λ i old left from at.
+      halted = λ i input old left named from at.
           let free = none i left at in
           record {
             unleft = λ e. none-some Gate (sym free ∙ e);
@@ -492,7 +495,7 @@ of_memory run_faults.Memory other = refl
 abbrev left_of : {R : Type 0} → SerialInput R → R × Option Stop
 left_of x = (x.reader.stream.source, x.reader.report.stopped)
 
-halted_here : {R : Type 0} (remaining : R → Option (List ℕ)) (limit : ℕ) (p : PlanValue) (h : List Event) (starts : List (Option (List ℕ))) (inputs : List (SerialInput R)) → AreHalted remaining limit p h starts inputs
+halted_here : {R : Type 0} (remaining : R → Option (List ℕ)) (limit : InputLimit) (p : PlanValue) (h : List Event) (starts : List (Option (List ℕ))) (inputs : List (SerialInput R)) → AreHalted remaining limit p h starts inputs
     → (i : ℕ) (x : SerialInput R) → slice_get inputs i ≡ Some x
     → HasEndedHere remaining p h starts (map (λ left. remaining left.0) (map left_of inputs)) (map (λ left. left.1) (map left_of inputs)) i x
 halted_here {R} remaining limit p h starts inputs are i x at =
@@ -500,7 +503,8 @@ halted_here {R} remaining limit p h starts inputs are i x at =
     let here : slice_get (map left_of inputs) i ≡ Some (left_of x) = slice_get-map left_of inputs i ∙ ap (option_map left_of) at in
     let bytes : R × Option Stop → Option (List ℕ) = λ left. remaining left.0 in
     let stop : R × Option Stop → Option Stop = λ left. left.1 in
-    let halted = are.each i f.0 x f.1 at in
+    let origin = f.2.given.origin in
+    let halted = are.each i origin.0 f.0 x origin.1 f.1 at in
     let T : Option (Option Stop) → Type 0 = λ v. IsToldStop v x.reader.report.stopped in
     record {
       start = f.0;
@@ -514,7 +518,7 @@ halted_here {R} remaining limit p h starts inputs are i x at =
     }
 
 -- what was taken of each input begins what can be taken of it
-halted_begun : {R : Type 0} (remaining : R → Option (List ℕ)) (limit : ℕ) (p : PlanValue) (h : List Event) (starts : List (Option (List ℕ))) (inputs : List (SerialInput R)) → AreHalted remaining limit p h starts inputs → AreBegun p h starts
+halted_begun : {R : Type 0} (remaining : R → Option (List ℕ)) (limit : InputLimit) (p : PlanValue) (h : List Event) (starts : List (Option (List ℕ))) (inputs : List (SerialInput R)) → AreHalted remaining limit p h starts inputs → AreBegun p h starts
 halted_begun remaining limit p h starts inputs are i input all at from =
     elim (slice_get_cases inputs i).1 [
       | inl found ↦
@@ -523,7 +527,7 @@ halted_begun remaining limit p h starts inputs are i input all at from =
       | inr past ↦ absurd (omega (arith, slice_get_within p.request.inputs i input at, past.0, are.count))
     ]
 
-pub has_begun : {R : Type 0} (remaining : R → Option (List ℕ)) (failures : R → ℕ) (run : Run) (limit : ℕ) (readers : List R) (r : SerialRun R) (before after : Option (List ℕ)) (fault : RunFault)
+pub has_begun : {R : Type 0} (remaining : R → Option (List ℕ)) (failures : R → ℕ) (run : Run) (limit : InputLimit) (readers : List R) (r : SerialRun R) (before after : Option (List ℕ)) (fault : RunFault)
     → length readers ≡ length run.plan.request.inputs → r.mux.run ≡ run → IsSound r.mux → AreHalted remaining limit run.plan r.mux.events (map remaining readers) r.inputs.items
     → AllTellFailures failures (map failures readers) r.inputs.items → SendsBeginning before after (bytes_of (emitted run.plan r.mux.events))
     → (fault ≡ run_faults.Write → AreUnrefused r.inputs.items)
@@ -540,10 +544,10 @@ has_begun {R} remaining failures run limit readers r before after fault size sam
       written = written;
       lefts = map left_of inputs;
       count = length-map inputs left_of ∙ are.count ∙ sym size;
-      halted = λ i old left from at.
+      halted = λ i input old left named from at.
           let l = from_map left_of inputs i left at in
-          let P : R × Option Stop → Type 0 = λ v. IsHalted limit run.plan h i (remaining old) v.1 in
-          subst P l.2 (are.each i (remaining old) l.0 (start_at i old from) l.1);
+          let P : R × Option Stop → Type 0 = λ v. IsHalted (limit_of_input limit input.format) run.plan h i (remaining old) v.1 in
+          subst P l.2 (are.each i input (remaining old) l.0 named (start_at i old from) l.1);
       told = λ i old left from at.
           let l = from_map left_of inputs i left at in
           let told = tell i l.0 (failures old) l.1 (slice_get-map failures readers i ∙ ap (option_map failures) from) in

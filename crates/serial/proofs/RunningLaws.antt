@@ -24,9 +24,9 @@ use Rattle.serial.specs.Giving.{TakesInOrder, KeepOrder}
 use Rattle.serial.specs.Running.{AreFed, AreBegun, IsRunning, WaitsFor, IsNeeded, TakesAsNeeded, steps_left}
 use Rattle.serial.specs.Sending.{bytes_of, HasAnalysed}
 use Rattle.serial.specs.Written.{Sends, SendsBeginning}
-use Rattle.reading.specs.Takeable.{takeable, origin_of, EndsAtTaken}
+use Rattle.reading.specs.Takeable.{framed_at, takeable, origin_of, EndsAtTaken}
+use Rattle.reading.specs.declared.input_limit.InputLimit.{InputLimit}
 use Rattle.reading.proofs.PacketLaws.{given_begins}
-use Rattle.tspkt.specs.Framed.{framed}
 use Rattle.tspkt.specs.declared.framer.TheConstants.{MAX_LIMIT}
 use Rattle.std.proofs.Common.{false}
 use Rattle.serial.specs.declared.slot_writer.SlotWriter.{SlotWriter}
@@ -199,7 +199,7 @@ is_sent p old new packet plan answer =
       out = ap (emitted p) events ∙ ap (λ q. emitted p h ++ q ∷ []) (sym packet_is);
     }
 
-pub runs_sent : {R : Type 0} (remaining : R → Option (List ℕ)) (run : Run) (limit : ℕ) (starts : List (Option (List ℕ))) (old : SerialRun R) (mux : History) (output : SlotWriter) (packet : List ℕ)
+pub runs_sent : {R : Type 0} (remaining : R → Option (List ℕ)) (run : Run) (limit : InputLimit) (starts : List (Option (List ℕ))) (old : SerialRun R) (mux : History) (output : SlotWriter) (packet : List ℕ)
     → IsRunning remaining run limit starts old → SlotAnswers old.mux (Sent packet) mux → mux.run ≡ old.mux.run
     → ((rate period : ℕ) (sent : List (List ℕ)) → HasAnalysed old.output rate period sent → HasAnalysed output rate period (sent ++ packet ∷ []))
     → IsRunning remaining run limit starts (record old { mux = mux; output = output })
@@ -254,11 +254,11 @@ needed_of run i (Full j st) h is waits = subst (WaitsFor run h) (sym is) waits
 needed_of run i (Close j) h is waits = subst (WaitsFor run h) (sym is) waits
 needed_of run i (Slot c) h is waits = absurd is
 
-pub runs_pulled : {R : Type 0} (remaining : R → Option (List ℕ)) (run : Run) (limit : ℕ) (starts : List (Option (List ℕ))) (old new : SerialRun R) (between : History) (i : ℕ)
+pub runs_pulled : {R : Type 0} (remaining : R → Option (List ℕ)) (run : Run) (limit : InputLimit) (starts : List (Option (List ℕ))) (old new : SerialRun R) (between : History) (i : ℕ)
     → IsRunning remaining run limit starts old → slots old.mux.events < old.mux.run.limit → IsLeastUnready old.mux i → between ≡ old.mux → 0 < length new.piece.items → new.output ≡ old.output
     → ((e : Event) × (new.mux ≡ with_event between e) × IsOfInput i e)
     → ((s : List (Option (List ℕ))) → AreFed remaining between.run.plan between.events s old.inputs.items → AreFed remaining between.run.plan new.mux.events s new.inputs.items)
-    → ((most : ℕ) → AreLimited most old.inputs.items → AreLimited most new.inputs.items)
+    → ((most : InputLimit) (q : PlanValue) → AreLimited most q old.inputs.items → AreLimited most q new.inputs.items)
     → KeepOrder between.events new.mux.events old.inputs.items new.inputs.items
     → IsRunning remaining run limit starts new
 runs_pulled remaining run limit starts old new between i is more unready same piece output event fed limited order =
@@ -278,7 +278,7 @@ runs_pulled remaining run limit starts old new between i is more unready same pi
     record {
       run_is = ap (λ (v : History). v.run) mux ∙ is.run_is;
       fed = subst N plan (fed starts before);
-      limited = limited limit is.limited;
+      limited = limited limit p is.limited;
       piece = piece;
       in_order = λ lists may. (let k = subst K same order lists may in k.1 (is.in_order lists k.0));
       needed =
@@ -307,14 +307,14 @@ consumed (Some first) (Some more) bytes all e used = (more, sym (same_Some first
 -- what was taken of an input begins what can be taken of it
 pub begun_one : {R : Type 0} (remaining : R → Option (List ℕ)) (p : PlanValue) (h : List Event) (i : ℕ) (input : InputValue) (start : Option (List ℕ)) (all : List ℕ) (x : SerialInput R)
     → slice_get p.request.inputs i ≡ Some input → start ≡ Some all → HasGiven remaining p i start x (taken i h)
-    → (later : List Stamped) × (taken i h ++ later ≡ takeable p (origin_of i input) (framed 188 all))
+    → (later : List Stamped) × (taken i h ++ later ≡ takeable p (origin_of i input) (framed_at (origin_of i input) all))
 begun_one remaining p h i input start all x at known has =
     let o = has.origin in
     let b = has.read in
     let more = consumed start (remaining x.reader.stream.source) b.0 all known b.1 in
     let later = given_begins remaining p x.reader b.0 (taken i h) b.2 more.0 in
     let same : o.0 ≡ input = same_Some o.0 input (sym o.1 ∙ at) in
-    (later.0, later.1 ∙ ap (λ v. takeable p v (framed 188 (b.0 ++ more.0))) (o.3 ∙ ap (origin_of i) same) ∙ ap (λ v. takeable p (origin_of i input) (framed 188 v)) (sym more.1))
+    (later.0, later.1 ∙ ap (λ v. takeable p v (framed_at v (b.0 ++ more.0))) (o.3 ∙ ap (origin_of i) same) ∙ ap (λ v. takeable p (origin_of i input) (framed_at (origin_of i input) v)) (sym more.1))
 
 pub begun : {R : Type 0} (remaining : R → Option (List ℕ)) (p : PlanValue) (h : List Event) (starts : List (Option (List ℕ))) (inputs : List (SerialInput R)) → AreFed remaining p h starts inputs → AreBegun p h starts
 begun remaining p h starts inputs fed i input all at start =
@@ -359,7 +359,7 @@ unsent_stays old sending.Memory new unsent is = is.0
 
 -- The buffer is written at the end.
 
-pub runs_flushed : {R : Type 0} (remaining : R → Option (List ℕ)) (run : Run) (limit : ℕ) (starts : List (Option (List ℕ))) (old : SerialRun R) (output : SlotWriter)
+pub runs_flushed : {R : Type 0} (remaining : R → Option (List ℕ)) (run : Run) (limit : InputLimit) (starts : List (Option (List ℕ))) (old : SerialRun R) (output : SlotWriter)
     → IsRunning remaining run limit starts old → output ≡ record old.output { writer = [] } → IsRunning remaining run limit starts (record old { output = output })
 runs_flushed remaining run limit starts old output is same =
     let p = run.plan in

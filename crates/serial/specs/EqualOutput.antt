@@ -5,6 +5,7 @@ use Rattle.mux.specs.declared.event.Event.{Event}
 use Rattle.mux.specs.History.{History, emitted}
 use Rattle.mux.specs.Headline.{IsSound}
 use Rattle.mux.specs.Faithful.{IsRunOf, IsFinished, IsFaithful}
+use Rattle.reading.specs.declared.input_limit.InputLimit.{InputLimit}
 use Rattle.serial.specs.Feeding.{AreKnown, packet_lists}
 use Rattle.serial.specs.Written.{SendsBeginning}
 use Rattle.serial.specs.Sending.{bytes_of}
@@ -13,7 +14,7 @@ use Rattle.serial.specs.declared.summary.Summary.{Summary}
 
 -- A run of sources whose bytes are known ended by itself, and nothing but its end stopped an input.
 pub record HasRunUnfailed (h : History) (starts : List (Option (List ℕ))) (before after : Option (List ℕ)) (s : Summary) : Type 0 where
-  pub limit : ℕ
+  pub limit : InputLimit
   pub lefts : List (Option (List ℕ))
   pub runs : HasRun h limit starts lefts before after s
   pub known : AreKnown starts

@@ -2,7 +2,6 @@
 use Rattle.std.specs.Prelude.{◌≡◌, ◌⊎◌, ℕ, ◌+◌, ◌-◌, ◌≤◌, true, false, if◌then◌else◌, List, [], length, Option, Some, None, IsSome}
 use Rattle.std.specs.List.{slice_get}
 use Rattle.std.specs.Io.KnownBytes.{Consumes}
-use Rattle.tspkt.specs.Framed.{framed}
 use Rattle.tspkt.specs.declared.framer.TheConstants.{MAX_LIMIT}
 use Rattle.tspkt.specs.declared.stamped.Stamped.{Stamped}
 use Rattle.request.specs.Request.{InputValue, IsInput}
@@ -14,8 +13,10 @@ use Rattle.mux.specs.History.{History, with_event, is_mapped_to, taken, is_close
 use Rattle.mux.specs.Lawful.{Refusal, refusal_of}
 use Rattle.mux.specs.Lawful as refusals
 use Rattle.mux.specs.Faithful.{PacketLists}
-use Rattle.reading.specs.Takeable.{OriginValue, origin_of, takeable, EndsAtTaken}
+use Rattle.reading.specs.Takeable.{OriginValue, origin_of, framed_at, takeable, EndsAtTaken}
+use Rattle.reading.specs.InputLimit.{limit_of_input}
 use Rattle.reading.specs.PacketReading.{HasRead, IsSpent, TellsFailures}
+use Rattle.reading.specs.declared.input_limit.InputLimit.{InputLimit}
 use Rattle.reading.specs.declared.stop.Stop.{Stop}
 use Rattle.reading.specs.declared.stop.Stop.TheVariants.{Gate, Memory}
 use Rattle.serial.specs.declared.serial_input.SerialInput.{SerialInput}
@@ -55,7 +56,7 @@ pub record HasFed {R : Type 0} (remaining : R → Option (List ℕ)) (p : PlanVa
 
 -- the packets that an input gives, as far as the bytes of its source are known
 abbrev pub packet_list : PlanValue → ℕ → Option InputValue → Option (Option (List ℕ)) → List Stamped
-packet_list p i (Some input) (Some (Some all)) = takeable p (origin_of i input) (framed 188 all)
+packet_list p i (Some input) (Some (Some all)) = takeable p (origin_of i input) (framed_at (origin_of i input) all)
 packet_list p i (Some input) (Some None) = []
 packet_list p i (Some input) None = []
 packet_list p i None start = []
@@ -71,9 +72,11 @@ AreKnown starts = (i : ℕ) (start : Option (List ℕ)) → slice_get starts i �
 abbrev pub AreUnrefused : {R : Type 0} → List (SerialInput R) → Type 0
 AreUnrefused {R} inputs = (i : ℕ) (x : SerialInput R) → slice_get inputs i ≡ Some x → x.reader.report.stopped ≡ Some Memory → ⊥
 
--- each input may have so many bytes, at most
-abbrev pub AreLimited : {R : Type 0} → ℕ → List (SerialInput R) → Type 0
-AreLimited {R} limit inputs = (i : ℕ) (x : SerialInput R) → slice_get inputs i ≡ Some x → x.reader.stream.items.limit ≡ limit
+-- each of the plan's inputs may have so many bytes at its format, at most
+abbrev pub AreLimited : {R : Type 0} → InputLimit → PlanValue → List (SerialInput R) → Type 0
+AreLimited {R} limit p inputs =
+    (i : ℕ) (input : InputValue) (x : SerialInput R) → slice_get p.request.inputs i ≡ Some input → slice_get inputs i ≡ Some x
+    → x.reader.stream.items.limit ≡ limit_of_input limit input.format
 
 -- the event is one of the input
 abbrev pub IsOfInput : ℕ → Event → Type 0

@@ -3,14 +3,13 @@ use Rattle.std.specs.Prelude.{◌≡◌, ℕ, ◌++◌, List, Option, Some, true
 use Rattle.std.specs.List.{slice_get}
 use Rattle.std.specs.Option.{option_to_list}
 use Rattle.std.specs.Io.KnownBytes.{Consumes}
-use Rattle.tspkt.specs.Framed.{framed}
 use Rattle.tspkt.specs.declared.stamped.Stamped.{Stamped}
 use Rattle.request.specs.Request.{InputValue}
 use Rattle.plan.specs.Build.{PlanValue}
 use Rattle.mux.specs.declared.event.Event.{Event}
 use Rattle.mux.specs.History.{taken}
 use Rattle.mux.specs.Faithful.{PacketLists, IsFaithful, IsPrefix}
-use Rattle.reading.specs.Takeable.{takeable, origin_of}
+use Rattle.reading.specs.Takeable.{framed_at, takeable, origin_of}
 use Rattle.reading.specs.declared.stop.Stop.{Stop}
 use Rattle.reading.specs.declared.stop.Stop.TheVariants.{ReadFailed, TooMuch}
 use Rattle.serial.specs.Feeding.{packet_lists}
@@ -47,7 +46,7 @@ pub record Gives (p : PlanValue) (starts lefts : List (Option (List ℕ))) (stop
   pub whole : (slice_get stops i ≡ Some (Some ReadFailed) → ⊥) → (slice_get stops i ≡ Some (Some TooMuch) → ⊥) → packets ≡ packet_lists p starts i
   pub failed : slice_get stops i ≡ Some (Some ReadFailed) → (input : InputValue) (start left : Option (List ℕ)) (bytes : List ℕ)
       → slice_get p.request.inputs i ≡ Some input → slice_get starts i ≡ Some start → slice_get lefts i ≡ Some left → Consumes start left bytes
-      → packets ≡ takeable p (origin_of i input) (framed 188 bytes)
+      → packets ≡ takeable p (origin_of i input) (framed_at (origin_of i input) bytes)
   pub begins : IsPrefix packets (packet_lists p starts i)
 
 -- The history takes what the inputs give, each input's packets in their order. These bytes were to be read of them, these were

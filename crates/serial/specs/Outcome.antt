@@ -3,7 +3,6 @@ use Rattle.std.specs.Prelude.{◌≡◌, ◌⊎◌, ℕ, ◌<◌, ◌≤◌, Lis
 use Rattle.std.specs.List.{slice_get}
 use Rattle.std.specs.Option.{option_to_list}
 use Rattle.std.specs.Io.KnownBytes.{Appends, Consumes, IsAtEnd}
-use Rattle.tspkt.specs.Framed.{framed}
 use Rattle.tspkt.specs.declared.item.Item.{Item}
 use Rattle.tspkt.specs.declared.stamped.Stamped.{Stamped}
 use Rattle.request.specs.Request.{InputValue}
@@ -16,7 +15,8 @@ use Rattle.mux.specs.Totals.{IsTotals, IsCounts}
 use Rattle.mux.specs.Headline.{IsSound}
 use Rattle.mux.specs.Faithful.{IsFinished}
 use Rattle.reading.specs.Failures.{FailsOnce}
-use Rattle.reading.specs.Takeable.{takeable, origin_of, CountsItems, EndsAtTaken}
+use Rattle.reading.specs.InputLimit.{limit_of_input}
+use Rattle.reading.specs.Takeable.{framed_at, takeable, origin_of, CountsItems, EndsAtTaken}
 use Rattle.reading.specs.PacketReading.{BeginsTakeable, CountsTold}
 use Rattle.serial.specs.Feeding.{AreKnown}
 use Rattle.serial.specs.Giving.{TakesWhatIsGiven}
@@ -24,6 +24,7 @@ use Rattle.serial.specs.Running.{AreBegun, IsHalted}
 use Rattle.serial.specs.Ending.{ArePeaks}
 use Rattle.serial.specs.Written.{SendsBeginning}
 use Rattle.serial.specs.Sending.{bytes_of}
+use Rattle.reading.specs.declared.input_limit.InputLimit.{InputLimit}
 use Rattle.reading.specs.declared.stop.Stop.{Stop}
 use Rattle.reading.specs.declared.stop.Stop.TheVariants.{Gate, Memory, ReadFailed, TooMuch}
 use Rattle.serial.specs.declared.run_fault.RunFault.{RunFault}
@@ -35,8 +36,8 @@ use Rattle.serial.specs.declared.summary.Summary.{Summary}
 -- closed, and the report counts all of their framing.
 pub record HasEnded (limit : ℕ) (p : PlanValue) (h : List Event) (i : ℕ) (input : InputValue) (all : List ℕ) (s : InputSummary) : Type 0 where
   pub within : length all ≤ limit
-  pub taken_is : taken i h ≡ takeable p (origin_of i input) (framed 188 all)
-  pub counts : CountsItems p (origin_of i input) (framed 188 all) s.report
+  pub taken_is : taken i h ≡ takeable p (origin_of i input) (framed_at (origin_of i input) all)
+  pub counts : CountsItems p (origin_of i input) (framed_at (origin_of i input) all) s.report
 
 -- The report counts a beginning of the framing of these bytes, and what can be taken of that beginning was taken, but for at
 -- most one packet, which is held. A closed input holds none. Where the end of the run stopped the input, the last item that is
@@ -44,7 +45,7 @@ pub record HasEnded (limit : ℕ) (p : PlanValue) (h : List Event) (i : ℕ) (in
 pub record IsCounted (p : PlanValue) (h : List Event) (i : ℕ) (input : InputValue) (all : List ℕ) (s : InputSummary) : Type 0 where
   pub looked : List Item
   pub later : List Item
-  pub framing : looked ++ later ≡ framed 188 all
+  pub framing : looked ++ later ≡ framed_at (origin_of i input) all
   pub counts : CountsItems p (origin_of i input) looked s.report
   pub held : Option Stamped
   pub taken_is : takeable p (origin_of i input) looked ≡ taken i h ++ option_to_list held
@@ -74,12 +75,12 @@ AreUnfailed inputs =
 abbrev pub stops_of : List InputSummary → List (Option Stop)
 stops_of inputs = map (λ s. s.report.stopped) inputs
 
--- What is said of a run is so.
-pub record IsSummary (limit : ℕ) (p : PlanValue) (h : List Event) (starts : List (Option (List ℕ))) (s : Summary) : Type 0 where
+-- What is said of a run is so. Each input may have so many bytes at its format.
+pub record IsSummary (limit : InputLimit) (p : PlanValue) (h : List Event) (starts : List (Option (List ℕ))) (s : Summary) : Type 0 where
   pub length_is : length s.inputs.items ≡ length p.request.inputs
   pub inputs : (i : ℕ) (input : InputValue) (start : Option (List ℕ)) (x : InputSummary)
       → slice_get p.request.inputs i ≡ Some input → slice_get starts i ≡ Some start → slice_get s.inputs.items i ≡ Some x
-      → IsInputSummary limit p h i input start x
+      → IsInputSummary (limit_of_input limit input.format) p h i input start x
   pub streams : ArePeaks p h s.streams.items
   pub counts : IsCounts h s.counts
   pub reported : IsReportOf s.fault_report (faults p.request.rate p.request.watch (emitted p h))
@@ -98,18 +99,18 @@ pub record IsReadOn (limit : ℕ) (p : PlanValue) (h : List Event) (i : ℕ) (in
   -- at a failed read the report counts what was told of the bytes before it
   pub told : s.report.stopped ≡ Some ReadFailed → CountsTold p (origin_of i input) bytes (IsAtEnd left) s.report
   -- of an input that was closed at a failed read all that can be taken of the bytes before it was taken
-  pub failed : s.report.stopped ≡ Some ReadFailed → is_closed i h ≡ true → taken i h ≡ takeable p (origin_of i input) (framed 188 bytes)
+  pub failed : s.report.stopped ≡ Some ReadFailed → is_closed i h ≡ true → taken i h ≡ takeable p (origin_of i input) (framed_at (origin_of i input) bytes)
 
--- the same of all inputs, in their order
-abbrev pub AreReadOn : ℕ → PlanValue → List Event → List (Option (List ℕ)) → List (Option (List ℕ)) → List InputSummary → Type 0
+-- the same of all inputs, in their order, each of which may have so many bytes at its format
+abbrev pub AreReadOn : InputLimit → PlanValue → List Event → List (Option (List ℕ)) → List (Option (List ℕ)) → List InputSummary → Type 0
 AreReadOn limit p h starts lefts inputs =
     (i : ℕ) (input : InputValue) (start left : Option (List ℕ)) (s : InputSummary)
     → slice_get p.request.inputs i ≡ Some input → slice_get starts i ≡ Some start → slice_get lefts i ≡ Some left
-    → slice_get inputs i ≡ Some s → IsReadOn limit p h i input start left s
+    → slice_get inputs i ≡ Some s → IsReadOn (limit_of_input limit input.format) p h i input start left s
 
--- What a run of these sources makes, each of at most so many bytes, where it ends by itself: a history. It leaves them with
--- these bytes to give.
-pub record HasRun (h : History) (limit : ℕ) (starts lefts : List (Option (List ℕ))) (before after : Option (List ℕ)) (s : Summary) : Type 0 where
+-- What a run of these sources makes, each of at most so many bytes at its input's format, where it ends by itself: a history. It
+-- leaves them with these bytes to give.
+pub record HasRun (h : History) (limit : InputLimit) (starts lefts : List (Option (List ℕ))) (before after : Option (List ℕ)) (s : Summary) : Type 0 where
   -- it is lawful, and sound
   pub sound : IsSound h
   -- it has all slots of the run, or with fewer nothing is left to send
@@ -137,17 +138,18 @@ FailuresAreTold {R} failures before after inputs =
     → slice_get inputs i ≡ Some s → slice_get before i ≡ Some old → slice_get after i ≡ Some new
     → IsFailureTold failures old new s.report.stopped
 
--- What a run of these readers makes, each of at most so many bytes, where it doesn't end by itself but with this fault: a
--- beginning of the packets of a sound history was written. `lefts` are readers as a run may leave them, each with what stopped
--- its input, if anything: they don't come back.
-pub record HasBegun {R : Type 0} (remaining : R → Option (List ℕ)) (failures : R → ℕ) (h : History) (limit : ℕ) (readers : List R) (before after : Option (List ℕ)) (fault : RunFault) : Type 0 where
+-- What a run of these readers makes, each of at most so many bytes at its input's format, where it doesn't end by itself but with
+-- this fault: a beginning of the packets of a sound history was written. `lefts` are readers as a run may leave them, each with
+-- what stopped its input, if anything: they don't come back.
+pub record HasBegun {R : Type 0} (remaining : R → Option (List ℕ)) (failures : R → ℕ) (h : History) (limit : InputLimit) (readers : List R) (before after : Option (List ℕ)) (fault : RunFault) : Type 0 where
   pub sound : IsSound h
   pub begun : AreBegun h.run.plan h.events (map remaining readers)
   pub written : SendsBeginning before after (bytes_of (emitted h.run.plan h.events))
   pub lefts : List (R × Option Stop)
   pub count : length lefts ≡ length readers
-  pub halted : (i : ℕ) (old : R) (left : R × Option Stop) → slice_get readers i ≡ Some old → slice_get lefts i ≡ Some left
-      → IsHalted limit h.run.plan h.events i (remaining old) left.1
+  pub halted : (i : ℕ) (input : InputValue) (old : R) (left : R × Option Stop)
+      → slice_get h.run.plan.request.inputs i ≡ Some input → slice_get readers i ≡ Some old → slice_get lefts i ≡ Some left
+      → IsHalted (limit_of_input limit input.format) h.run.plan h.events i (remaining old) left.1
   pub told : (i : ℕ) (old : R) (left : R × Option Stop) → slice_get readers i ≡ Some old → slice_get lefts i ≡ Some left
       → IsFailureTold failures old left.0 left.1
   pub read : (i : ℕ) (old : R) (left : R × Option Stop) → slice_get readers i ≡ Some old → slice_get lefts i ≡ Some left

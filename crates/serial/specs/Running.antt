@@ -1,7 +1,6 @@
 -- A run: its inputs, its multiplex and what went out (profile).
 use Rattle.std.specs.Prelude.{◌≡◌, ◌⊎◌, ℕ, ◌+◌, ◌*◌, ◌-◌, ◌<◌, ◌≤◌, List, [], ◌∷◌, ◌++◌, length, sum_by, Option, Some, false}
 use Rattle.std.specs.List.{slice_get, range_with_len}
-use Rattle.tspkt.specs.Framed.{framed}
 use Rattle.tspkt.specs.declared.stamped.Stamped.{Stamped}
 use Rattle.request.specs.Request.{InputValue}
 use Rattle.plan.specs.Build.{PlanValue}
@@ -10,7 +9,9 @@ use Rattle.mux.specs.declared.event.Event.TheVariants.{Took, Full, Close, Slot}
 use Rattle.mux.specs.History.{Run, slots, taken, emitted}
 use Rattle.mux.specs.Lawful.{IsDone, is_ready}
 use Rattle.mux.specs.Answers.{IsLeastUnready}
-use Rattle.reading.specs.Takeable.{takeable, origin_of}
+use Rattle.reading.specs.InputLimit.{limit_of_input}
+use Rattle.reading.specs.Takeable.{framed_at, takeable, origin_of}
+use Rattle.reading.specs.declared.input_limit.InputLimit.{InputLimit}
 use Rattle.reading.specs.declared.stop.Stop.{Stop}
 use Rattle.reading.specs.declared.stop.Stop.TheVariants.{Gate, Memory, TooMuch}
 use Rattle.serial.specs.Feeding.{Feeds, HasFed, AreLimited, turns_left}
@@ -41,12 +42,12 @@ abbrev pub TakesAsNeeded : Run → List Event → Type 0
 TakesAsNeeded run [] = Unit {0}
 TakesAsNeeded run (e ∷ h) = IsNeeded run e h × TakesAsNeeded run h
 
--- The run goes on over these sources, each of at most so many bytes: it takes the inputs' packets in their order, and as they are
--- needed, and its packets were analysed.
-pub record IsRunning {R : Type 0} (remaining : R → Option (List ℕ)) (run : Run) (limit : ℕ) (starts : List (Option (List ℕ))) (r : SerialRun R) : Type 0 where
+-- The run goes on over these sources, each of at most so many bytes at its input's format: it takes the inputs' packets in their
+-- order, and as they are needed, and its packets were analysed.
+pub record IsRunning {R : Type 0} (remaining : R → Option (List ℕ)) (run : Run) (limit : InputLimit) (starts : List (Option (List ℕ))) (r : SerialRun R) : Type 0 where
   pub run_is : r.mux.run ≡ run
   pub fed : AreFed remaining run.plan r.mux.events starts r.inputs.items
-  pub limited : AreLimited limit r.inputs.items
+  pub limited : AreLimited limit run.plan r.inputs.items
   pub piece : 0 < length r.piece.items
   pub in_order : TakesInOrder r.mux.events r.inputs.items
   pub needed : TakesAsNeeded run r.mux.events
@@ -56,7 +57,7 @@ pub record IsRunning {R : Type 0} (remaining : R → Option (List ℕ)) (run : R
 abbrev pub AreBegun : PlanValue → List Event → List (Option (List ℕ)) → Type 0
 AreBegun p h starts =
     (i : ℕ) (input : InputValue) (all : List ℕ) → slice_get p.request.inputs i ≡ Some input → slice_get starts i ≡ Some (Some all)
-    → (later : List Stamped) × (taken i h ++ later ≡ takeable p (origin_of i input) (framed 188 all))
+    → (later : List Stamped) × (taken i h ++ later ≡ takeable p (origin_of i input) (framed_at (origin_of i input) all))
 
 -- it has all its slots, or all inputs are closed and nothing waits
 abbrev pub IsOver : Run → List Event → Type 0
@@ -68,18 +69,19 @@ steps_left run h =
     (run.limit - slots h) * (length run.plan.request.inputs + 1)
     + sum_by (λ i. turns_left i h) (range_with_len 0 (length run.plan.request.inputs))
 
--- What stopped an input of a run that fails, if anything. An input is read no further for its own fault, or for want of memory,
+-- What stopped an input of a run that fails, if anything, which may have so many bytes. An input is read no further for its own fault, or for want of memory,
 -- and then the multiplex still waits for it: no slot was sent since.
 pub record IsHalted (limit : ℕ) (p : PlanValue) (h : List Event) (i : ℕ) (start : Option (List ℕ)) (stopped : Option Stop) : Type 0 where
   pub unleft : stopped ≡ Some Gate → ⊥
   pub refused : stopped ≡ Some Memory → is_ready p i h ≡ false
   pub too_much : stopped ≡ Some TooMuch → (all : List ℕ) → start ≡ Some all → limit < length all
 
--- The inputs of a run that fails, and what it took of them, in their order.
-pub record AreHalted {R : Type 0} (remaining : R → Option (List ℕ)) (limit : ℕ) (p : PlanValue) (h : List Event) (starts : List (Option (List ℕ))) (inputs : List (SerialInput R)) : Type 0 where
+-- The inputs of a run that fails, each of at most so many bytes at its format, and what it took of them, in their order.
+pub record AreHalted {R : Type 0} (remaining : R → Option (List ℕ)) (limit : InputLimit) (p : PlanValue) (h : List Event) (starts : List (Option (List ℕ))) (inputs : List (SerialInput R)) : Type 0 where
   pub count : length inputs ≡ length p.request.inputs
-  pub each : (i : ℕ) (start : Option (List ℕ)) (x : SerialInput R) → slice_get starts i ≡ Some start → slice_get inputs i ≡ Some x
-      → IsHalted limit p h i start x.reader.report.stopped
+  pub each : (i : ℕ) (input : InputValue) (start : Option (List ℕ)) (x : SerialInput R)
+      → slice_get p.request.inputs i ≡ Some input → slice_get starts i ≡ Some start → slice_get inputs i ≡ Some x
+      → IsHalted (limit_of_input limit input.format) p h i start x.reader.report.stopped
   pub fed : (i : ℕ) (x : SerialInput R) → slice_get inputs i ≡ Some x
       → (start : Option (List ℕ)) × (slice_get starts i ≡ Some start) × HasFed remaining p h i start x
   pub in_order : TakesInOrder h inputs

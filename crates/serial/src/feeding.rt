@@ -10,7 +10,9 @@ ghost use Rattle.serial.specs.Feeding.{Feeds, HasFed, AreLimited, IsOfInput, May
 ghost use Rattle.serial.specs.Giving.{KeepsOrder, KeepOrder, TakesInOrder};
 ghost use Rattle.reading.specs.declared.stop.Stop.TheVariants.{Memory};
 ghost use Rattle.serial.specs.Running.{AreFed, AreHalted};
+ghost use Rattle.plan.specs.Build.{PlanValue};
 ghost use Rattle.reading.specs.PacketReading.{TellsFailures};
+ghost use Rattle.reading.specs.declared.input_limit.InputLimit.{InputLimit};
 
 use crate::serial_input::SerialInput;
 use mux::{Mux, Offered};
@@ -69,13 +71,14 @@ pub(crate) fn pull_at<R: Source>(
     ensures order { KeepOrder mux.old.events mux.new.events inputs.old.items inputs.new.items }
     ensures event { OnOk result ((e : Event) × (mux.new ≡ with_event mux.old e) × IsOfInput number e) }
     ensures fewer { OnOk result (turns_left number mux.new.events < turns_left number mux.old.events) }
-    ensures limited { OnOk result ((limit : ℕ) → AreLimited limit inputs.old.items → AreLimited limit inputs.new.items) }
+    ensures limited { OnOk result ((limit : InputLimit) (plan : PlanValue)
+        → AreLimited limit plan inputs.old.items → AreLimited limit plan inputs.new.items) }
     ensures failures { (befores : List ℕ)
         → AllTellFailures R.failures befores inputs.old.items
         → AllTellFailures R.failures befores inputs.new.items }
-    ensures halted { OnErr result ((limit : ℕ) (starts : List (Option (List ℕ)))
+    ensures halted { OnErr result ((limit : InputLimit) (starts : List (Option (List ℕ)))
         → AreFed R.remaining mux.old.run.plan mux.old.events starts inputs.old.items
-        → AreLimited limit inputs.old.items
+        → AreLimited limit mux.old.run.plan inputs.old.items
         → TakesInOrder mux.old.events inputs.old.items
         → AreHalted R.remaining limit mux.old.run.plan mux.old.events starts inputs.new.items) }
     ensures err { OnErr result (mux.new ≡ mux.old) }

@@ -15,7 +15,8 @@ pub fn packets_come_in_order()
     ensures { PacketsComeInOrder }
 {}
 
-/// There are as few as have room in its bytes: at most 16,777,216 of 3,154,116,608 bytes.
+/// There are as few as have room in its bytes, where bytes may lack after the last: at most 16,777,216 of an input of no more bytes
+/// than its format allows.
 pub fn packets_are_few()
     ensures { PacketsAreFew }
 {}

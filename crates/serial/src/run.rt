@@ -1,10 +1,11 @@
 //! A whole run.
 
 ghost use Rattle.std.specs.Prelude.{◌≡◌, ◌^◌, ◌≤◌, ℕ, List, length, map, Err, IfOk, IfErr, OnOk};
-ghost use Rattle.tspkt.specs.declared.framer.TheConstants.{MAX_LIMIT};
 ghost use Rattle.mux.specs.declared.event.Event.{Event};
 ghost use Rattle.mux.specs.Plans.{IsMultiplexPlan};
 ghost use Rattle.reading.specs.Failures.{FailsOnce};
+ghost use Rattle.reading.specs.InputLimit.{IsAllowed};
+ghost use Rattle.reading.specs.declared.input_limit.InputLimit.TheVariants.{OfFormat};
 ghost use Rattle.serial.specs.Outcome.{HasRun, HasBegun, FailuresAreTold};
 ghost use Rattle.serial.specs.Running.{TakesAsNeeded};
 
@@ -13,11 +14,12 @@ use crate::serial_run::SerialRun;
 use crate::sink::Sink;
 use crate::summary::Summary;
 use plan::Plan;
-use reading::{INPUT_LIMIT, Source};
+use reading::{InputLimit, Source};
 use std::alloc::Global;
 
-/// Runs a plan in one thread: reads one reader an input, which may have at most 3,154,116,608 bytes, and writes the packet of each
-/// slot, at most so many slots (0 to 2^40). It ends where all inputs have ended and nothing waits, or where it has all its slots.
+/// Runs a plan in one thread: reads one reader an input, which may have at most 3,154,116,608 bytes, or 3,422,552,064 where its
+/// packets stand 204 bytes apart, and writes the packet of each slot, at most so many slots (0 to 2^40). It ends where all inputs
+/// have ended and nothing waits, or where it has all its slots.
 ///
 /// A packet is taken only where the multiplex waits for its input. The writer comes back, and without a fault the readers too, in
 /// their order. `Memory` is answered for want of memory, where no write failed, and `Write` where a write failed; what was written
@@ -32,12 +34,12 @@ pub fn run_serial<R: Source + Drop, W: Sink>(
     requires slots { slots ≤ 2 ^ 40 }
     requires readers { length readers.items ≡ length plan.request.inputs }
     ensures runs { IfOk result.1 (λ done. (h : List Event)
-        × HasRun (record { run = record { plan = plan; limit = slots }; events = h }) 3154116608
+        × HasRun (record { run = record { plan = plan; limit = slots }; events = h }) OfFormat
         (map R.remaining readers.items) (map R.remaining done.1.items)
         (W.contents writer) (W.contents result.0) done.0
         × TakesAsNeeded (record { plan = plan; limit = slots }) h) }
     ensures begins { IfErr result.1 (λ fault. (h : List Event)
-        × HasBegun R.remaining R.failures (record { run = record { plan = plan; limit = slots }; events = h }) 3154116608
+        × HasBegun R.remaining R.failures (record { run = record { plan = plan; limit = slots }; events = h }) OfFormat
         readers.items (W.contents writer) (W.contents result.0) fault
         × TakesAsNeeded (record { plan = plan; limit = slots }) h) }
     ensures readers { IfOk result.1 (λ done. length done.1.items ≡ length readers.items) }
@@ -47,20 +49,20 @@ pub fn run_serial<R: Source + Drop, W: Sink>(
     ensures memory { result.1 ≡ Err RunFault.Memory → W.failures result.0 ≡ W.failures writer }
     ensures write_failed { result.1 ≡ Err RunFault.Write → FailsOnce (W.failures writer) (W.failures result.0) }
 {
-    run_serial_within(alloc, plan, slots, INPUT_LIMIT, readers, writer)
+    run_serial_within(alloc, plan, slots, InputLimit::OfFormat, readers, writer)
 }
 
-/// The same with inputs of at most `limit` bytes: up to 140,737,488,355,328.
+/// The same with inputs of at most as many bytes as `limit` says: up to 140,737,488,355,328.
 pub fn run_serial_within<R: Source + Drop, W: Sink>(
     alloc: Global,
     plan: Plan,
     slots: u64,
-    limit: u64,
+    limit: InputLimit,
     readers: Vec<R>,
     writer: W,
 ) -> (W, Result<(Summary, Vec<R>), RunFault>)
     requires slots { slots ≤ 2 ^ 40 }
-    requires limit { limit ≤ MAX_LIMIT }
+    requires limit { IsAllowed limit }
     requires readers { length readers.items ≡ length plan.request.inputs }
     ensures runs { IfOk result.1 (λ done. (h : List Event)
         × HasRun (record { run = record { plan = plan; limit = slots }; events = h }) limit
@@ -96,12 +98,12 @@ fn run_to<R: Source + Drop, W: Sink>(
     alloc: Global,
     plan: Plan,
     slots: u64,
-    limit: u64,
+    limit: InputLimit,
     readers: Vec<R>,
     sink: &mut W,
 ) -> Result<(Summary, Vec<R>), RunFault>
     requires slots { slots ≤ 2 ^ 40 }
-    requires limit { limit ≤ MAX_LIMIT }
+    requires limit { IsAllowed limit }
     requires readers { length readers.items ≡ length plan.request.inputs }
     ensures runs { IfOk result (λ done. (h : List Event)
         × HasRun (record { run = record { plan = plan; limit = slots }; events = h }) limit

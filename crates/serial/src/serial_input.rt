@@ -1,7 +1,7 @@
 //! An input of the serial run.
 
 use plan::Plan;
-use reading::{PacketReader, Source};
+use reading::{InputLimit, PacketReader, Source};
 use std::alloc::Global;
 
 /// An input, and whether the multiplex was told that nothing more comes of it.
@@ -12,21 +12,30 @@ pub(crate) struct SerialInput<R> {
 }
 
 impl<R: Source> SerialInput<R> {
-    ghost use Rattle.std.specs.Prelude.{◌≡◌, ◌<◌, ◌≤◌, length, Some, None, IsSome, true, false};
+    ghost use Rattle.std.specs.Prelude.{◌≡◌, ◌<◌, length, Some, None, IsSome, true, false};
     ghost use Rattle.reading.specs.declared.stop.Stop.TheVariants.{Gate};
-    ghost use Rattle.tspkt.specs.declared.framer.TheConstants.{MAX_LIMIT};
+    ghost use Rattle.reading.specs.InputLimit.{IsAllowed};
     ghost use Rattle.serial.specs.Opening.{IsOpened};
 
-    /// The input with this number of a plan, of which nothing was taken, and of which at most so many bytes may come.
-    pub fn open(alloc: Global, plan: &Plan, number: usize, limit: u64, source: R) -> SerialInput<R>
+    /// The input with this number of a plan, of which nothing was taken, and of which at most so many bytes may come at its
+    /// format.
+    pub fn open(
+        alloc: Global,
+        plan: &Plan,
+        number: usize,
+        limit: InputLimit,
+        source: R,
+    ) -> SerialInput<R>
         requires number { number < length plan.now.request.inputs }
-        requires limit { limit ≤ MAX_LIMIT }
+        requires limit { IsAllowed limit }
         ensures { IsOpened R.remaining R.failures limit plan.now number source result }
     {
         // What all requests keep is known with this.
         let _ = plan.request().rate();
+        let input = &plan.inputs()[number];
+        let most = limit.bytes(input.format);
         SerialInput {
-            reader: PacketReader::new(alloc, number, &plan.inputs()[number], source, limit),
+            reader: PacketReader::new(alloc, number, input, source, most),
             is_closed: false,
         }
     }

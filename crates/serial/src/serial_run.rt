@@ -10,7 +10,7 @@ use crate::slot_writer::SlotWriter;
 use crate::summary::Summary;
 use mux::{Mux, Sending};
 use plan::Plan;
-use reading::Source;
+use reading::{InputLimit, Source};
 use std::alloc::{AllocError, Global};
 
 /// How many bytes are read at once, at most.
@@ -36,19 +36,21 @@ impl<R: Source + Drop> SerialRun<R> {
     ghost use Rattle.mux.specs.Totals.{IsCounts};
     ghost use Rattle.serial.specs.Feeding.{AreUnrefused, AllTellFailures};
     ghost use Rattle.serial.specs.Ending.{AreReported, ArePeaks};
-    ghost use Rattle.tspkt.specs.declared.framer.TheConstants.{MAX_LIMIT};
+    ghost use Rattle.reading.specs.InputLimit.{IsAllowed};
+    ghost use Rattle.reading.specs.declared.input_limit.InputLimit.{InputLimit as Limit};
     ghost use Rattle.serial.specs.Running.{TakesAsNeeded, IsRunning, IsOver, AreHalted, steps_left};
 
-    /// A run of a plan for at most this many slots, with inputs of at most `limit` bytes, of which nothing was taken or sent.
+    /// A run of a plan for at most this many slots, whose inputs may have as many bytes as `limit` says at their formats, and of
+    /// which nothing was taken or sent.
     pub fn open(
         alloc: Global,
         plan: Plan,
         slots: u64,
-        limit: u64,
+        limit: InputLimit,
         readers: Vec<R>,
     ) -> Result<SerialRun<R>, AllocError>
         requires slots { slots ≤ 2 ^ 40 }
-        requires limit { limit ≤ MAX_LIMIT }
+        requires limit { IsAllowed limit }
         requires readers { length readers.items ≡ length plan.request.inputs }
         ensures running { IfOk result (λ r. IsRunning R.remaining (record { plan = plan; limit = slots }) limit (map R.remaining readers.items) r) }
         ensures new { IfOk result (λ r. r.mux.events ≡ []) }
@@ -95,15 +97,15 @@ impl<R: Source + Drop> SerialRun<R> {
 
     /// Sends slots until nothing is left to send or the run has all its slots, and writes what is in the buffer.
     pub fn drive<W: Sink>(&mut self, sink: &mut W) -> Result<(), RunFault>
-        requires { (run : Run) × (limit : ℕ) × (starts : List (Option (List ℕ))) × IsRunning R.remaining run limit starts self.old }
-        ensures runs { OnOk result ((run : Run) (limit : ℕ) (starts : List (Option (List ℕ)))
+        requires { (run : Run) × (limit : Limit) × (starts : List (Option (List ℕ))) × IsRunning R.remaining run limit starts self.old }
+        ensures runs { OnOk result ((run : Run) (limit : Limit) (starts : List (Option (List ℕ)))
             → IsRunning R.remaining run limit starts self.old → IsRunning R.remaining run limit starts self.new) }
         ensures over { OnOk result (IsOver self.old.mux.run self.new.mux.events) }
         ensures failures { OnOk result (W.failures sink.new ≡ W.failures sink.old) }
         ensures written { OnOk result ((before : Option (List ℕ))
             → Sends before (W.contents sink.old) (bytes_of (emitted self.old.mux.run.plan self.old.mux.events)) self.old.output.writer
             → Appends before (W.contents sink.new) (bytes_of (emitted self.old.mux.run.plan self.new.mux.events))) }
-        ensures halted { OnErr result ((run : Run) (limit : ℕ) (starts : List (Option (List ℕ)))
+        ensures halted { OnErr result ((run : Run) (limit : Limit) (starts : List (Option (List ℕ)))
             → IsRunning R.remaining run limit starts self.old
             → AreHalted R.remaining limit run.plan self.new.mux.events starts self.new.inputs.items
             × TakesAsNeeded run self.new.mux.events) }
@@ -130,8 +132,8 @@ impl<R: Source + Drop> SerialRun<R> {
     /// One step: the next slot is sent, or the input for which the multiplex waits gives a packet or is closed. True is
     /// answered where the run is over.
     fn step<W: Sink>(&mut self, sink: &mut W) -> Result<bool, RunFault>
-        requires { (run : Run) × (limit : ℕ) × (starts : List (Option (List ℕ))) × IsRunning R.remaining run limit starts self.old }
-        ensures runs { OnOk result ((run : Run) (limit : ℕ) (starts : List (Option (List ℕ)))
+        requires { (run : Run) × (limit : Limit) × (starts : List (Option (List ℕ))) × IsRunning R.remaining run limit starts self.old }
+        ensures runs { OnOk result ((run : Run) (limit : Limit) (starts : List (Option (List ℕ)))
             → IsRunning R.remaining run limit starts self.old → IsRunning R.remaining run limit starts self.new) }
         ensures fewer { result ≡ Ok false
             → steps_left self.old.mux.run self.new.mux.events < steps_left self.old.mux.run self.old.mux.events }
@@ -139,7 +141,7 @@ impl<R: Source + Drop> SerialRun<R> {
         ensures written { OnOk result ((before : Option (List ℕ))
             → Sends before (W.contents sink.old) (bytes_of (emitted self.old.mux.run.plan self.old.mux.events)) self.old.output.writer
             → Sends before (W.contents sink.new) (bytes_of (emitted self.old.mux.run.plan self.new.mux.events)) self.new.output.writer) }
-        ensures halted { OnErr result ((run : Run) (limit : ℕ) (starts : List (Option (List ℕ)))
+        ensures halted { OnErr result ((run : Run) (limit : Limit) (starts : List (Option (List ℕ)))
             → IsRunning R.remaining run limit starts self.old
             → AreHalted R.remaining limit run.plan self.new.mux.events starts self.new.inputs.items
             × TakesAsNeeded run self.new.mux.events) }

@@ -1,5 +1,7 @@
 -- What the first bytes of a stream look like (profile).
-use Rattle.std.specs.Prelude.{◌≡◌, ◌+◌, ◌*◌, ◌<◌, ℕ, List, [], Some, length, slice_get, Contains}
+use Rattle.std.specs.Prelude.{◌≡◌, ◌+◌, ◌*◌, ◌<◌, ◌==◌, ℕ, if◌then◌else◌, List, [], Option, Some, None, length, slice_get, Contains}
+use Rattle.tspkt.specs.declared.packet_format.PacketFormat.{PacketFormat}
+use Rattle.tspkt.specs.declared.packet_format.PacketFormat.TheVariants.{Ts188, Ts204}
 use Rattle.stream_shape.specs.declared.stream_shape.StreamShape.{StreamShape}
 use Rattle.stream_shape.specs.declared.stream_shape.StreamShape.TheVariants.{Empty, Packets, NoSync, OutOfStep}
 
@@ -37,3 +39,10 @@ LooksLike bytes Empty = bytes ≡ []
 LooksLike bytes (Packets stride) = HasPackets bytes stride × HasNoneBelow bytes stride
 LooksLike bytes NoSync = (0 < length bytes) × (Contains bytes sync_byte → ⊥)
 LooksLike bytes OutOfStep = Contains bytes sync_byte × HasNoneBelow bytes 209
+
+-- the format of packets that look so; none where they are of no format, or there are none
+abbrev pub format_of : StreamShape → Option PacketFormat
+format_of (Packets length) = if length == 188 then Some Ts188 else if length == 204 then Some Ts204 else None
+format_of Empty = None
+format_of NoSync = None
+format_of OutOfStep = None

@@ -1,13 +1,16 @@
 //! What the first bytes of a stream look like.
 
 ghost use Rattle.std.specs.Prelude.{◌≤◌, ◌<◌, ◌↔◌, length, IsTrue, IfSome, unwrap_or};
+ghost use Rattle.tspkt.specs.PacketFormat.{stride_of};
 ghost use Rattle.stream_shape.specs.Shape.{IsSync, IsInStep, HasPackets, HasNoneBelow, LooksLike};
 
 use std::fmt;
 use std::fmt::{Display, Formatter};
+use tspkt::PacketFormat;
 
 /// The first byte of a packet.
 const SYNC: u8 = 0x47;
+
 /// What the first bytes of a stream look like.
 #[derive(Clone, Copy, Debug, PartialEq, Eq)]
 pub enum StreamShape {
@@ -54,6 +57,13 @@ fn has_packets(bytes: &[u8], stride: usize) -> bool
     false
 }
 
+/// Whether the first bytes of a stream have five packets of this format.
+pub fn has_format(bytes: &[u8], format: PacketFormat) -> bool
+    ensures { IsTrue result ↔ HasPackets bytes.now (stride_of format) }
+{
+    has_packets(bytes, format.stride())
+}
+
 /// The length of the packets, if there are five: of plain ones, of those with a time stamp before each, of those with 16 bytes
 /// behind each, as a receiver adds them, or of those with both.
 fn packet_length(bytes: &[u8]) -> Option<usize>
@@ -87,16 +97,32 @@ pub fn shape_of(bytes: &[u8]) -> StreamShape
     }
 }
 
+impl StreamShape {
+    ghost use Rattle.std.specs.Prelude.{◌≡◌};
+    ghost use Rattle.stream_shape.specs.Shape.{format_of};
+
+    /// The format that its packets have; none where there are no packets of one.
+    pub fn format(self) -> Option<PacketFormat>
+        ensures { result ≡ format_of self }
+    {
+        match self {
+            StreamShape::Packets(188) => Some(PacketFormat::Ts188),
+            StreamShape::Packets(204) => Some(PacketFormat::Ts204),
+            _ => None,
+        }
+    }
+}
+
 impl Display for StreamShape {
     fn fmt<W: fmt::Write>(&self, f: &mut Formatter<W>) -> fmt::Result {
         match self {
             StreamShape::Empty => f.write_str("it is empty"),
-            StreamShape::Packets(188) => f.write_str("it has packets of 188 bytes"),
             StreamShape::Packets(length) => {
-                write!(
-                    f,
-                    "it looks like packets of {length} bytes; they have to have 188"
-                )
+                write!(f, "it looks like packets of {length} bytes")?;
+                match self.format() {
+                    Some(_) => Ok(()),
+                    None => f.write_str("; they have to have 188 or 204"),
+                }
             }
             StreamShape::NoSync => {
                 f.write_str(

@@ -28,6 +28,7 @@ pub(crate) struct InputKeys {
     pub file: String,
     pub rate: i64,
     pub offset: i64,
+    pub size: Option<i64>,
 }
 
 /// The keys of a service.

@@ -6,7 +6,6 @@ use Rattle.std.proofs.lemmas.List.{length-map}
 use Rattle.std.proofs.lemmas.Simd.{map-map}
 use Rattle.std.proofs.lemmas.Slice.Zip.{length-zip, firsts-zip, seconds-zip}
 use Rattle.std.proofs.lemmas.Option.{none-some, same_Some, slice_get-map}
-use Rattle.tspkt.specs.Framed.{framed}
 use Rattle.request.specs.Request.{InputValue}
 use Rattle.plan.specs.Build.{PlanValue}
 use Rattle.mux.specs.declared.event.Event.{Event}
@@ -14,7 +13,9 @@ use Rattle.mux.specs.History.{History, emitted}
 use Rattle.mux.specs.Headline.{IsSound}
 use Rattle.mux.specs.Lawful.{IsLawful}
 use Rattle.mux.specs.Plans.{IsMultiplexPlan}
-use Rattle.reading.specs.Takeable.{origin_of, takeable}
+use Rattle.reading.specs.InputLimit.{limit_of_input}
+use Rattle.reading.specs.Takeable.{origin_of, framed_at, takeable}
+use Rattle.reading.specs.declared.input_limit.InputLimit.{InputLimit}
 use Rattle.reading.specs.declared.stop.Stop.{Stop}
 use Rattle.reading.specs.declared.stop.Stop.TheVariants.{ReadFailed, TooMuch, Memory}
 use Rattle.serial.specs.Feeding.{AreKnown}
@@ -38,12 +39,12 @@ use Rattle.threaded.proofs.SummaryLaws.{left_unclosed, taken_begins}
 
 -- Readers as a run may leave them, what stopped their workers, and what the history took of them. The run failed with this fault;
 -- so many writes had failed before it, and so many after it.
-pub record AreLeft {R : Type 0} (remaining : R → Option (List ℕ)) (failures : R → ℕ) (limit : ℕ) (p : PlanValue) (h : List Event) (readers : List R) (failed_before failed_after : ℕ) (fault : RunFault) : Type 0 where
+pub record AreLeft {R : Type 0} (remaining : R → Option (List ℕ)) (failures : R → ℕ) (limit : InputLimit) (p : PlanValue) (h : List Event) (readers : List R) (failed_before failed_after : ℕ) (fault : RunFault) : Type 0 where
   pub lefts : List (R × Option Stop)
   pub count : length lefts ≡ length readers
   pub left : (i : ℕ) (input : InputValue) (old : R) (left : R × Option Stop)
       → slice_get p.request.inputs i ≡ Some input → slice_get readers i ≡ Some old → slice_get lefts i ≡ Some left
-      → IsLeft remaining failures limit p h i input old left
+      → IsLeft remaining failures (limit_of_input limit input.format) p h i input old left
   pub faithful : AreKnown (map remaining readers)
       → TakesWhatCame p (map remaining readers) (map (λ left. remaining left.0) lefts) (map (λ left. left.1) lefts) h
   pub refused : (i : ℕ) (left : R × Option Stop) → slice_get lefts i ≡ Some left → left.1 ≡ Some Memory → fault ≡ run_faults.Memory
@@ -59,14 +60,14 @@ left_unread : {R : Type 0} (remaining : R → Option (List ℕ)) (failures : R �
 left_unread remaining failures limit p i input reader = record {
   bytes = [];
   read = Consumes-nil (remaining reader);
-  begins = λ more. (takeable p (origin_of i input) (framed 188 more), refl);
+  begins = λ more. (takeable p (origin_of i input) (framed_at (origin_of i input) more), refl);
   told = (λ e. absurd (none-some ReadFailed e), λ other. refl);
   too_much = λ e. absurd (none-some TooMuch e);
   within = λ other. omega arith;
   unclosed = λ e. refl;
 }
 
-pub nothing_left : {R : Type 0} (remaining : R → Option (List ℕ)) (failures : R → ℕ) (limit : ℕ) (p : PlanValue) (readers : List R) (failed_before failed_after : ℕ) (fault : RunFault) → failed_after ≡ failed_before
+pub nothing_left : {R : Type 0} (remaining : R → Option (List ℕ)) (failures : R → ℕ) (limit : InputLimit) (p : PlanValue) (readers : List R) (failed_before failed_after : ℕ) (fault : RunFault) → failed_after ≡ failed_before
     → AreLeft remaining failures limit p [] readers failed_before failed_after fault
 nothing_left {R} remaining failures limit p readers failed_before failed_after fault unfailed =
     let one : R → R × Option Stop = unread in
@@ -76,9 +77,9 @@ nothing_left {R} remaining failures limit p readers failed_before failed_after f
       count = length-map readers one;
       left = λ i input old left at from to.
           let l = from_map one readers i left to in
-          let L : R × Option Stop → Type 0 = λ v. IsLeft remaining failures limit p [] i input old v in
-          let O : R → Type 0 = λ v. IsLeft remaining failures limit p [] i input old (unread v) in
-          subst L l.2 (subst O (same_Some old l.0 (sym from ∙ l.1)) (left_unread remaining failures limit p i input old));
+          let L : R × Option Stop → Type 0 = λ v. IsLeft remaining failures (limit_of_input limit input.format) p [] i input old v in
+          let O : R → Type 0 = λ v. IsLeft remaining failures (limit_of_input limit input.format) p [] i input old (unread v) in
+          subst L l.2 (subst O (same_Some old l.0 (sym from ∙ l.1)) (left_unread remaining failures (limit_of_input limit input.format) p i input old));
       faithful = λ known.
           unread_takes p (map remaining readers) (map (λ left. remaining left.0) (map one readers)) (map stop (map one readers))
           (λ i stopped at. (let l = from_map stop (map one readers) i stopped at in let r = from_map one readers i l.0 l.1 in sym (ap stop r.2 ∙ l.2)));
@@ -91,7 +92,7 @@ nothing_left {R} remaining failures limit p readers failed_before failed_after f
 abbrev left_of : {R G : Type 0} → Ended R G → R × Option Stop
 left_of {R} {G} end = (end.reader, end.report.stopped)
 
-module _ {R G : Type 0} (remaining : R → Option (List ℕ)) (failures : R → ℕ) (limit : ℕ) (p : PlanValue) (station : StationValue) (readers : List R) (ended : List (Ended R G))
+module _ {R G : Type 0} (remaining : R → Option (List ℕ)) (failures : R → ℕ) (limit : InputLimit) (p : PlanValue) (station : StationValue) (readers : List R) (ended : List (Ended R G))
     (each : (i : ℕ) (input : InputValue) → slice_get p.request.inputs i ≡ Some input → IsServedAt remaining failures limit p station readers ended i input)
     (plan_is : station.history.run.plan ≡ p) (sound : IsSound station.history) (kept : IsLawfulStation station.history station.inputs) where
   abbrev starts : List (Option (List ℕ))
@@ -112,23 +113,23 @@ module _ {R G : Type 0} (remaining : R → Option (List ℕ)) (failures : R → 
       slice_get-map one ended i ∙ ap (option_map one) x.end_is
 
   is_left : (i : ℕ) (input : InputValue) (old : R) (left : R × Option Stop) → slice_get p.request.inputs i ≡ Some input → slice_get readers i ≡ Some old → slice_get lefts i ≡ Some left
-      → IsLeft remaining failures limit p station.history.events i input old left
+      → IsLeft remaining failures (limit_of_input limit input.format) p station.history.events i input old left
   is_left i input old left at from to =
       let x = each i input at in
       let h = station.history.events in
       let has = x.served.has in
       let served = served_input remaining failures limit p station readers ended i input at x plan_is sound kept in
-      let O : R → Type 0 = λ v. IsLeft remaining failures limit p h i input v left in
-      let L : R × Option Stop → Type 0 = λ v. IsLeft remaining failures limit p h i input x.reader v in
+      let O : R → Type 0 = λ v. IsLeft remaining failures (limit_of_input limit input.format) p h i input v left in
+      let L : R × Option Stop → Type 0 = λ v. IsLeft remaining failures (limit_of_input limit input.format) p h i input x.reader v in
       subst O (same_Some x.reader old (sym x.reader_is ∙ from)) (subst L (same_Some (left_of x.end) left (sym (left_at i input at x) ∙ to))
       (record {
         bytes = has.bytes;
         read = has.read;
-        begins = taken_begins remaining limit p station i input x.reader x.end.reader x.end.report x.served;
+        begins = taken_begins remaining (limit_of_input limit input.format) p station i input x.reader x.end.reader x.end.report x.served;
         told = (x.failed, x.unfailed);
         too_much = has.too_much;
         within = has.within;
-        unclosed = λ e. left_unclosed remaining limit p station i input x.reader x.end.reader x.end.report served (inl e);
+        unclosed = λ e. left_unclosed remaining (limit_of_input limit input.format) p station i input x.reader x.end.reader x.end.report served (inl e);
       }))
 
   came_of : (i : ℕ) (input : InputValue) → slice_get p.request.inputs i ≡ Some input → CameOf remaining limit p station starts lefts_of stops i input
@@ -173,7 +174,7 @@ module _ {R G : Type 0} (remaining : R → Option (List ℕ)) (failures : R → 
 
 -- A run that ended may be answered as one that failed for want of memory: its readers come back, with what is told of their
 -- inputs' stops.
-pub begun_of_run : {R G : Type 0} (remaining : R → Option (List ℕ)) (failures : R → ℕ) (h : History) (limit : ℕ) (readers : List R) (lent : List (R × G)) (before after : Option (List ℕ)) (s : Summary) (failed_before failed_after : ℕ)
+pub begun_of_run : {R G : Type 0} (remaining : R → Option (List ℕ)) (failures : R → ℕ) (h : History) (limit : InputLimit) (readers : List R) (lent : List (R × G)) (before after : Option (List ℕ)) (s : Summary) (failed_before failed_after : ℕ)
     → length readers ≡ length h.run.plan.request.inputs → length lent ≡ length readers → HasRun h limit (map remaining readers) (map (λ l. remaining l.0) lent) before after s
     → FailuresAreTold failures readers (map (λ l. l.0) lent) s.inputs.items → failed_after ≡ failed_before → HasBegun remaining failures h limit readers before after failed_before failed_after run_faults.Memory
 begun_of_run {R} {G} remaining failures h limit readers lent before after s failed_before failed_after of_readers size run all_told unfailed =

@@ -11,6 +11,8 @@ use Rattle.plan.specs.Build.{PlanValue}
 use Rattle.mux.specs.Lawful.{IsLawful}
 use Rattle.mux.specs.Plans.{IsMultiplexPlan}
 use Rattle.mux.specs.Faithful.{PacketLists, IsPrefix}
+use Rattle.reading.specs.InputLimit.{limit_of_input}
+use Rattle.reading.specs.declared.input_limit.InputLimit.{InputLimit}
 use Rattle.reading.specs.declared.report.Report.{Report}
 use Rattle.reading.specs.declared.stop.Stop.{Stop}
 use Rattle.reading.specs.declared.stop.Stop.TheVariants.{ReadFailed, Memory}
@@ -63,17 +65,17 @@ unread_takes p starts lefts stops none = (
 
 -- A worker served the plan's input: its source had these bytes to give at first and has those left, and this is told of what
 -- stopped it.
-pub record CameOf {R : Type 0} (remaining : R → Option (List ℕ)) (limit : ℕ) (p : PlanValue) (station : StationValue) (starts lefts : List (Option (List ℕ))) (stops : List (Option Stop)) (i : ℕ) (input : InputValue) : Type 0 where
+pub record CameOf {R : Type 0} (remaining : R → Option (List ℕ)) (limit : InputLimit) (p : PlanValue) (station : StationValue) (starts lefts : List (Option (List ℕ))) (stops : List (Option Stop)) (i : ℕ) (input : InputValue) : Type 0 where
   pub reader : R
   pub left : R
   pub report : Report
-  pub served : IsServedInput remaining limit p station i input reader left report
+  pub served : IsServedInput remaining (limit_of_input limit input.format) p station i input reader left report
   pub start_is : slice_get starts i ≡ Some (remaining reader)
   pub left_is : slice_get lefts i ≡ Some (remaining left)
   pub told : IsToldStop (slice_get stops i) report.stopped
   pub wanted : report.stopped ≡ Some Memory → slice_get stops i ≡ Some (Some Memory)
 
-module _ {R : Type 0} (remaining : R → Option (List ℕ)) (limit : ℕ) (p : PlanValue) (station : StationValue) (starts lefts : List (Option (List ℕ))) (stops : List (Option Stop))
+module _ {R : Type 0} (remaining : R → Option (List ℕ)) (limit : InputLimit) (p : PlanValue) (station : StationValue) (starts lefts : List (Option (List ℕ))) (stops : List (Option Stop))
     (came : (i : ℕ) (input : InputValue) → slice_get p.request.inputs i ≡ Some input → CameOf remaining limit p station starts lefts stops i input) where
   abbrev input_at : (i : ℕ) → i < length p.request.inputs → (input : InputValue) × (slice_get p.request.inputs i ≡ Some input)
   input_at i inside = get_within p.request.inputs i inside
@@ -95,13 +97,13 @@ module _ {R : Type 0} (remaining : R → Option (List ℕ)) (limit : ℕ) (p : P
   gives_at are i inside =
       let x = came_at i inside in
       let b = bytes_at are i inside in
-      gives_some_of remaining limit p station i (input_at i inside).0 x.reader x.left x.report starts lefts stops b.0 x.served (x.start_is ∙ ap Some b.1) b.1 x.left_is x.told x.wanted
+      gives_some_of remaining (limit_of_input limit (input_at i inside).0.format) p station i (input_at i inside).0 x.reader x.left x.report starts lefts stops b.0 x.served (x.start_is ∙ ap Some b.1) b.1 x.left_is x.told x.wanted
 
   taken_at : AreKnown starts → (i : ℕ) (inside : i < length p.request.inputs) → IsTakenOf station.history.events i (list_at i inside)
   taken_at are i inside =
       let x = came_at i inside in
       let b = bytes_at are i inside in
-      taken_of remaining limit p station i (input_at i inside).0 x.reader x.left x.report starts b.0 x.served (x.start_is ∙ ap Some b.1) b.1
+      taken_of remaining (limit_of_input limit (input_at i inside).0.format) p station i (input_at i inside).0 x.reader x.left x.report starts b.0 x.served (x.start_is ∙ ap Some b.1) b.1
 
   pub takes_what_came : IsMultiplexPlan p → IsLawful p station.history.events → AreKnown starts → TakesWhatCame p starts lefts stops station.history.events
   takes_what_came plan lawful are =

@@ -5,12 +5,13 @@ use Rattle.std.specs.Option.{option_to_list}
 use Rattle.std.specs.Io.KnownBytes.{Consumes}
 use Rattle.std.proofs.lemmas.Option.{slice_get_within, same_Some, slice_get-map}
 use Rattle.std.proofs.lemmas.List.{append_assoc, length-map}
-use Rattle.tspkt.specs.Framed.{framed}
 use Rattle.tspkt.specs.declared.stamped.Stamped.{Stamped}
 use Rattle.request.specs.Request.{InputValue}
 use Rattle.plan.specs.Build.{PlanValue}
 use Rattle.mux.specs.History.{taken}
-use Rattle.reading.specs.Takeable.{origin_of, takeable}
+use Rattle.reading.specs.InputLimit.{limit_of_input}
+use Rattle.reading.specs.Takeable.{origin_of, framed_at, takeable}
+use Rattle.reading.specs.declared.input_limit.InputLimit.{InputLimit}
 use Rattle.reading.specs.declared.report.Report.{Report}
 use Rattle.reading.specs.declared.stop.Stop.TheVariants.{Gate}
 use Rattle.port.specs.Rings.{RingId, PortValue, FinishedValue}
@@ -25,7 +26,7 @@ use Rattle.threaded.specs.Crews.{IsStarted, AreStarted, AreOfStation, AreSeated,
 use Rattle.threaded.specs.declared.ended.Ended.{Ended}
 use Rattle.threaded.specs.declared.run_gate.RunGate.{RunGate}
 
-pub started_push : {R G : Type 0} (limit : ℕ) (plan : PlanValue) (seats : List ((R × G) × PortValue)) (workers : List (Worker R (RunGate G))) (seat : (R × G) × PortValue) (w : Worker R (RunGate G))
+pub started_push : {R G : Type 0} (limit : InputLimit) (plan : PlanValue) (seats : List ((R × G) × PortValue)) (workers : List (Worker R (RunGate G))) (seat : (R × G) × PortValue) (w : Worker R (RunGate G))
     → AreStarted limit plan seats workers → slice_get seats (length workers) ≡ Some seat → IsStarted limit plan (length workers) seat.0.0 seat.1 w → AreStarted limit plan seats (workers ++ w ∷ [])
 started_push {R} {G} limit plan seats workers seat w are at is = record {
   within = (let inside = slice_get_within seats (length workers) seat at in omega (arith, inside, length-append workers (w ∷ [])));
@@ -42,7 +43,7 @@ started_push {R} {G} limit plan seats workers seat w are at is = record {
       ];
 }
 
-pub none_started : {R G : Type 0} (limit : ℕ) (plan : PlanValue) (seats : List ((R × G) × PortValue)) → AreStarted limit plan seats []
+pub none_started : {R G : Type 0} (limit : InputLimit) (plan : PlanValue) (seats : List ((R × G) × PortValue)) → AreStarted limit plan seats []
 none_started limit plan seats = record { within = omega arith; each = λ i s x ats atx. absurd (cc) }
 
 pub ended_push : {R G : Type 0} (remaining : R → Option (List ℕ)) (failures : R → ℕ) (station : StationValue) (workers : List (Worker R (RunGate G))) (ended : List (Ended R G)) (w : Worker R (RunGate G)) (e : Ended R G)
@@ -63,7 +64,7 @@ none_ended remaining failures station workers i v d atv atd = absurd (cc)
 
 -- The loops: one worker more of a list of handles.
 
-pub started_of : {R G : Type 0} (limit : ℕ) (plan : PlanValue) (i : ℕ) (reader : R) (port : PortValue) (own : PlanValue) (number : ℕ) (new v : Worker R G)
+pub started_of : {R G : Type 0} (limit : InputLimit) (plan : PlanValue) (i : ℕ) (reader : R) (port : PortValue) (own : PlanValue) (number : ℕ) (new v : Worker R G)
     → v ≡ new → (new.plan ≡ own) × (new.number ≡ number) × (new.limit ≡ limit) → new.source ≡ reader → new.port ≡ port → own ≡ plan → number ≡ i → IsStarted limit plan i reader port v
 started_of {R} {G} limit plan i reader port own number new v e input source port_is own_is number_is = record {
   plan_is = ap (λ (w : Worker R G). w.plan) e ∙ (input.0 ∙ own_is);
@@ -73,7 +74,7 @@ started_of {R} {G} limit plan i reader port own number new v e input source port
   port_is = ap (λ (w : Worker R G). w.port) e ∙ port_is;
 }
 
-pub started_next : {R G H : Type 0} (f : H → Worker R (RunGate G)) (limit : ℕ) (plan : PlanValue) (seats : List ((R × G) × PortValue)) (handles new : List H) (h : H) (seat : (R × G) × PortValue)
+pub started_next : {R G H : Type 0} (f : H → Worker R (RunGate G)) (limit : InputLimit) (plan : PlanValue) (seats : List ((R × G) × PortValue)) (handles new : List H) (h : H) (seat : (R × G) × PortValue)
     → AreStarted limit plan seats (map f handles) → slice_get seats (length handles) ≡ Some seat → IsStarted limit plan (length handles) seat.0.0 seat.1 (f h) → new ≡ handles ++ h ∷ []
     → AreStarted limit plan seats (map f new)
 started_next {R} {G} {H} f limit plan seats handles new h seat are at is e =
@@ -122,12 +123,12 @@ pub record IsServed {R : Type 0} (remaining : R → Option (List ℕ)) (limit : 
   pub sent_is : sent ≡ (taken i station.history.events ++ option_to_list inlet.held) ++ rest
   pub marked : inlet.end.is_ended ≡ true → (is_ended ≡ true) × (rest ≡ [])
 
-pub served : {R G : Type 0} (remaining : R → Option (List ℕ)) (failures : R → ℕ) (limit : ℕ) (p : PlanValue) (station : StationValue) (i : ℕ) (input : InputValue) (reader : R) (port : PortValue) (w : Worker R (RunGate G)) (e : Ended R G)
+pub served : {R G : Type 0} (remaining : R → Option (List ℕ)) (failures : R → ℕ) (limit : InputLimit) (p : PlanValue) (station : StationValue) (i : ℕ) (input : InputValue) (reader : R) (port : PortValue) (w : Worker R (RunGate G)) (e : Ended R G)
     → IsStarted limit p i reader port w → port.ring.input ≡ i → slice_get p.request.inputs i ≡ Some input → IsEnded remaining failures station w e
-    → IsServed remaining limit p station i input reader e.reader e.report
+    → IsServed remaining (limit_of_input limit input.format) p station i input reader e.reader e.report
 served {R} {G} remaining failures limit p station i input reader port w e started own at ended =
     let worked = ended.work.sent input ((λ k. slice_get (started.plan_is k).request.inputs (started.number_is k)) ∙ at) in
-    let T : (ℕ × PlanValue × ℕ × R) → Type 0 = λ v. HasSentOf v.0 v.1 (origin_of v.2 input) (remaining v.3) (remaining e.reader) e.report ended.finished.is_ended worked.0 in
+    let T : (InputLimit × PlanValue × ℕ × R) → Type 0 = λ v. HasSentOf (limit_of_input v.0 input.format) v.1 (origin_of v.2 input) (remaining v.3) (remaining e.reader) e.report ended.finished.is_ended worked.0 in
     let S : Option PortValue → Type 0 = λ o. IfSome o (λ v. v ≡ record { ring = w.port.ring; sent = worked.0 }) in
     let shown = subst S ended.settles.shown_is worked.2 in
     let number : ended.settles.shown.ring.input ≡ i = ap (λ (v : PortValue). v.ring.input) shown ∙ (ap (λ (v : PortValue). v.ring.input) started.port_is ∙ own) in
@@ -152,7 +153,7 @@ consumed (Some first) (Some more) bytes all e used = (more, sym (same_Some first
 -- what was taken of it begins what can be taken
 pub served_begins : {R : Type 0} (remaining : R → Option (List ℕ)) (limit : ℕ) (p : PlanValue) (station : StationValue) (i : ℕ) (input : InputValue) (reader left : R) (report : Report) (all : List ℕ)
     → IsServed remaining limit p station i input reader left report → remaining reader ≡ Some all
-    → (later : List Stamped) × (taken i station.history.events ++ later ≡ takeable p (origin_of i input) (framed 188 all))
+    → (later : List Stamped) × (taken i station.history.events ++ later ≡ takeable p (origin_of i input) (framed_at (origin_of i input) all))
 served_begins remaining limit p station i input reader left report all s start =
     let more = consumed (remaining reader) (remaining left) s.has.bytes all start s.has.read in
     let later = s.has.begins more.0 in
@@ -161,11 +162,11 @@ served_begins remaining limit p station i input reader left report all s start =
       (held ++ s.rest) ++ later.0,
       sym (append_assoc took (held ++ s.rest) later.0)
           ∙ (ap (λ v. v ++ later.0) (sym (append_assoc took held s.rest) ∙ sym s.sent_is)
-          ∙ (later.1 ∙ ap (λ v. takeable p (origin_of i input) (framed 188 v)) (sym more.1))),
+          ∙ (later.1 ∙ ap (λ v. takeable p (origin_of i input) (framed_at (origin_of i input) v)) (sym more.1))),
     )
 
 -- the workers of all seats worked, and the station was as it is
-pub have_worked : {R G : Type 0} (remaining : R → Option (List ℕ)) (failures : R → ℕ) (limit : ℕ) (plan : PlanValue) (driven joined : StationValue) (seats : List ((R × G) × PortValue)) (workers : List (Worker R (RunGate G))) (ended : List (Ended R G))
+pub have_worked : {R G : Type 0} (remaining : R → Option (List ℕ)) (failures : R → ℕ) (limit : InputLimit) (plan : PlanValue) (driven joined : StationValue) (seats : List ((R × G) × PortValue)) (workers : List (Worker R (RunGate G))) (ended : List (Ended R G))
     → AreStarted limit plan seats workers → length workers ≡ length seats → length ended ≡ length workers → AreEnded remaining failures driven workers ended → joined ≡ driven
     → HaveWorked remaining failures limit plan joined seats ended
 have_worked {R} {G} remaining failures limit plan driven joined seats workers ended started all count became same =
@@ -173,7 +174,7 @@ have_worked {R} {G} remaining failures limit plan driven joined seats workers en
     record { workers = workers; started = started; all = all; count = count; became = subst E (sym same) became }
 
 -- the workers of a run send to the rings of its station
-pub seated_workers : {R G : Type 0} (limit : ℕ) (plan : PlanValue) (old new : StationValue) (seats : List ((R × G) × PortValue)) (workers : List (Worker R (RunGate G)))
+pub seated_workers : {R G : Type 0} (limit : InputLimit) (plan : PlanValue) (old new : StationValue) (seats : List ((R × G) × PortValue)) (workers : List (Worker R (RunGate G)))
     → AreSeated old seats → rings_of new.inputs ≡ rings_of old.inputs → AreStarted limit plan seats workers → AreOfStation new workers
 seated_workers limit plan old new seats workers seated rings started i w at =
     let inside = slice_get_within workers i w at in

@@ -6,14 +6,13 @@ use Rattle.std.specs.Io.KnownBytes.{Consumes}
 use Rattle.std.proofs.lemmas.Bool.{false≢true}
 use Rattle.std.proofs.lemmas.List.{append-nil}
 use Rattle.std.proofs.lemmas.Option.{same_Some}
-use Rattle.tspkt.specs.Framed.{framed}
 use Rattle.tspkt.specs.declared.stamped.Stamped.{Stamped}
 use Rattle.request.specs.Request.{InputValue, IsInput}
 use Rattle.plan.specs.Build.{PlanValue}
 use Rattle.mux.specs.History.{taken, is_closed}
 use Rattle.mux.specs.Lawful.{is_mapped}
 use Rattle.mux.specs.Faithful.{IsPrefix}
-use Rattle.reading.specs.Takeable.{origin_of, takeable}
+use Rattle.reading.specs.Takeable.{origin_of, framed_at, takeable}
 use Rattle.reading.specs.declared.report.Report.{Report}
 use Rattle.reading.specs.declared.stop.Stop.{Stop}
 use Rattle.reading.specs.declared.stop.Stop.TheVariants.{Gate, ReadFailed, TooMuch, Memory}
@@ -45,7 +44,7 @@ unrefused remaining limit p station i input reader left report item x held refus
     let later = s.has.begins [] in
     let bytes = s.has.bytes ++ [] in
     let parts : s.sent ≡ (took ++ item ∷ []) ++ s.rest = s.sent_is ∙ ap (λ (v : Option Stamped). (took ++ option_to_list v) ++ s.rest) held in
-    let all : (took ++ item ∷ []) ++ (s.rest ++ later.0) ≡ takeable p (origin_of i input) (framed 188 bytes) =
+    let all : (took ++ item ∷ []) ++ (s.rest ++ later.0) ≡ takeable p (origin_of i input) (framed_at (origin_of i input) bytes) =
     sym (append_assoc (took ++ item ∷ []) s.rest later.0) ∙ (ap (λ v. v ++ later.0) (sym parts) ∙ later.1) in
     let least = x.ranges.rate.0 in
     let next = next_in_order p h i (origin_of i input) item bytes (s.rest ++ later.0) refl (omega (arith, least)) all in
@@ -85,18 +84,18 @@ sent_taken remaining limit p station i input reader left report x shut =
 -- What the worker sent of a source whose bytes are known.
 
 sent_begins : {R : Type 0} (remaining : R → Option (List ℕ)) (limit : ℕ) (p : PlanValue) (station : StationValue) (i : ℕ) (input : InputValue) (reader left : R) (report : Report) (all : List ℕ)
-    → (s : IsServed remaining limit p station i input reader left report) → remaining reader ≡ Some all → IsPrefix s.sent (takeable p (origin_of i input) (framed 188 all))
+    → (s : IsServed remaining limit p station i input reader left report) → remaining reader ≡ Some all → IsPrefix s.sent (takeable p (origin_of i input) (framed_at (origin_of i input) all))
 sent_begins remaining limit p station i input reader left report all s start =
     let more = consumed (remaining reader) (remaining left) s.has.bytes all start s.has.read in
     let later = s.has.begins more.0 in
-    (later.0, sym (later.1 ∙ ap (λ v. takeable p (origin_of i input) (framed 188 v)) (sym more.1)))
+    (later.0, sym (later.1 ∙ ap (λ v. takeable p (origin_of i input) (framed_at (origin_of i input) v)) (sym more.1)))
 
 -- of an input that nothing stopped it is all that can be taken
 pub whole_sent : {R : Type 0} (remaining : R → Option (List ℕ)) (limit : ℕ) (p : PlanValue) (station : StationValue) (i : ℕ) (input : InputValue) (reader left : R) (report : Report) (all : List ℕ)
-    → (s : IsServed remaining limit p station i input reader left report) → remaining reader ≡ Some all → report.stopped ≡ None → s.sent ≡ takeable p (origin_of i input) (framed 188 all)
+    → (s : IsServed remaining limit p station i input reader left report) → remaining reader ≡ Some all → report.stopped ≡ None → s.sent ≡ takeable p (origin_of i input) (framed_at (origin_of i input) all)
 whole_sent remaining limit p station i input reader left report all s start e =
     let w = s.has.whole e in
-    w.sent_is ∙ ap (λ v. takeable p (origin_of i input) (framed 188 v)) (sym (all_read (remaining reader) (remaining left) s.has.bytes all start s.has.read w.at_end))
+    w.sent_is ∙ ap (λ v. takeable p (origin_of i input) (framed_at (origin_of i input) v)) (sym (all_read (remaining reader) (remaining left) s.has.bytes all start s.has.read w.at_end))
 
 -- some of its packets may not have come of it
 abbrev is_cut : Option Stop → Bool
@@ -125,7 +124,7 @@ list_begins sent all stopped b = elim (is_cut stopped) as (λ v. IsPrefix (if v 
 
 -- the packets that an input of known bytes gives
 pub list_is : (p : PlanValue) (starts : List (Option (List ℕ))) (i : ℕ) (input : InputValue) (all : List ℕ) → slice_get p.request.inputs i ≡ Some input → slice_get starts i ≡ Some (Some all)
-    → packet_lists p starts i ≡ takeable p (origin_of i input) (framed 188 all)
+    → packet_lists p starts i ≡ takeable p (origin_of i input) (framed_at (origin_of i input) all)
 list_is p starts i input all at from = ap (λ v. packet_list p i v (slice_get starts i)) at ∙ ap (packet_list p i (Some input)) from
 
 gives_of : {R : Type 0} (remaining : R → Option (List ℕ)) (limit : ℕ) (p : PlanValue) (station : StationValue) (i : ℕ) (input : InputValue) (reader left : R) (report : Report) (starts lefts : List (Option (List ℕ))) (stops : List (Option Stop)) (all : List ℕ)
@@ -150,8 +149,8 @@ gives_of remaining limit p station i input reader left report starts lefts stops
           let same = same_bytes all (remaining left) s.has.bytes bytes (subst E start s.has.read) (subst D same_left (subst C same_start used)) in
           ap (given_list s.sent list) failed
           ∙ s.has.failed failed
-          ∙ ap (λ v. takeable p (origin_of i input) (framed 188 v)) same
-          ∙ ap (λ v. takeable p (origin_of i v) (framed 188 bytes)) same_input;
+          ∙ ap (λ v. takeable p (origin_of i input) (framed_at (origin_of i input) v)) same
+          ∙ ap (λ v. takeable p (origin_of i v) (framed_at (origin_of i v) bytes)) same_input;
       begins = list_begins s.sent list report.stopped front;
     }
 
@@ -169,7 +168,7 @@ gives_some_of remaining limit p station i input reader left report starts lefts 
     }
 
 closed_list : {R : Type 0} (remaining : R → Option (List ℕ)) (limit : ℕ) (p : PlanValue) (station : StationValue) (i : ℕ) (input : InputValue) (reader left : R) (report : Report) (all : List ℕ) (list : List Stamped) (stopped : Option Stop)
-    → (x : IsServedInput remaining limit p station i input reader left report) → remaining reader ≡ Some all → list ≡ takeable p (origin_of i input) (framed 188 all) → is_closed i station.history.events ≡ true
+    → (x : IsServedInput remaining limit p station i input reader left report) → remaining reader ≡ Some all → list ≡ takeable p (origin_of i input) (framed_at (origin_of i input) all) → is_closed i station.history.events ≡ true
     → report.stopped ≡ stopped → given_list x.served.sent list stopped ≡ taken i station.history.events
 closed_list remaining limit p station i input reader left report all list None x start is shut e =
     is ∙ sym (whole_sent remaining limit p station i input reader left report all x.served start e) ∙ sent_taken remaining limit p station i input reader left report x shut

@@ -10,6 +10,8 @@ use Rattle.mux.specs.Totals.{IsTotals}
 use Rattle.mux.specs.Headline.{IsSound}
 use Rattle.mux.specs.Plans.{IsMultiplexPlan}
 use Rattle.reading.specs.Failures.{FailsOnce}
+use Rattle.reading.specs.InputLimit.{limit_of_input}
+use Rattle.reading.specs.declared.input_limit.InputLimit.{InputLimit}
 use Rattle.reading.specs.declared.report.Report.{Report}
 use Rattle.reading.specs.declared.stop.Stop.{Stop}
 use Rattle.reading.specs.declared.stop.Stop.TheVariants.{ReadFailed, Memory}
@@ -31,24 +33,24 @@ use Rattle.threaded.proofs.ComingLaws.{CameOf, takes_what_came}
 use Rattle.threaded.proofs.SummaryLaws.{told_stop, stopped_before, failure_told, input_summary, read_on}
 
 -- The worker of an input read this reader, and this became of it.
-pub record IsServedAt {R G : Type 0} (remaining : R → Option (List ℕ)) (failures : R → ℕ) (limit : ℕ) (p : PlanValue) (station : StationValue) (readers : List R) (ended : List (Ended R G)) (i : ℕ) (input : InputValue) : Type 0 where
+pub record IsServedAt {R G : Type 0} (remaining : R → Option (List ℕ)) (failures : R → ℕ) (limit : InputLimit) (p : PlanValue) (station : StationValue) (readers : List R) (ended : List (Ended R G)) (i : ℕ) (input : InputValue) : Type 0 where
   pub reader : R
   pub reader_is : slice_get readers i ≡ Some reader
   pub end : Ended R G
   pub end_is : slice_get ended i ≡ Some end
-  pub served : IsServed remaining limit p station i input reader end.reader end.report
+  pub served : IsServed remaining (limit_of_input limit input.format) p station i input reader end.reader end.report
   pub failed : end.report.stopped ≡ Some ReadFailed → FailsOnce (failures reader) (failures end.reader)
   pub unfailed : (end.report.stopped ≡ Some ReadFailed → ⊥) → failures end.reader ≡ failures reader
 
-pub record IsToldOfInputs (limit : ℕ) (p : PlanValue) (h : List Event) (starts lefts : List (Option (List ℕ))) (inputs : List InputSummary) : Type 0 where
+pub record IsToldOfInputs (limit : InputLimit) (p : PlanValue) (h : List Event) (starts lefts : List (Option (List ℕ))) (inputs : List InputSummary) : Type 0 where
   pub faithful : AreKnown starts → TakesWhatIsGiven p starts lefts (stops_of inputs) h
   pub summaries : (i : ℕ) (input : InputValue) (start : Option (List ℕ)) (x : InputSummary)
       → slice_get p.request.inputs i ≡ Some input → slice_get starts i ≡ Some start → slice_get inputs i ≡ Some x
-      → IsInputSummary limit p h i input start x
+      → IsInputSummary (limit_of_input limit input.format) p h i input start x
   pub read : AreReadOn limit p h starts lefts inputs
 
 -- A run whose inputs workers served, and what is told of it.
-pub record IsServedRun {R G : Type 0} (remaining : R → Option (List ℕ)) (failures : R → ℕ) (limit : ℕ) (p : PlanValue) (station : StationValue) (readers : List R) (ended : List (Ended R G)) (inputs : List InputSummary) (lent : List (R × G)) : Type 0 where
+pub record IsServedRun {R G : Type 0} (remaining : R → Option (List ℕ)) (failures : R → ℕ) (limit : InputLimit) (p : PlanValue) (station : StationValue) (readers : List R) (ended : List (Ended R G)) (inputs : List InputSummary) (lent : List (R × G)) : Type 0 where
   pub each : (i : ℕ) (input : InputValue) → slice_get p.request.inputs i ≡ Some input → IsServedAt remaining failures limit p station readers ended i input
   pub plan_is : station.history.run.plan ≡ p
   pub sound : IsSound station.history
@@ -58,9 +60,9 @@ pub record IsServedRun {R G : Type 0} (remaining : R → Option (List ℕ)) (fai
   pub count : length ended ≡ length p.request.inputs
 
 -- the station kept an input that its worker served
-pub served_input : {R G : Type 0} (remaining : R → Option (List ℕ)) (failures : R → ℕ) (limit : ℕ) (p : PlanValue) (station : StationValue) (readers : List R) (ended : List (Ended R G)) (i : ℕ) (input : InputValue)
+pub served_input : {R G : Type 0} (remaining : R → Option (List ℕ)) (failures : R → ℕ) (limit : InputLimit) (p : PlanValue) (station : StationValue) (readers : List R) (ended : List (Ended R G)) (i : ℕ) (input : InputValue)
     → slice_get p.request.inputs i ≡ Some input → (x : IsServedAt remaining failures limit p station readers ended i input) → station.history.run.plan ≡ p → IsSound station.history → IsLawfulStation station.history station.inputs
-    → IsServedInput remaining limit p station i input x.reader x.end.reader x.end.report
+    → IsServedInput remaining (limit_of_input limit input.format) p station i input x.reader x.end.reader x.end.report
 served_input remaining failures limit p station readers ended i input at x plan_is sound kept =
     let plan : IsMultiplexPlan p = subst IsMultiplexPlan plan_is sound.plan in
     record {
@@ -72,9 +74,9 @@ served_input remaining failures limit p station readers ended i input at x plan_
     }
 
 -- an input of it
-record IsServedWith {R G : Type 0} (remaining : R → Option (List ℕ)) (failures : R → ℕ) (limit : ℕ) (p : PlanValue) (station : StationValue) (readers : List R) (ended : List (Ended R G)) (inputs : List InputSummary) (lent : List (R × G)) (i : ℕ) (input : InputValue) : Type 0 where
+record IsServedWith {R G : Type 0} (remaining : R → Option (List ℕ)) (failures : R → ℕ) (limit : InputLimit) (p : PlanValue) (station : StationValue) (readers : List R) (ended : List (Ended R G)) (inputs : List InputSummary) (lent : List (R × G)) (i : ℕ) (input : InputValue) : Type 0 where
   at : IsServedAt remaining failures limit p station readers ended i input
-  served : IsServedInput remaining limit p station i input at.reader at.end.reader at.end.report
+  served : IsServedInput remaining (limit_of_input limit input.format) p station i input at.reader at.end.reader at.end.report
   start_is : slice_get (map remaining readers) i ≡ Some (remaining at.reader)
   left_is : slice_get (map (λ l. remaining l.0) lent) i ≡ Some (remaining at.end.reader)
   came_back : slice_get (map (λ l. l.0) lent) i ≡ Some at.end.reader
@@ -88,7 +90,7 @@ lent_at {R} {G} f ended lent i e is at =
     let pair : Ended R G → R × G = λ x. (x.reader, x.gate) in
     slice_get-map f lent i ∙ ap (option_map f) (ap (λ (v : List (R × G)). slice_get v i) is ∙ slice_get-map pair ended i ∙ ap (option_map pair) at)
 
-served_with : {R G : Type 0} (remaining : R → Option (List ℕ)) (failures : R → ℕ) (limit : ℕ) (p : PlanValue) (station : StationValue) (readers : List R) (ended : List (Ended R G)) (inputs : List InputSummary) (lent : List (R × G))
+served_with : {R G : Type 0} (remaining : R → Option (List ℕ)) (failures : R → ℕ) (limit : InputLimit) (p : PlanValue) (station : StationValue) (readers : List R) (ended : List (Ended R G)) (inputs : List InputSummary) (lent : List (R × G))
     → IsServedRun remaining failures limit p station readers ended inputs lent → (i : ℕ) (input : InputValue) → slice_get p.request.inputs i ≡ Some input
     → IsServedWith remaining failures limit p station readers ended inputs lent i input
 served_with {R} {G} remaining failures limit p station readers ended inputs lent run i input at =
@@ -107,7 +109,7 @@ served_with {R} {G} remaining failures limit p station readers ended inputs lent
       last = run.reported.reports i x.end told.0 x.end_is told.1;
     }
 
-module _ {R G : Type 0} (remaining : R → Option (List ℕ)) (failures : R → ℕ) (limit : ℕ) (p : PlanValue) (station : StationValue) (readers : List R) (ended : List (Ended R G)) (inputs : List InputSummary) (lent : List (R × G))
+module _ {R G : Type 0} (remaining : R → Option (List ℕ)) (failures : R → ℕ) (limit : InputLimit) (p : PlanValue) (station : StationValue) (readers : List R) (ended : List (Ended R G)) (inputs : List InputSummary) (lent : List (R × G))
     (run : IsServedRun remaining failures limit p station readers ended inputs lent) where
   abbrev starts : List (Option (List ℕ))
   starts = map remaining readers
@@ -155,16 +157,16 @@ module _ {R G : Type 0} (remaining : R → Option (List ℕ)) (failures : R → 
         let x = served_with remaining failures limit p station readers ended inputs lent run i input at in
         let first : remaining x.at.reader ≡ start = same_Some (remaining x.at.reader) start (sym x.start_is ∙ from) in
         let mine : x.told ≡ s = same_Some x.told s (sym x.told_is ∙ told) in
-        let P : Option (List ℕ) → Type 0 = λ v. IsInputSummary limit p station.history.events i input v s in
-        let Q : InputSummary → Type 0 = λ v. IsInputSummary limit p station.history.events i input (remaining x.at.reader) v in
-        subst P first (subst Q mine (input_summary remaining limit p station i input x.at.reader x.at.end.reader x.at.end.report x.told x.served (run.had_memory i x.at.end x.at.end_is) x.last (subst (λ v. IsTotals v i station.history.events x.told.totals) run.plan_is (run.reported.totals i x.told x.told_is))));
+        let P : Option (List ℕ) → Type 0 = λ v. IsInputSummary (limit_of_input limit input.format) p station.history.events i input v s in
+        let Q : InputSummary → Type 0 = λ v. IsInputSummary (limit_of_input limit input.format) p station.history.events i input (remaining x.at.reader) v in
+        subst P first (subst Q mine (input_summary remaining (limit_of_input limit input.format) p station i input x.at.reader x.at.end.reader x.at.end.report x.told x.served (run.had_memory i x.at.end x.at.end_is) x.last (subst (λ v. IsTotals v i station.history.events x.told.totals) run.plan_is (run.reported.totals i x.told x.told_is))));
     read = λ i input start left s at from to told.
         let x = served_with remaining failures limit p station readers ended inputs lent run i input at in
         let first : remaining x.at.reader ≡ start = same_Some (remaining x.at.reader) start (sym x.start_is ∙ from) in
         let last : remaining x.at.end.reader ≡ left = same_Some (remaining x.at.end.reader) left (sym x.left_is ∙ to) in
         let mine : x.told ≡ s = same_Some x.told s (sym x.told_is ∙ told) in
-        subst (λ (v : Option (List ℕ) × Option (List ℕ) × InputSummary). IsReadOn limit p station.history.events i input v.0 v.1 v.2) (λ k. (first k, last k, mine k))
-        (read_on remaining limit p station i input x.at.reader x.at.end.reader x.at.end.report x.told x.served x.last);
+        subst (λ (v : Option (List ℕ) × Option (List ℕ) × InputSummary). IsReadOn (limit_of_input limit input.format) p station.history.events i input v.0 v.1 v.2) (λ k. (first k, last k, mine k))
+        (read_on remaining (limit_of_input limit input.format) p station i input x.at.reader x.at.end.reader x.at.end.report x.told x.served x.last);
   }
 
   pub all_failures_told : FailuresAreTold failures readers (map (λ l. l.0) lent) inputs

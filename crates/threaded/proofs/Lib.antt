@@ -1,6 +1,8 @@
 pub mod ResultLaws
 pub mod ListLaws
 pub mod DrivingLaws
+pub mod WritingLaws
+pub mod HandingLaws
 pub mod CrewLaws
 pub mod ReportLaws
 pub mod InputsLaws

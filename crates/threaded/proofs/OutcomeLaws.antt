@@ -8,8 +8,9 @@ use Rattle.std.proofs.lemmas.Slice.Zip.{length-zip}
 use Rattle.std.specs.Io.KnownBytes.{Appends}
 use Rattle.request.specs.Request.{InputValue}
 use Rattle.plan.specs.Build.{PlanValue}
-use Rattle.tspkt.specs.Framed.{framed}
-use Rattle.reading.specs.Takeable.{origin_of, takeable}
+use Rattle.reading.specs.Takeable.{origin_of, framed_at, takeable}
+use Rattle.reading.specs.InputLimit.{limit_of_input}
+use Rattle.reading.specs.declared.input_limit.InputLimit.{InputLimit}
 use Rattle.mux.specs.declared.event.Event.{Event}
 use Rattle.mux.specs.History.{Run, History, slots, emitted}
 use Rattle.mux.specs.Plans.{IsMultiplexPlan}
@@ -121,7 +122,7 @@ ready_seated {R} {G} p slots readers gates opened seats ready of_readers of_gate
     let N : ℕ → Type 0 = λ k. slice_get (rings_of opened.inputs) k ≡ Some seat.1.ring in
     subst N (sym f.2.number) there
 
-served_at : {R G : Type 0} (remaining : R → Option (List ℕ)) (failures : R → ℕ) (p : PlanValue) (slots limit : ℕ) (opened station : StationValue) (readers : List R) (gates : List G) (ports : List PortValue) (workers : List (Worker R (RunGate G))) (ended : List (Ended R G))
+served_at : {R G : Type 0} (remaining : R → Option (List ℕ)) (failures : R → ℕ) (p : PlanValue) (slots : ℕ) (limit : InputLimit) (opened station : StationValue) (readers : List R) (gates : List G) (ports : List PortValue) (workers : List (Worker R (RunGate G))) (ended : List (Ended R G))
     → IsOpened p slots opened ports → AreOfInputs (length p.request.inputs) readers gates ports → AreStarted limit p (seats_of readers gates ports) workers → length workers ≡ length p.request.inputs → length ended ≡ length workers
     → AreEnded remaining failures station workers ended → (i : ℕ) (input : InputValue) → slice_get p.request.inputs i ≡ Some input → IsServedAt remaining failures limit p station readers ended i input
 served_at {R} {G} remaining failures p slots limit opened station readers gates ports workers ended is are started all_started all_ended ends i input at =
@@ -145,22 +146,22 @@ served_at {R} {G} remaining failures p slots limit opened station readers gates 
     }
 
 -- What was taken of each input begins what can be taken of it.
-begun : {R G : Type 0} (remaining : R → Option (List ℕ)) (failures : R → ℕ) (limit : ℕ) (p : PlanValue) (station : StationValue) (readers : List R) (ended : List (Ended R G))
+begun : {R G : Type 0} (remaining : R → Option (List ℕ)) (failures : R → ℕ) (limit : InputLimit) (p : PlanValue) (station : StationValue) (readers : List R) (ended : List (Ended R G))
     → ((i : ℕ) (input : InputValue) → slice_get p.request.inputs i ≡ Some input → IsServedAt remaining failures limit p station readers ended i input) → AreBegun p station.history.events (map remaining readers)
 begun remaining failures limit p station readers ended each i input all at start =
     let x = each i input at in
     let r = from_map remaining readers i (Some all) start in
     let same : r.0 ≡ x.reader = same_Some r.0 x.reader (sym r.1 ∙ x.reader_is) in
-    served_begins remaining limit p station i input x.reader x.end.reader x.end.report all x.served (ap remaining (sym same) ∙ r.2)
+    served_begins remaining (limit_of_input limit input.format) p station i input x.reader x.end.reader x.end.report all x.served (ap remaining (sym same) ∙ r.2)
 
 -- a run that took nothing
-pub begun_nothing : {R : Type 0} (remaining : R → Option (List ℕ)) (failures : R → ℕ) (run : Run) (limit : ℕ) (readers : List R) (before : Option (List ℕ)) (failed : ℕ) (fault : RunFault) → IsMultiplexPlan run.plan → run.limit ≤ 1099511627776
+pub begun_nothing : {R : Type 0} (remaining : R → Option (List ℕ)) (failures : R → ℕ) (run : Run) (limit : InputLimit) (readers : List R) (before : Option (List ℕ)) (failed : ℕ) (fault : RunFault) → IsMultiplexPlan run.plan → run.limit ≤ 1099511627776
     → HasBegun remaining failures (record { run = run; events = [] }) limit readers before before failed failed fault
 begun_nothing remaining failures run limit readers before failed fault plan few =
     let inputs = nothing_left remaining failures limit run.plan readers failed failed fault refl in
     record {
       sound = sound_nothing run.plan run.limit plan few;
-      begun = λ i input all at start. (takeable run.plan (origin_of i input) (framed 188 all), refl);
+      begun = λ i input all at start. (takeable run.plan (origin_of i input) (framed_at (origin_of i input) all), refl);
       needed = tt;
       written = ([], nothing_sent run.plan [] before [] refl refl);
       lefts = inputs.lefts;
@@ -197,7 +198,7 @@ analysed_yet p slots opened ports output is analysed =
     subst P (sym is.history) analysed
 
 -- what the workers of the inputs served
-pub all_served : {R G : Type 0} (remaining : R → Option (List ℕ)) (failures : R → ℕ) (p : PlanValue) (slots limit : ℕ) (opened station : StationValue) (readers : List R) (gates : List G) (seats : List ((R × G) × PortValue)) (ended : List (Ended R G))
+pub all_served : {R G : Type 0} (remaining : R → Option (List ℕ)) (failures : R → ℕ) (p : PlanValue) (slots : ℕ) (limit : InputLimit) (opened station : StationValue) (readers : List R) (gates : List G) (seats : List ((R × G) × PortValue)) (ended : List (Ended R G))
     → IsReady p slots readers gates opened seats → length readers ≡ length p.request.inputs → length gates ≡ length p.request.inputs → HaveWorked remaining failures limit p station seats ended
     → (i : ℕ) (input : InputValue) → slice_get p.request.inputs i ≡ Some input → IsServedAt remaining failures limit p station readers ended i input
 all_served {R} {G} remaining failures p slots limit opened station readers gates seats ended ready of_readers of_gates have =
@@ -207,14 +208,14 @@ all_served {R} {G} remaining failures p slots limit opened station readers gates
     (have.all ∙ ready_count p slots readers gates opened seats ready of_readers of_gates) have.count have.became
 
 -- what was taken of inputs that had their workers
-begun_worked : {R G : Type 0} (remaining : R → Option (List ℕ)) (failures : R → ℕ) (p : PlanValue) (slots limit : ℕ) (opened station : StationValue) (readers : List R) (gates : List G) (seats : List ((R × G) × PortValue)) (ended : List (Ended R G))
+begun_worked : {R G : Type 0} (remaining : R → Option (List ℕ)) (failures : R → ℕ) (p : PlanValue) (slots : ℕ) (limit : InputLimit) (opened station : StationValue) (readers : List R) (gates : List G) (seats : List ((R × G) × PortValue)) (ended : List (Ended R G))
     → IsReady p slots readers gates opened seats → length readers ≡ length p.request.inputs → length gates ≡ length p.request.inputs → HaveWorked remaining failures limit p station seats ended
     → AreBegun p station.history.events (map remaining readers)
 begun_worked remaining failures p slots limit opened station readers gates seats ended ready of_readers of_gates have =
     begun remaining failures limit p station readers ended (all_served remaining failures p slots limit opened station readers gates seats ended ready of_readers of_gates have)
 
 -- some workers weren't started: then nothing was taken
-pub begun_stopped : {R G : Type 0} (remaining : R → Option (List ℕ)) (failures : R → ℕ) (p : PlanValue) (slots limit : ℕ) (opened station : StationValue) (readers : List R) (gates : List G) (seats : List ((R × G) × PortValue))
+pub begun_stopped : {R G : Type 0} (remaining : R → Option (List ℕ)) (failures : R → ℕ) (p : PlanValue) (slots : ℕ) (limit : InputLimit) (opened station : StationValue) (readers : List R) (gates : List G) (seats : List ((R × G) × PortValue))
     → IsReady p slots readers gates opened seats → length readers ≡ length p.request.inputs → length gates ≡ length p.request.inputs
     → ((ended : List (Ended R G)) × HaveWorked remaining failures limit p station seats ended) ⊎ (station ≡ opened) → AreBegun p station.history.events (map remaining readers)
 begun_stopped remaining failures p slots limit opened station readers gates seats ready of_readers of_gates (inl have) =
@@ -222,10 +223,10 @@ begun_stopped remaining failures p slots limit opened station readers gates seat
 begun_stopped remaining failures p slots limit opened station readers gates seats ready of_readers of_gates (inr same) =
     let none : station.history.events ≡ [] = ap (λ (s : StationValue). s.history.events) same ∙ ap (λ (h : History). h.events) ready.opened.history in
     let P : List Event → Type 0 = λ h. AreBegun p h (map remaining readers) in
-    subst P (sym none) (λ i input all at start. (takeable p (origin_of i input) (framed 188 all), refl))
+    subst P (sym none) (λ i input all at start. (takeable p (origin_of i input) (framed_at (origin_of i input) all), refl))
 
 -- as many inputs are told of as the plan has
-pub worked_count : {R G : Type 0} (remaining : R → Option (List ℕ)) (failures : R → ℕ) (p : PlanValue) (slots limit : ℕ) (opened station : StationValue) (readers : List R) (gates : List G) (seats : List ((R × G) × PortValue)) (ended : List (Ended R G))
+pub worked_count : {R G : Type 0} (remaining : R → Option (List ℕ)) (failures : R → ℕ) (p : PlanValue) (slots : ℕ) (limit : InputLimit) (opened station : StationValue) (readers : List R) (gates : List G) (seats : List ((R × G) × PortValue)) (ended : List (Ended R G))
     → IsReady p slots readers gates opened seats → length readers ≡ length p.request.inputs → length gates ≡ length p.request.inputs → HaveWorked remaining failures limit p station seats ended
     → length ended ≡ length p.request.inputs
 worked_count remaining failures p slots limit opened station readers gates seats ended ready of_readers of_gates have =
@@ -233,7 +234,7 @@ worked_count remaining failures p slots limit opened station readers gates seats
 
 -- What is left of the inputs of a run that failed.
 
-module _ {R G : Type 0} (remaining : R → Option (List ℕ)) (failures : R → ℕ) (p : PlanValue) (slots limit : ℕ) (opened station : StationValue) (readers : List R) (gates : List G) (seats : List ((R × G) × PortValue)) (failed_before failed_after : ℕ)
+module _ {R G : Type 0} (remaining : R → Option (List ℕ)) (failures : R → ℕ) (p : PlanValue) (slots : ℕ) (limit : InputLimit) (opened station : StationValue) (readers : List R) (gates : List G) (seats : List ((R × G) × PortValue)) (failed_before failed_after : ℕ)
     (ready : IsReady p slots readers gates opened seats) (of_readers : length readers ≡ length p.request.inputs) (of_gates : length gates ≡ length p.request.inputs)
     (plan_is : station.history.run.plan ≡ p) (sound : IsSound station.history) (kept : IsLawfulStation station.history station.inputs) where
   abbrev LeftAt : RunFault → Type 0
@@ -267,7 +268,7 @@ module _ {R G : Type 0} (remaining : R → Option (List ℕ)) (failures : R → 
   left_stopped run_faults.Memory stopped unwanted wanted = left_memory stopped (wanted refl)
 
 -- a run that failed
-has_begun : {R : Type 0} (remaining : R → Option (List ℕ)) (failures : R → ℕ) (p : PlanValue) (slots limit : ℕ) (opened station : StationValue) (ports : List PortValue) (output : SlotWriter) (readers : List R) (before after : Option (List ℕ)) (failed_before failed_after : ℕ) (fault : RunFault)
+has_begun : {R : Type 0} (remaining : R → Option (List ℕ)) (failures : R → ℕ) (p : PlanValue) (slots : ℕ) (limit : InputLimit) (opened station : StationValue) (ports : List PortValue) (output : SlotWriter) (readers : List R) (before after : Option (List ℕ)) (failed_before failed_after : ℕ) (fault : RunFault)
     → IsOpened p slots opened ports → output.writer ≡ [] → BreaksOff opened station output before after → IsSound station.history → AreBegun p station.history.events (map remaining readers)
     → AreLeft remaining failures limit p station.history.events readers failed_before failed_after fault
     → HasBegun remaining failures (record { run = record { plan = p; limit = slots }; events = station.history.events }) limit readers before after failed_before failed_after fault
@@ -299,7 +300,7 @@ faults_exact run h told within few is =
     is ∙ min-eq_left fits
 
 -- a run that ended by itself
-has_run : (p : PlanValue) (slots limit : ℕ) (opened station : StationValue) (ports : List PortValue) (a b : SlotWriter) (starts lefts : List (Option (List ℕ))) (before after : Option (List ℕ)) (s : Summary)
+has_run : (p : PlanValue) (slots : ℕ) (limit : InputLimit) (opened station : StationValue) (ports : List PortValue) (a b : SlotWriter) (starts lefts : List (Option (List ℕ))) (before after : Option (List ℕ)) (s : Summary)
     → slots ≤ 1099511627776 → IsOpened p slots opened ports → a.writer ≡ [] → HasAnalysed a p.request.rate p.request.watch [] → IsDriven opened station a b before after → IsSound station.history
     → AreBegun p station.history.events starts → IsToldOfInputs limit p station.history.events starts lefts s.inputs.items
     → length s.inputs.items ≡ length p.request.inputs → ArePeaks station.history.run.plan station.history.events s.streams.items → IsCounts station.history.events s.counts → s.faults ≡ b.faults → s.fault_report ≡ b.report
@@ -338,7 +339,7 @@ has_run p slots limit opened station ports a b starts lefts before after s few i
 
 -- What a run makes that was ready to be started, as it ends.
 
-pub run_failed : {R G : Type 0} (remaining : R → Option (List ℕ)) (failures : R → ℕ) (p : PlanValue) (slots limit : ℕ) (opened : StationValue) (readers : List R) (gates : List G) (seats : List ((R × G) × PortValue)) (output : SlotWriter) (before after : Option (List ℕ)) (failed_before failed_after : ℕ) (fault : RunFault)
+pub run_failed : {R G : Type 0} (remaining : R → Option (List ℕ)) (failures : R → ℕ) (p : PlanValue) (slots : ℕ) (limit : InputLimit) (opened : StationValue) (readers : List R) (gates : List G) (seats : List ((R × G) × PortValue)) (output : SlotWriter) (before after : Option (List ℕ)) (failed_before failed_after : ℕ) (fault : RunFault)
     → IsReady p slots readers gates opened seats → length readers ≡ length p.request.inputs → length gates ≡ length p.request.inputs → output.writer ≡ []
     → IsCutShort remaining failures limit p opened seats output before after failed_before failed_after fault
     → (h : List Event) × HasBegun remaining failures (record { run = record { plan = p; limit = slots }; events = h }) limit readers before after failed_before failed_after fault
@@ -350,7 +351,7 @@ run_failed remaining failures p slots limit opened readers gates seats output be
           (left_stopped remaining failures p slots limit opened f.station readers gates seats failed_before failed_after ready of_readers of_gates plan_is f.sound f.lawful fault f.stopped f.unwanted f.wanted),
     )
 
-served_run : {R G : Type 0} (remaining : R → Option (List ℕ)) (failures : R → ℕ) (p : PlanValue) (slots limit : ℕ) (opened : StationValue) (readers : List R) (gates : List G) (seats : List ((R × G) × PortValue)) (output : SlotWriter) (before after : Option (List ℕ)) (s : Summary) (lent : List (R × G))
+served_run : {R G : Type 0} (remaining : R → Option (List ℕ)) (failures : R → ℕ) (p : PlanValue) (slots : ℕ) (limit : InputLimit) (opened : StationValue) (readers : List R) (gates : List G) (seats : List ((R × G) × PortValue)) (output : SlotWriter) (before after : Option (List ℕ)) (s : Summary) (lent : List (R × G))
     → IsReady p slots readers gates opened seats → length readers ≡ length p.request.inputs → length gates ≡ length p.request.inputs → (e : RunsThrough remaining failures limit p opened seats output before after s lent)
     → IsServedRun remaining failures limit p e.station readers e.ended s.inputs.items lent
 served_run remaining failures p slots limit opened readers gates seats output before after s lent ready of_readers of_gates e = record {
@@ -363,7 +364,7 @@ served_run remaining failures p slots limit opened readers gates seats output be
   count = worked_count remaining failures p slots limit opened e.station readers gates seats e.ended ready of_readers of_gates e.worked;
 }
 
-pub run_ended : {R G : Type 0} (remaining : R → Option (List ℕ)) (failures : R → ℕ) (p : PlanValue) (slots limit : ℕ) (opened : StationValue) (readers : List R) (gates : List G) (seats : List ((R × G) × PortValue)) (output : SlotWriter) (before after : Option (List ℕ)) (s : Summary) (lent : List (R × G))
+pub run_ended : {R G : Type 0} (remaining : R → Option (List ℕ)) (failures : R → ℕ) (p : PlanValue) (slots : ℕ) (limit : InputLimit) (opened : StationValue) (readers : List R) (gates : List G) (seats : List ((R × G) × PortValue)) (output : SlotWriter) (before after : Option (List ℕ)) (s : Summary) (lent : List (R × G))
     → slots ≤ 1099511627776 → IsReady p slots readers gates opened seats → length readers ≡ length p.request.inputs → length gates ≡ length p.request.inputs → output.writer ≡ []
     → HasAnalysed output p.request.rate p.request.watch [] → RunsThrough remaining failures limit p opened seats output before after s lent
     → (h : List Event) × HasRun (record { run = record { plan = p; limit = slots }; events = h }) limit (map remaining readers) (map (λ l. remaining l.0) lent) before after s
@@ -378,14 +379,14 @@ run_ended {R} {G} remaining failures p slots limit opened readers gates seats ou
     )
 
 -- a failed read is told of an input exactly where its reader failed
-pub failures_told : {R G : Type 0} (remaining : R → Option (List ℕ)) (failures : R → ℕ) (p : PlanValue) (slots limit : ℕ) (opened : StationValue) (readers : List R) (gates : List G) (seats : List ((R × G) × PortValue)) (output : SlotWriter) (before after : Option (List ℕ)) (s : Summary) (lent : List (R × G))
+pub failures_told : {R G : Type 0} (remaining : R → Option (List ℕ)) (failures : R → ℕ) (p : PlanValue) (slots : ℕ) (limit : InputLimit) (opened : StationValue) (readers : List R) (gates : List G) (seats : List ((R × G) × PortValue)) (output : SlotWriter) (before after : Option (List ℕ)) (s : Summary) (lent : List (R × G))
     → IsReady p slots readers gates opened seats → length readers ≡ length p.request.inputs → length gates ≡ length p.request.inputs → RunsThrough remaining failures limit p opened seats output before after s lent
     → FailuresAreTold failures readers (map (λ l. l.0) lent) s.inputs.items
 failures_told remaining failures p slots limit opened readers gates seats output before after s lent ready of_readers of_gates e =
     all_failures_told remaining failures limit p e.station readers e.ended s.inputs.items lent (served_run remaining failures p slots limit opened readers gates seats output before after s lent ready of_readers of_gates e)
 
 -- as many readers and gates come back as there were
-pub lent_count : {R G : Type 0} (remaining : R → Option (List ℕ)) (failures : R → ℕ) (p : PlanValue) (slots limit : ℕ) (opened : StationValue) (readers : List R) (gates : List G) (seats : List ((R × G) × PortValue)) (output : SlotWriter) (before after : Option (List ℕ)) (s : Summary) (lent : List (R × G))
+pub lent_count : {R G : Type 0} (remaining : R → Option (List ℕ)) (failures : R → ℕ) (p : PlanValue) (slots : ℕ) (limit : InputLimit) (opened : StationValue) (readers : List R) (gates : List G) (seats : List ((R × G) × PortValue)) (output : SlotWriter) (before after : Option (List ℕ)) (s : Summary) (lent : List (R × G))
     → IsReady p slots readers gates opened seats → length readers ≡ length p.request.inputs → length gates ≡ length p.request.inputs
     → RunsThrough remaining failures limit p opened seats output before after s lent → length lent ≡ length readers
 lent_count {R} {G} remaining failures p slots limit opened readers gates seats output before after s lent ready of_readers of_gates e =
@@ -393,7 +394,7 @@ lent_count {R} {G} remaining failures p slots limit opened readers gates seats o
     ap length e.reported.lent_is ∙ (length-map e.ended lent_of ∙ (worked_count remaining failures p slots limit opened e.station readers gates seats e.ended ready of_readers of_gates e.worked ∙ sym of_readers))
 
 -- what is told of as many inputs as there are seats is told of all
-pub told_count : {R G : Type 0} (remaining : R → Option (List ℕ)) (failures : R → ℕ) (limit : ℕ) (p : PlanValue) (opened station : StationValue) (seats : List ((R × G) × PortValue)) (ended : List (Ended R G)) (a b : SlotWriter) (before after : Option (List ℕ))
+pub told_count : {R G : Type 0} (remaining : R → Option (List ℕ)) (failures : R → ℕ) (limit : InputLimit) (p : PlanValue) (opened station : StationValue) (seats : List ((R × G) × PortValue)) (ended : List (Ended R G)) (a b : SlotWriter) (before after : Option (List ℕ))
     → opened.history.run.plan ≡ p → length seats ≡ length p.request.inputs → HaveWorked remaining failures limit p station seats ended → IsDriven opened station a b before after
     → length ended ≡ length station.history.run.plan.request.inputs
 told_count remaining failures limit p opened station seats ended a b before after plan_is size have driven =

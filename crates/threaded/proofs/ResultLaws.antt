@@ -1,24 +1,23 @@
 -- What is said of a result.
-use Rattle.std.proofs.Common.{◌⊎◌, ap, sym, ◌∙◌, inl, inr, refl}
-use Rattle.std.specs.Prelude.{◌≡◌, Result, Ok, Err, IfOk, OnOk, OnErr, IsErrAnd}
+use Rattle.std.proofs.Common.{◌≡◌, ◌⊎◌, sym, inl, inr, refl, subst}
+use Rattle.std.specs.Prelude.{Result, Ok, Err, OnOk, OnErr}
 use Rattle.serial.specs.declared.run_fault.RunFault.{RunFault}
 use Rattle.serial.specs.declared.run_fault.RunFault.TheVariants.{Memory, Write}
-use Rattle.serial.proofs.SendingLaws.{same_err}
-
--- what is said of one that is Ok is nothing where it isn't
-pub if_ok_failed : {T E : Type 0} (P : T → Type 0) (Q : E → Type 0) (r : Result T E) → IsErrAnd r Q → IfOk r P
-if_ok_failed P Q (Ok x) h = absurd h
-if_ok_failed P Q (Err e) h = tt
-
-pub on_ok_failed : {T E : Type 0} (P : Type 0) (Q : E → Type 0) (r : Result T E) → IsErrAnd r Q → OnOk r P
-on_ok_failed P Q (Ok x) h = absurd h
-on_ok_failed P Q (Err e) h = tt
 
 pub ok_no_err : {T E : Type 0} (x : T) (y : E) → Ok x ≡ Err y → ⊥
 ok_no_err x y e = cc
 
 pub not_write : Memory ≡ Write → ⊥
 not_write e = cc
+
+pub not_ok : {T E : Type 0} (P : Type 0) (r : Result T E) (e : E) → r ≡ Err e → OnOk r P
+not_ok {T} {E} P r e is = (let O : Result T E → Type 0 = λ v. OnOk v P in subst O (sym is) tt)
+
+pub is_failed : {T E P : Type 0} (r : Result T E) (e : E) → r ≡ Err e → OnErr r P → P
+is_failed {T} {E} {P} r e is on = (let O : Result T E → Type 0 = λ v. OnErr v P in subst O is on)
+
+pub is_fine : {T E P : Type 0} (r : Result T E) (x : T) → r ≡ Ok x → OnOk r P → P
+is_fine {T} {E} {P} r x is on = (let O : Result T E → Type 0 = λ v. OnOk v P in subst O is on)
 
 -- Want of memory goes before what a run answers.
 
@@ -32,8 +31,3 @@ pub unless_write : {T P Q : Type 0} (r : Result T RunFault) → OnOk r P → (r 
 unless_write (Ok x) p memory write = inl p
 unless_write (Err Memory) p memory write = inl (memory refl)
 unless_write (Err Write) p memory write = inr (write refl)
-
--- A fault that `?` hands on is the one that there was.
-pub handed_on : {T U E : Type 0} (r : Result T E) (s : Result U E) (x e : E) → IsErrAnd r (λ y. y ≡ x) → s ≡ Err x → r ≡ Err e → s ≡ Err e
-handed_on (Ok t) s x e so was is = absurd so
-handed_on (Err y) s x e so was is = was ∙ ap Err (sym so ∙ same_err (Err y) y e refl is)

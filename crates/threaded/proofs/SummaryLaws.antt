@@ -4,7 +4,6 @@ use Rattle.std.specs.Prelude.{IsSome}
 use Rattle.std.specs.Option.{option_to_list}
 use Rattle.std.proofs.lemmas.Bool.{cases_Bool, false≢true}
 use Rattle.std.proofs.lemmas.Option.{none-some, same_Some}
-use Rattle.tspkt.specs.Framed.{framed}
 use Rattle.tspkt.specs.declared.item.Item.{Item}
 use Rattle.tspkt.specs.declared.stamped.Stamped.{Stamped}
 use Rattle.request.specs.Request.{InputValue}
@@ -13,7 +12,7 @@ use Rattle.mux.specs.declared.event.Event.{Event}
 use Rattle.mux.specs.History.{taken, is_closed}
 use Rattle.mux.specs.Totals.{IsTotals}
 use Rattle.reading.specs.Failures.{FailsOnce}
-use Rattle.reading.specs.Takeable.{OriginValue, origin_of, CountsItems}
+use Rattle.reading.specs.Takeable.{OriginValue, origin_of, stride_at, framed_at, CountsItems}
 use Rattle.reading.specs.PacketReading.{BeginsTakeable}
 use Rattle.reading.specs.declared.report.Report.{Report}
 use Rattle.reading.specs.declared.stop.Stop.{Stop}
@@ -119,7 +118,7 @@ counted remaining limit p station i input reader left report s all x had last kn
     let held = option_to_list x.served.inlet.held in
     let rest = x.served.rest in
     let read = option_to_list c.held in
-    let framing = framed_all (remaining reader) (remaining left) x.served.has.bytes all c.looked known x.served.has.read c.framing in
+    let framing = framed_all (stride_at (origin_of i input)) (remaining reader) (remaining left) x.served.has.bytes all c.looked known x.served.has.read c.framing in
     record {
       looked = c.looked;
       later = framing.0;
@@ -158,11 +157,11 @@ ended remaining limit p station i input reader left report s all x last e known 
     let whole = has.whole free in
     let bytes = all_read (remaining reader) (remaining left) has.bytes all known has.read whole.at_end in
     let fits = has.within (λ much. none-some TooMuch (sym free ∙ much)) in
-    let C : List ℕ → Type 0 = λ v. CountsItems p (origin_of i input) (framed 188 v) report in
+    let C : List ℕ → Type 0 = λ v. CountsItems p (origin_of i input) (framed_at (origin_of i input) v) report in
     record {
       within = omega (arith, fits, ap length bytes);
       taken_is = sym (sent_taken remaining limit p station i input reader left report x u.0) ∙ whole_sent remaining limit p station i input reader left report all x.served known free;
-      counts = last_counts p (origin_of i input) (framed 188 all) station.history.events i report s.report last (subst C (sym bytes) whole.counts);
+      counts = last_counts p (origin_of i input) (framed_at (origin_of i input) all) station.history.events i report s.report last (subst C (sym bytes) whole.counts);
     }
 
 pub input_summary : {R : Type 0} (remaining : R → Option (List ℕ)) (limit : ℕ) (p : PlanValue) (station : StationValue) (i : ℕ) (input : InputValue) (reader left : R) (report : Report) (s : InputSummary)

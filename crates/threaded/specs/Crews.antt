@@ -7,6 +7,7 @@ use Rattle.station.specs.Stations.{StationValue, rings_of}
 use Rattle.station.specs.Settling.{IsSettled}
 use Rattle.station.specs.declared.settled.Settled.{Settled}
 use Rattle.worker.specs.declared.worker.Worker.{Worker}
+use Rattle.reading.specs.declared.input_limit.InputLimit.{InputLimit}
 use Rattle.threaded.specs.Working.{IsWorkOf}
 use Rattle.reading.specs.declared.stop.Stop.TheVariants.{Memory}
 use Rattle.threaded.specs.declared.ended.Ended.{Ended}
@@ -16,8 +17,8 @@ use Rattle.threaded.specs.declared.run_gate.RunGate.{RunGate}
 abbrev pub AreUnsent : {R G : Type 0} → List ((R × G) × PortValue) → Type 0
 AreUnsent {R} {G} seats = (i : ℕ) (seat : (R × G) × PortValue) → slice_get seats i ≡ Some seat → seat.1.sent ≡ []
 
--- the worker reads the plan's input i, of at most so many bytes, from this reader, and sends by this port
-pub record IsStarted {R G : Type 0} (limit : ℕ) (plan : PlanValue) (i : ℕ) (reader : R) (port : PortValue) (worker : Worker R G) : Type 0 where
+-- the worker reads the plan's input i, of at most so many bytes at its format, from this reader, and sends by this port
+pub record IsStarted {R G : Type 0} (limit : InputLimit) (plan : PlanValue) (i : ℕ) (reader : R) (port : PortValue) (worker : Worker R G) : Type 0 where
   pub plan_is : worker.plan ≡ plan
   pub number_is : worker.number ≡ i
   pub limit_is : worker.limit ≡ limit
@@ -25,7 +26,7 @@ pub record IsStarted {R G : Type 0} (limit : ℕ) (plan : PlanValue) (i : ℕ) (
   pub port_is : worker.port ≡ port
 
 -- the first of the inputs, each by its reader, its gate and its port, have these workers
-pub record AreStarted {R G : Type 0} (limit : ℕ) (plan : PlanValue) (seats : List ((R × G) × PortValue)) (workers : List (Worker R (RunGate G))) : Type 0 where
+pub record AreStarted {R G : Type 0} (limit : InputLimit) (plan : PlanValue) (seats : List ((R × G) × PortValue)) (workers : List (Worker R (RunGate G))) : Type 0 where
   pub within : length workers ≤ length seats
   pub each : (i : ℕ) (seat : (R × G) × PortValue) (worker : Worker R (RunGate G)) → slice_get seats i ≡ Some seat → slice_get workers i ≡ Some worker
       → IsStarted limit plan i seat.0.0 seat.1 worker
@@ -64,7 +65,7 @@ abbrev pub WantedMemory : {R G : Type 0} → List (Ended R G) → Type 0
 WantedMemory {R} {G} ended = (i : ℕ) × (e : Ended R G) × (slice_get ended i ≡ Some e) × (e.report.stopped ≡ Some Memory)
 
 -- The input at each seat had a worker, and this became of them.
-pub record HaveWorked {R G : Type 0} (remaining : R → Option (List ℕ)) (failures : R → ℕ) (limit : ℕ) (plan : PlanValue) (station : StationValue) (seats : List ((R × G) × PortValue)) (ended : List (Ended R G)) : Type 0 where
+pub record HaveWorked {R G : Type 0} (remaining : R → Option (List ℕ)) (failures : R → ℕ) (limit : InputLimit) (plan : PlanValue) (station : StationValue) (seats : List ((R × G) × PortValue)) (ended : List (Ended R G)) : Type 0 where
   pub workers : List (Worker R (RunGate G))
   pub started : AreStarted limit plan seats workers
   pub all : length workers ≡ length seats

@@ -22,12 +22,6 @@ pub record IsSameRun (old new : StationValue) : Type 0 where
   pub rings : rings_of new.inputs ≡ rings_of old.inputs
   pub needed : TakesAsNeeded old.history.run old.history.events → TakesAsNeeded new.history.run new.history.events
 
--- The run went on: what it sent was analysed, and the sink got of it all but what waits in the buffer.
-pub record GoesOn (old new : StationValue) (a b : SlotWriter) (before after : Option (List ℕ)) : Type 0 where
-  pub same : IsSameRun old new
-  pub analysed : HasAnalysedAll a old.history → HasAnalysedAll b new.history
-  pub written : (first : Option (List ℕ)) → Sends first before (output_of old.history) a.writer → Sends first after (output_of new.history) b.writer
-
 -- The run went on, and failed: the sink got a beginning of what it sent.
 pub record BreaksOff (old new : StationValue) (a : SlotWriter) (before after : Option (List ℕ)) : Type 0 where
   pub same : IsSameRun old new

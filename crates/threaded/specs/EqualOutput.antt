@@ -6,6 +6,7 @@ use Rattle.mux.specs.declared.event.Event.{Event}
 use Rattle.mux.specs.History.{History, emitted}
 use Rattle.mux.specs.Headline.{IsSound}
 use Rattle.mux.specs.Faithful.{IsRunOf, IsFinished}
+use Rattle.reading.specs.declared.input_limit.InputLimit.{InputLimit}
 use Rattle.reading.specs.declared.stop.Stop.{Stop}
 use Rattle.reading.specs.declared.stop.Stop.TheVariants.{Gate}
 use Rattle.serial.specs.Feeding.{AreKnown, packet_lists}
@@ -19,7 +20,7 @@ use Rattle.threaded.specs.Outcome.{HasRun}
 
 -- A run in threads of sources whose bytes are known ended by itself, and nothing but its end stopped an input.
 pub record HasRunUnfailed (h : History) (starts : List (Option (List ℕ))) (before after : Option (List ℕ)) (s : Summary) : Type 0 where
-  pub limit : ℕ
+  pub limit : InputLimit
   pub lefts : List (Option (List ℕ))
   pub runs : HasRun h limit starts lefts before after s
   pub known : AreKnown starts

@@ -2,6 +2,8 @@ pub mod Working
 pub mod Crews
 pub mod Opening
 pub mod Driving
+pub mod Outputs
+pub mod Handing
 pub mod Ending
 pub mod Giving
 pub mod Outcome

@@ -2,7 +2,6 @@
 use Rattle.std.specs.Prelude.{◌≡◌, ◌⊎◌, ℕ, ◌<◌, ◌≤◌, List, [], ◌++◌, length, map, true, false, Option, Some, None}
 use Rattle.std.specs.List.{slice_get}
 use Rattle.std.specs.Io.KnownBytes.{Appends, Consumes}
-use Rattle.tspkt.specs.Framed.{framed}
 use Rattle.tspkt.specs.declared.item.Item.{Item}
 use Rattle.tspkt.specs.declared.stamped.Stamped.{Stamped}
 use Rattle.request.specs.Request.{InputValue}
@@ -14,8 +13,10 @@ use Rattle.mux.specs.History.{History, taken, is_closed, emitted}
 use Rattle.mux.specs.Totals.{IsTotals, IsCounts}
 use Rattle.mux.specs.Headline.{IsSound}
 use Rattle.mux.specs.Faithful.{IsFinished}
-use Rattle.reading.specs.Takeable.{takeable, origin_of, CountsItems}
+use Rattle.reading.specs.InputLimit.{limit_of_input}
+use Rattle.reading.specs.Takeable.{framed_at, takeable, origin_of, CountsItems}
 use Rattle.reading.specs.PacketReading.{BeginsTakeable}
+use Rattle.reading.specs.declared.input_limit.InputLimit.{InputLimit}
 use Rattle.reading.specs.declared.stop.Stop.{Stop}
 use Rattle.reading.specs.declared.stop.Stop.TheVariants.{Gate, Memory, TooMuch}
 use Rattle.serial.specs.Feeding.{AreKnown}
@@ -43,7 +44,7 @@ use Rattle.threaded.specs.declared.ended.Ended.{Ended}
 pub record IsCounted (p : PlanValue) (h : List Event) (i : ℕ) (input : InputValue) (all : List ℕ) (s : InputSummary) : Type 0 where
   pub looked : List Item
   pub later : List Item
-  pub framing : looked ++ later ≡ framed 188 all
+  pub framing : looked ++ later ≡ framed_at (origin_of i input) all
   pub counts : CountsItems p (origin_of i input) looked s.report
   pub on_their_way : List Stamped
   pub taken_is : takeable p (origin_of i input) looked ≡ taken i h ++ on_their_way
@@ -62,20 +63,20 @@ pub record IsInputSummary (limit : ℕ) (p : PlanValue) (h : List Event) (i : �
   pub unrefused : s.report.stopped ≡ Some Memory → ⊥
   pub too_much : s.report.stopped ≡ Some TooMuch → (all : List ℕ) → start ≡ Some all → limit < length all
 
--- What is said of a run is so.
-pub record IsSummary (limit : ℕ) (p : PlanValue) (h : List Event) (starts : List (Option (List ℕ))) (s : Summary) : Type 0 where
+-- What is said of a run is so. Each input may have so many bytes at its format.
+pub record IsSummary (limit : InputLimit) (p : PlanValue) (h : List Event) (starts : List (Option (List ℕ))) (s : Summary) : Type 0 where
   pub length_is : length s.inputs.items ≡ length p.request.inputs
   pub inputs : (i : ℕ) (input : InputValue) (start : Option (List ℕ)) (x : InputSummary)
       → slice_get p.request.inputs i ≡ Some input → slice_get starts i ≡ Some start → slice_get s.inputs.items i ≡ Some x
-      → IsInputSummary limit p h i input start x
+      → IsInputSummary (limit_of_input limit input.format) p h i input start x
   pub streams : ArePeaks p h s.streams.items
   pub counts : IsCounts h s.counts
   pub reported : IsReportOf s.fault_report (faults p.request.rate p.request.watch (emitted p h))
   pub faults : s.faults ≡ length (faults p.request.rate p.request.watch (emitted p h))
 
--- What a run of these sources makes, each of at most so many bytes, where it ends by itself: a history. It leaves them with
--- these bytes to give.
-pub record HasRun (h : History) (limit : ℕ) (starts lefts : List (Option (List ℕ))) (before after : Option (List ℕ)) (s : Summary) : Type 0 where
+-- What a run of these sources makes, each of at most so many bytes at its input's format, where it ends by itself: a history. It
+-- leaves them with these bytes to give.
+pub record HasRun (h : History) (limit : InputLimit) (starts lefts : List (Option (List ℕ))) (before after : Option (List ℕ)) (s : Summary) : Type 0 where
   -- it is lawful, and sound
   pub sound : IsSound h
   -- it has all slots of the run, or with fewer nothing is left to send
@@ -105,10 +106,10 @@ pub record IsLeft {R : Type 0} (remaining : R → Option (List ℕ)) (failures :
   pub within : (left.1 ≡ Some TooMuch → ⊥) → length bytes ≤ limit
   pub unclosed : left.1 ≡ Some Gate → is_closed i h ≡ false
 
--- What a run of these readers makes, each of at most so many bytes, where it doesn't end by itself but with this fault: a
--- beginning of the packets of a sound history was written. `lefts` are readers as a run may leave them, each with what stopped
--- its worker, if anything: they don't come back. So many writes had failed before the run, and so many after it.
-pub record HasBegun {R : Type 0} (remaining : R → Option (List ℕ)) (failures : R → ℕ) (h : History) (limit : ℕ) (readers : List R) (before after : Option (List ℕ)) (failed_before failed_after : ℕ) (fault : RunFault) : Type 0 where
+-- What a run of these readers makes, each of at most so many bytes at its input's format, where it doesn't end by itself but with
+-- this fault: a beginning of the packets of a sound history was written. `lefts` are readers as a run may leave them, each with
+-- what stopped its worker, if anything: they don't come back. So many writes had failed before the run, and so many after it.
+pub record HasBegun {R : Type 0} (remaining : R → Option (List ℕ)) (failures : R → ℕ) (h : History) (limit : InputLimit) (readers : List R) (before after : Option (List ℕ)) (failed_before failed_after : ℕ) (fault : RunFault) : Type 0 where
   pub sound : IsSound h
   pub begun : AreBegun h.run.plan h.events (map remaining readers)
   pub needed : TakesAsNeeded h.run h.events
@@ -117,7 +118,7 @@ pub record HasBegun {R : Type 0} (remaining : R → Option (List ℕ)) (failures
   pub count : length lefts ≡ length readers
   pub left : (i : ℕ) (input : InputValue) (old : R) (left : R × Option Stop)
       → slice_get h.run.plan.request.inputs i ≡ Some input → slice_get readers i ≡ Some old → slice_get lefts i ≡ Some left
-      → IsLeft remaining failures limit h.run.plan h.events i input old left
+      → IsLeft remaining failures (limit_of_input limit input.format) h.run.plan h.events i input old left
   -- it takes what the inputs give, each input's packets in their order
   pub faithful : AreKnown (map remaining readers)
       → TakesWhatCame h.run.plan (map remaining readers) (map (λ left. remaining left.0) lefts) (map (λ left. left.1) lefts) h.events
@@ -128,7 +129,7 @@ pub record HasBegun {R : Type 0} (remaining : R → Option (List ℕ)) (failures
       ⊎ ((i : ℕ) × (left : R × Option Stop) × (slice_get lefts i ≡ Some left) × (left.1 ≡ Some Memory))
 
 -- An opened run went on to its end: its inputs had their workers, what it sent went out, and this is told of it.
-pub record RunsThrough {R G : Type 0} (remaining : R → Option (List ℕ)) (failures : R → ℕ) (limit : ℕ) (p : PlanValue) (opened : StationValue) (seats : List ((R × G) × PortValue)) (output : SlotWriter) (before after : Option (List ℕ)) (s : Summary) (lent : List (R × G)) : Type 0 where
+pub record RunsThrough {R G : Type 0} (remaining : R → Option (List ℕ)) (failures : R → ℕ) (limit : InputLimit) (p : PlanValue) (opened : StationValue) (seats : List ((R × G) × PortValue)) (output : SlotWriter) (before after : Option (List ℕ)) (s : Summary) (lent : List (R × G)) : Type 0 where
   pub station : StationValue
   pub left : SlotWriter
   pub ended : List (Ended R G)
@@ -145,7 +146,7 @@ pub record RunsThrough {R G : Type 0} (remaining : R → Option (List ℕ)) (fai
 
 -- It failed with this fault: a beginning of what it sent went out. Its inputs had their workers, or nothing was taken of them. So
 -- many writes had failed before, and so many after it.
-pub record IsCutShort {R G : Type 0} (remaining : R → Option (List ℕ)) (failures : R → ℕ) (limit : ℕ) (p : PlanValue) (opened : StationValue) (seats : List ((R × G) × PortValue)) (output : SlotWriter) (before after : Option (List ℕ)) (failed_before failed_after : ℕ) (fault : RunFault) : Type 0 where
+pub record IsCutShort {R G : Type 0} (remaining : R → Option (List ℕ)) (failures : R → ℕ) (limit : InputLimit) (p : PlanValue) (opened : StationValue) (seats : List ((R × G) × PortValue)) (output : SlotWriter) (before after : Option (List ℕ)) (failed_before failed_after : ℕ) (fault : RunFault) : Type 0 where
   pub station : StationValue
   pub stopped : ((ended : List (Ended R G)) × HaveWorked remaining failures limit p station seats ended) ⊎ (station ≡ opened)
   -- a failed write is told where no worker wanted memory, and want of memory at a failed write where one did

@@ -1,7 +1,7 @@
 //! The workers of a run, from their start to their end.
 
 ghost use Rattle.std.specs.Prelude.{◌≡◌, ◌≤◌, List, ℕ, [], length, map, vec_len, vec_capacity, OnOk};
-ghost use Rattle.tspkt.specs.declared.framer.TheConstants.{MAX_LIMIT};
+ghost use Rattle.reading.specs.InputLimit.{IsAllowed};
 ghost use Rattle.threaded.specs.Crews.{AreUnsent, AreStarted, AreOfStation, AreEnded};
 
 use crate::ended::Ended;
@@ -9,7 +9,7 @@ use crate::run_gate::RunGate;
 use crate::work::{WorkHandle, start};
 use plan::Plan;
 use port::{Gate, Port};
-use reading::Source;
+use reading::{InputLimit, Source};
 use station::Station;
 use std::alloc::{AllocError, Global};
 use std::sync::atomic::AtomicBool;
@@ -18,8 +18,8 @@ use std::thread::Threads;
 use std::time::Clock;
 use worker::Worker;
 
-/// Starts a worker for each input of a plan, in their order, each of at most `limit` bytes. `Err` is want of memory, or that no
-/// thread can be made; the threads that were started then run.
+/// Starts a worker for each input of a plan, in their order, each of which may have as many bytes as `limit` says at its format.
+/// `Err` is want of memory, or that no thread can be made; the threads that were started then run.
 pub(crate) fn start_all<
     T: Threads + Wait + Clock + Copy + Send + Drop + 'static,
     R: Source + Send + Drop + 'static,
@@ -28,12 +28,12 @@ pub(crate) fn start_all<
     alloc: Global,
     rt: T,
     plan: &Plan,
-    limit: u64,
+    limit: InputLimit,
     is_over: &Arc<AtomicBool, Global>,
     seats: Vec<((R, G), Port)>,
     handles: &mut Vec<WorkHandle<R, G>>,
 ) -> Result<(), AllocError>
-    requires limit { limit ≤ MAX_LIMIT }
+    requires limit { IsAllowed limit }
     requires count { length seats.items ≤ length plan.now.request.inputs }
     requires unsent { AreUnsent seats.items }
     requires none { handles.old.items ≡ [] }

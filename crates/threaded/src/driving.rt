@@ -1,80 +1,78 @@
-//! How a run goes on, and what goes out of it.
+//! How a run goes on, and how what goes out of it is handed on.
 
-ghost use Rattle.std.specs.Prelude.{◌≡◌, ◌⊎◌, ◌≤◌, ◌++◌, ℕ, List, Ok, Err, OnOk, OnErr, vec_capacity};
-ghost use Rattle.reading.specs.Failures.{FailsOnce};
+ghost use Rattle.std.specs.Prelude.{◌≡◌, ◌⊎◌, ◌≤◌, ◌++◌, ◌∷◌, [], ℕ, List, true, IfSome, MatchBool, vec_capacity};
 ghost use Rattle.serial.specs.Running.{IsOver};
-ghost use Rattle.serial.specs.Sending.{bytes_of, HasAnalysed};
-ghost use Rattle.serial.specs.Written.{Sends, SendsBeginning};
-ghost use Rattle.threaded.specs.Driving.{GoesOn, BreaksOff, IsDriven};
+ghost use Rattle.station.specs.Stations.{StationValue};
+ghost use Rattle.threaded.specs.Handing.{HandsAll, HandsSome, IsHandedOn};
+ghost use Rattle.threaded.specs.Outputs.{packets_in};
 
+use crate::passage::STEPS;
 use crate::turn::Turn;
 use mux::Sending;
-use serial::{RunFault, Sink, SlotWriter};
+use port::{FinishedPort, Port};
 use station::Station;
 use std::alloc::Global;
-use std::sync::Wait;
+use std::sync::atomic::{AtomicBool, Ordering};
+use std::sync::{Arc, Wait};
 use std::time::Clock;
-use tspkt::Packet;
+use tspkt::{Packet, Stamped};
 use worker::pause;
 
-/// How many steps a station goes on by at once, at most: each sends a slot, or takes what comes next of an input.
-const STEPS: usize = 256;
-
-/// Lets the station go on until nothing is left to send or the run has all its slots, and writes what goes out. Where an input
-/// isn't ready the calling thread lets others go first.
-#[tactic(auto, using(crate::proofs::DrivingLaws::goes_nowhere, crate::proofs::DrivingLaws::goes_goes, crate::proofs::DrivingLaws::breaks_nowhere))]
-pub(crate) fn drive<T: Wait + Clock, W: Sink>(
-    alloc: Global,
+/// Lets the station go on until nothing is left to send or the run has all its slots, and sends by a port what goes out, and
+/// then the end mark. Where an input isn't ready, or the port's ring is full, the calling thread lets others go first. Where the
+/// run is over before, no mark is sent. `packets` has room for what goes out in a turn.
+#[tactic(auto, using(crate::proofs::HandingLaws::hands_nothing, crate::proofs::HandingLaws::ends_handing, crate::proofs::HandingLaws::cuts_handing))]
+pub(crate) fn drive<T: Wait + Clock>(
     rt: &T,
     station: &mut Station,
-    output: &mut SlotWriter,
-    sink: &mut W,
-) -> Result<(), RunFault>
-    ensures driven { OnOk result
-        (IsDriven station.old station.new output.old output.new (W.contents sink.old) (W.contents sink.new)) }
-    ensures broken { OnErr result
-        (BreaksOff station.old station.new output.old (W.contents sink.old) (W.contents sink.new)) }
-    ensures failures { OnOk result (W.failures sink.new ≡ W.failures sink.old) }
-    ensures memory { result ≡ Err RunFault.Memory → W.failures sink.new ≡ W.failures sink.old }
-    ensures failed { result ≡ Err RunFault.Write → FailsOnce (W.failures sink.old) (W.failures sink.new) }
+    packets: &mut Vec<Packet>,
+    port: Port,
+    is_over: &Arc<AtomicBool, Global>,
+) -> FinishedPort
+    requires unsent { port.sent ≡ [] }
+    requires room { STEPS ≤ vec_capacity packets.old }
+    ensures { IsHandedOn station.old station.new port.ring result }
 {
-    let mut packets = Vec::with_capacity(alloc, STEPS)?;
+    let mut port = port;
     for _ in rt.forever() {
-        match step(station, &mut packets, output, sink)? {
+        match step(rt, station, packets, &mut port, is_over) {
             Turn::Goes => {}
             Turn::Waits => pause(rt),
-            Turn::Over => return output.flush(sink),
+            Turn::Over => return end(rt, port, is_over),
+            Turn::CutShort => return port.finish(),
         }
     }
     unreachable!()
 }
 
-/// Lets the station go on by some steps, and analyses and writes what went out. `packets` has room for it.
-fn step<W: Sink>(
+/// Lets the station go on by some steps, and sends by the port what went out. `packets` has room for it.
+fn step<T: Wait + Clock>(
+    rt: &T,
     station: &mut Station,
     packets: &mut Vec<Packet>,
-    output: &mut SlotWriter,
-    sink: &mut W,
-) -> Result<Turn, RunFault>
+    port: &mut Port,
+    is_over: &Arc<AtomicBool, Global>,
+) -> Turn
     requires { STEPS ≤ vec_capacity packets.old }
-    ensures goes { OnOk result
-        (GoesOn station.old station.new output.old output.new (W.contents sink.old) (W.contents sink.new)) }
-    ensures over { result ≡ Ok Turn.Over → IsOver station.new.history.run station.new.history.events }
+    ensures ring { port.new.ring ≡ port.old.ring }
+    ensures all { (result ≡ Turn.CutShort → ⊥) → (start : StationValue)
+        → HandsAll start station.old port.old.sent → HandsAll start station.new port.new.sent }
+    ensures some { (start : StationValue)
+        → HandsAll start station.old port.old.sent → HandsSome start station.new port.new.sent }
+    ensures over { result ≡ Turn.Over → IsOver station.new.history.run station.new.history.events }
     ensures room { STEPS ≤ vec_capacity packets.new }
-    ensures broken { OnErr result
-        (BreaksOff station.old station.new output.old (W.contents sink.old) (W.contents sink.new)) }
-    ensures failures { OnOk result (W.failures sink.new ≡ W.failures sink.old) }
-    ensures memory { result ≡ Err RunFault.Memory → W.failures sink.new ≡ W.failures sink.old }
-    ensures failed { result ≡ Err RunFault.Write → FailsOnce (W.failures sink.old) (W.failures sink.new) }
 {
     let answer = station.advance(STEPS, packets);
-    put_all(packets.as_slice(), output, sink)?;
-    Ok(turn_of(answer, packets.is_empty()))
+    if !send_all(rt, packets.as_slice(), port, is_over) {
+        return Turn::CutShort;
+    }
+    turn_of(answer, packets.is_empty())
 }
 
 /// What a turn did whose steps ended with this answer, by what went out.
 fn turn_of(answer: Sending, is_nothing_sent: bool) -> Turn
-    ensures { result ≡ Turn.Over → (answer ≡ Sending.Done) ⊎ (answer ≡ Sending.RunFull) }
+    ensures over { result ≡ Turn.Over → (answer ≡ Sending.Done) ⊎ (answer ≡ Sending.RunFull) }
+    ensures goes { result ≡ Turn.CutShort → ⊥ }
 {
     match answer {
         Sending::NotReady(_) if is_nothing_sent => Turn::Waits,
@@ -83,25 +81,69 @@ fn turn_of(answer: Sending, is_nothing_sent: bool) -> Turn
     }
 }
 
-/// Analyses and writes packets, in their order.
-fn put_all<W: Sink>(
+/// Sends packets by the port, in their order. False is answered where the run was over before.
+fn send_all<T: Wait + Clock>(
+    rt: &T,
     packets: &[Packet],
-    output: &mut SlotWriter,
-    sink: &mut W,
-) -> Result<(), RunFault>
-    ensures analysed { OnOk result ((rate period : ℕ) (slots : List (List ℕ))
-        → HasAnalysed output.old rate period slots
-        → HasAnalysed output.new rate period (slots ++ packets.now)) }
-    ensures written { OnOk result
-        (Sends (W.contents sink.old) (W.contents sink.new) (output.old.writer ++ bytes_of packets.now) output.new.writer) }
-    ensures begun { OnErr result
-        (SendsBeginning (W.contents sink.old) (W.contents sink.new) (output.old.writer ++ bytes_of packets.now)) }
-    ensures failures { OnOk result (W.failures sink.new ≡ W.failures sink.old) }
-    ensures memory { result ≡ Err RunFault.Memory → W.failures sink.new ≡ W.failures sink.old }
-    ensures failed { result ≡ Err RunFault.Write → FailsOnce (W.failures sink.old) (W.failures sink.new) }
+    port: &mut Port,
+    is_over: &Arc<AtomicBool, Global>,
+) -> bool
+    ensures ring { port.new.ring ≡ port.old.ring }
+    ensures sent { (rest : List (List ℕ))
+        × (packets_in port.old.sent ++ packets.now ≡ packets_in port.new.sent ++ rest)
+        × (result ≡ true → rest ≡ []) }
 {
     for packet in packets {
-        output.put(packet, sink)?;
+        if !send(rt, packet, port, is_over) {
+            return false;
+        }
     }
-    Ok(())
+    !is_over.load(Ordering::SeqCst)
+}
+
+/// Sends a packet by the port, as soon as its ring has a free place. False is answered where the run was over before.
+fn send<T: Wait + Clock>(
+    rt: &T,
+    packet: &Packet,
+    port: &mut Port,
+    is_over: &Arc<AtomicBool, Global>,
+) -> bool
+    ensures ring { port.new.ring ≡ port.old.ring }
+    ensures sent { MatchBool result
+        (packets_in port.new.sent ≡ packets_in port.old.sent ++ packet.now ∷ [])
+        (port.new ≡ port.old) }
+{
+    for _ in rt.forever() {
+        // The time of a packet that goes out is its place, so none is told.
+        let item = Stamped {
+            packet: *packet,
+            stamp: 0,
+        };
+        if port.offer(item).is_ok() {
+            return true;
+        }
+        if is_over.load(Ordering::SeqCst) {
+            return false;
+        }
+        pause(rt);
+    }
+    unreachable!()
+}
+
+/// Ends the port with the end mark, as soon as its ring has a free place, or without it where the run was over before.
+fn end<T: Wait + Clock>(rt: &T, port: Port, is_over: &Arc<AtomicBool, Global>) -> FinishedPort
+    ensures { IfSome result.shown (λ shown. shown ≡ port) }
+{
+    let mut port = port;
+    for _ in rt.forever() {
+        match port.end() {
+            Ok(finished) => return finished,
+            Err(back) => port = back,
+        }
+        if is_over.load(Ordering::SeqCst) {
+            return port.finish();
+        }
+        pause(rt);
+    }
+    unreachable!()
 }

@@ -1,8 +1,9 @@
-//! The run in threads: each input is read in a thread of its own, and the calling thread takes its packets into the multiplex
-//! and writes what goes out.
+//! The run in threads: each input is read in a thread of its own, the calling thread takes its packets into the multiplex, and
+//! one thread more analyses and writes what goes out.
 //!
-//! A ring an input leads from its worker to the one station, which the calling thread owns and ticks. What is written is what
-//! the run in one thread would write: the packets of a sound history that takes of each input what can be taken of its bytes.
+//! A ring an input leads from its worker to the one station, which the calling thread owns and ticks, and one ring more from the
+//! station to the output. What is written is what the run in one thread would write: the packets of a sound history that takes
+//! of each input what can be taken of its bytes.
 #![tactic(auto)]
 
 mod crew;
@@ -11,11 +12,16 @@ mod ended;
 mod ending;
 pub mod laws;
 mod opening;
+mod outlet;
+mod output_thread;
+mod output_worker;
+mod passage;
 mod run;
 mod run_gate;
 mod seats;
 mod turn;
 mod work;
 mod working;
+mod written;
 
 pub use run::run_threads;

@@ -1,29 +1,30 @@
 //! A whole run.
 
 ghost use Rattle.std.specs.Prelude.{◌≡◌, ◌⊎◌, ◌^◌, ◌≤◌, List, length, map, Err, IfOk, IfErr, OnOk};
-ghost use Rattle.tspkt.specs.declared.framer.TheConstants.{MAX_LIMIT};
 ghost use Rattle.mux.specs.declared.event.Event.{Event};
 ghost use Rattle.mux.specs.Plans.{IsMultiplexPlan};
 ghost use Rattle.reading.specs.Failures.{FailsOnce};
+ghost use Rattle.reading.specs.InputLimit.{IsAllowed};
 ghost use Rattle.serial.specs.Outcome.{FailuresAreTold};
 ghost use Rattle.threaded.specs.Crews.{AreUnsent, AreSeated};
 ghost use Rattle.threaded.specs.Outcome.{HasRun, HasBegun, RunsThrough, IsCutShort};
 
 use crate::ending::end_run;
 use crate::opening::{Opening, open};
+use crate::outlet::Outlet;
 use crate::working::work_through;
 use plan::Plan;
 use port::Gate;
-use reading::Source;
+use reading::{InputLimit, Source};
 use serial::{RunFault, Sink, Summary};
 use std::alloc::Global;
 use std::sync::Wait;
 use std::thread::Threads;
 use std::time::Clock;
 
-/// Runs a plan in threads: reads one reader an input, each in a thread of its own and at most `limit` bytes of each (up to
-/// 140,737,488,355,328), and writes the packet of each slot, at most so many slots (0 to 2^40). It ends where all inputs have
-/// ended and nothing waits, or where it has all its slots.
+/// Runs a plan in threads: reads one reader an input, each in a thread of its own and at most as many bytes of each as `limit` says
+/// at the input's format (up to 140,737,488,355,328), and analyses and writes the packet of each slot in one thread more, at most so
+/// many slots (0 to 2^40). It ends where all inputs have ended and nothing waits, or where it has all its slots.
 ///
 /// Each input has a gate, which is asked before each read, after each packet that went into the input's ring, and after each
 /// packet or end mark that found it full. Where it says no the input is read no further and left open, so a run whose gates
@@ -36,19 +37,19 @@ pub fn run_threads<
     T: Threads + Wait + Clock + Copy + Send + Drop + 'static,
     R: Source + Send + Drop + 'static,
     G: Gate + Send + Drop + 'static,
-    W: Sink,
+    W: Sink + Send + Drop + 'static,
 >(
     alloc: Global,
     rt: T,
     plan: Plan,
     slots: u64,
-    limit: u64,
+    limit: InputLimit,
     readers: Vec<R>,
     gates: Vec<G>,
     writer: W,
 ) -> (W, Result<(Summary, Vec<(R, G)>), RunFault>)
     requires slots { slots ≤ 2 ^ 40 }
-    requires limit { limit ≤ MAX_LIMIT }
+    requires limit { IsAllowed limit }
     requires readers { length readers.items ≡ length plan.request.inputs }
     requires gates { length gates.items ≡ length plan.request.inputs }
     ensures runs { IfOk result.1 (λ done. (h : List Event)
@@ -66,9 +67,11 @@ pub fn run_threads<
         ⊎ FailsOnce (W.failures writer) (W.failures result.0) }
     ensures write_failed { result.1 ≡ Err RunFault.Write → FailsOnce (W.failures writer) (W.failures result.0) }
 {
-    let mut sink = writer;
-    let result = run_to(alloc, rt, plan, slots, limit, readers, gates, &mut sink);
-    (sink, result)
+    known(&plan);
+    let Ok(opening) = open(alloc, &plan, slots, readers, gates) else {
+        return (writer, Err(RunFault::Memory));
+    };
+    run_opened(alloc, rt, &plan, limit, opening, writer)
 }
 
 /// What every plan keeps.
@@ -79,84 +82,44 @@ fn known(plan: &Plan)
     let _ = plan.rounds().rate();
 }
 
-/// The same, with the writer lent.
-#[tactic(none)]
-fn run_to<
-    T: Threads + Wait + Clock + Copy + Send + Drop + 'static,
-    R: Source + Send + Drop + 'static,
-    G: Gate + Send + Drop + 'static,
-    W: Sink,
->(
-    alloc: Global,
-    rt: T,
-    plan: Plan,
-    slots: u64,
-    limit: u64,
-    readers: Vec<R>,
-    gates: Vec<G>,
-    sink: &mut W,
-) -> Result<(Summary, Vec<(R, G)>), RunFault>
-    requires slots { slots ≤ 2 ^ 40 }
-    requires limit { limit ≤ MAX_LIMIT }
-    requires readers { length readers.items ≡ length plan.request.inputs }
-    requires gates { length gates.items ≡ length plan.request.inputs }
-    ensures runs { IfOk result (λ done. (h : List Event)
-        × HasRun (record { run = record { plan = plan; limit = slots }; events = h }) limit
-        (map R.remaining readers.items) (map (λ lent. R.remaining lent.0) done.1.items)
-        (W.contents sink.old) (W.contents sink.new) done.0) }
-    ensures begins { IfErr result (λ fault. (h : List Event)
-        × HasBegun R.remaining R.failures (record { run = record { plan = plan; limit = slots }; events = h }) limit
-        readers.items (W.contents sink.old) (W.contents sink.new) (W.failures sink.old) (W.failures sink.new) fault) }
-    ensures lent { IfOk result (λ done. length done.1.items ≡ length readers.items) }
-    ensures read_failed { IfOk result (λ done.
-        FailuresAreTold R.failures readers.items (map (λ lent. lent.0) done.1.items) done.0.inputs.items) }
-    ensures wrote { OnOk result (W.failures sink.new ≡ W.failures sink.old) }
-    ensures memory { result ≡ Err RunFault.Memory → (W.failures sink.new ≡ W.failures sink.old)
-        ⊎ FailsOnce (W.failures sink.old) (W.failures sink.new) }
-    ensures write_failed { result ≡ Err RunFault.Write → FailsOnce (W.failures sink.old) (W.failures sink.new) }
-{
-    known(&plan);
-    let opening = open(alloc, &plan, slots, readers, gates)?;
-    run_opened(alloc, rt, &plan, limit, opening, sink)
-}
-
 /// Runs what was opened, to its end.
 #[tactic(none)]
 fn run_opened<
     T: Threads + Wait + Clock + Copy + Send + Drop + 'static,
     R: Source + Send + Drop + 'static,
     G: Gate + Send + Drop + 'static,
-    W: Sink,
+    W: Sink + Send + Drop + 'static,
 >(
     alloc: Global,
     rt: T,
     plan: &Plan,
-    limit: u64,
+    limit: InputLimit,
     opening: Opening<R, G>,
-    sink: &mut W,
-) -> Result<(Summary, Vec<(R, G)>), RunFault>
-    requires limit { limit ≤ MAX_LIMIT }
+    sink: W,
+) -> (W, Result<(Summary, Vec<(R, G)>), RunFault>)
+    requires limit { IsAllowed limit }
     requires plan { opening.station.history.run.plan ≡ plan.now }
     requires count { length opening.seats.items ≡ length plan.now.request.inputs }
     requires unsent { AreUnsent opening.seats.items }
     requires seated { AreSeated opening.station opening.seats.items }
-    ensures ended { IfOk result (λ done. RunsThrough R.remaining R.failures limit plan.now
-        opening.station opening.seats.items opening.output (W.contents sink.old) (W.contents sink.new) done.0 done.1.items) }
-    ensures failed { IfErr result (λ fault. IsCutShort R.remaining R.failures limit plan.now
-        opening.station opening.seats.items opening.output (W.contents sink.old) (W.contents sink.new)
-        (W.failures sink.old) (W.failures sink.new) fault) }
-    ensures wrote { OnOk result (W.failures sink.new ≡ W.failures sink.old) }
-    ensures memory { result ≡ Err RunFault.Memory → (W.failures sink.new ≡ W.failures sink.old)
-        ⊎ FailsOnce (W.failures sink.old) (W.failures sink.new) }
-    ensures write_failed { result ≡ Err RunFault.Write → FailsOnce (W.failures sink.old) (W.failures sink.new) }
+    ensures ended { IfOk result.1 (λ done. RunsThrough R.remaining R.failures limit plan.now
+        opening.station opening.seats.items opening.output (W.contents sink) (W.contents result.0) done.0 done.1.items) }
+    ensures failed { IfErr result.1 (λ fault. IsCutShort R.remaining R.failures limit plan.now
+        opening.station opening.seats.items opening.output (W.contents sink) (W.contents result.0)
+        (W.failures sink) (W.failures result.0) fault) }
+    ensures wrote { OnOk result.1 (W.failures result.0 ≡ W.failures sink) }
+    ensures memory { result.1 ≡ Err RunFault.Memory → (W.failures result.0 ≡ W.failures sink)
+        ⊎ FailsOnce (W.failures sink) (W.failures result.0) }
+    ensures write_failed { result.1 ≡ Err RunFault.Write → FailsOnce (W.failures sink) (W.failures result.0) }
 {
     let Opening {
         mut station,
         seats,
-        mut output,
+        output,
         is_over,
     } = opening;
-    let worked = work_through(
+    let outlet = Outlet { output, sink };
+    let (outlet, worked) = work_through(
         alloc,
         rt,
         plan,
@@ -164,12 +127,18 @@ fn run_opened<
         &is_over,
         seats,
         &mut station,
-        &mut output,
-        sink,
+        outlet,
     );
     // What every station keeps is known with this.
     let _ = station.slots();
-    let ended = worked?;
+    let Outlet { output, sink } = outlet;
+    let ended = match worked {
+        Ok(ended) => ended,
+        Err(fault) => return (sink, Err(fault)),
+    };
     let streams = plan.streams().len();
-    Ok(end_run(alloc, &station, ended, streams, output)?)
+    match end_run(alloc, &station, ended, streams, output) {
+        Ok(done) => (sink, Ok(done)),
+        Err(_) => (sink, Err(RunFault::Memory)),
+    }
 }

@@ -8,4 +8,6 @@ pub(crate) enum Turn {
     Waits,
     /// Nothing is left to send, or the run has all its slots.
     Over,
+    /// The run was over before all was handed on.
+    CutShort,
 }

@@ -157,8 +157,8 @@ nothing_decided stride (Synced (suc skip)) p kept h w item k =
 pub waiting_told_all : (f : FramerState) → IsFramer f.stride f.limit f.position f.mode f.kept → HasToldAll f
 waiting_told_all f is = nothing_decided f.stride f.mode f.position f.kept is.long is.waits
 
-pub fresh_told_all : (limit : ℕ) → HasToldAll (new_framer 188 limit)
-fresh_told_all limit = nothing_decided 188 (Hunting 0) 0 [] (omega arith) (omega arith)
+pub fresh_told_all : (stride limit : ℕ) → 188 ≤ stride → HasToldAll (new_framer stride limit)
+fresh_told_all stride limit h = nothing_decided stride (Hunting 0) 0 [] h (omega arith)
 
 pub told_all_where_taken : {T E : Type 0} (result : Result T E) (f : FramerState) → OnOk result (IsFramer f.stride f.limit f.position f.mode f.kept) → OnOk result (HasToldAll f)
 told_all_where_taken (Ok done) f is = waiting_told_all f is

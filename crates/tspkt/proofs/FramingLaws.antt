@@ -53,6 +53,18 @@ told_packet stride p (b ∷ bytes) h l s =
     let n : ltb (suc (length bytes)) 188 ≡ false = grind (arith, nat_tests) in
     rw (n, s) (ap (λ (rest : List Item). Packet p (b ∷ take 187 bytes) ∷ rest) (over_packet stride p bytes h (omega arith)))
 
+-- past a whole packet and the bytes behind it
+over_whole : (stride p : ℕ) (bytes : List ℕ) → 188 ≤ stride → stride ≤ length bytes → framed_from stride (Synced (stride - 188)) (p + 188) (drop 188 bytes) ≡ framed_from stride (Synced 0) (p + stride) (drop stride bytes)
+over_whole stride p bytes h l =
+    let whole : 188 + (stride - 188) ≡ stride = omega arith in
+    passed stride (stride - 188) (stride - 188) (p + 188) (drop 188 bytes) (omega arith) (simp length-drop (omega arith))
+    ∙ same_place stride (stride - 188 - (stride - 188)) 0 (p + 188 + (stride - 188)) (p + stride) (drop (stride - 188) (drop 188 bytes)) (omega arith) (omega arith)
+    ∙ ap (framed_from stride (Synced 0) (p + stride)) (drop-drop (stride - 188) 188 bytes ∙ ap (λ (n : ℕ). drop n bytes) whole)
+
+pub told_whole : (stride p : ℕ) (bytes : List ℕ) → 188 ≤ stride → stride ≤ length bytes → is_sync bytes 0 ≡ true → framed_from stride (Synced 0) p bytes ≡ Packet p (take 188 bytes) ∷ framed_from stride (Synced 0) (p + stride) (drop stride bytes)
+told_whole stride p bytes h l s =
+    told_packet stride p bytes h (omega arith) s ∙ ap (λ (rest : List Item). Packet p (take 188 bytes) ∷ rest) (over_whole stride p bytes h l)
+
 pub told_bad : (stride p : ℕ) (bytes : List ℕ) → 188 ≤ stride → stride < length bytes → is_sync bytes 0 ≡ false → is_sync bytes stride ≡ true → framed_from stride (Synced 0) p bytes ≡ Bad p ∷ framed_from stride (Synced 0) (p + stride) (drop stride bytes)
 unfolding framed_from
 told_bad stride p [] h l s t = absurd (omega arith)
@@ -76,6 +88,10 @@ unfolding framed_from
 told_acquired stride a p [] h l s = absurd (omega arith)
 told_acquired stride a p (b ∷ bytes) h l s =
     rw s (ap (λ (rest : List Item). lost a p ++ Packet p (b ∷ take 187 bytes) ∷ rest) (over_packet stride p bytes h (omega arith)))
+
+pub acquired_whole : (stride a p : ℕ) (bytes : List ℕ) → 188 ≤ stride → 4 * stride < length bytes → acquires_sync stride bytes ≡ true → framed_from stride (Hunting a) p bytes ≡ lost a p ++ Packet p (take 188 bytes) ∷ framed_from stride (Synced 0) (p + stride) (drop stride bytes)
+acquired_whole stride a p bytes h l s =
+    told_acquired stride a p bytes h l s ∙ ap (λ (rest : List Item). lost a p ++ Packet p (take 188 bytes) ∷ rest) (over_whole stride p bytes h (omega arith))
 
 pub told_nothing : (stride a p : ℕ) (bytes : List ℕ) → 0 < length bytes → acquires_sync stride bytes ≡ false → framed_from stride (Hunting a) p bytes ≡ framed_from stride (Hunting a) (p + 1) (drop 1 bytes)
 unfolding framed_from
@@ -331,15 +347,15 @@ all_told told rest whole e n =
     ∙ ap packets_of e
 
 -- what was told to the end is the framing of the whole
-pub whole_framed : (f : FramerState) (told items : List Item) (bytes : List ℕ) → f.stride ≡ 188 → IsFramedSoFar f told bytes → items ≡ told ++ still_to_tell f [] → items ≡ framed 188 bytes
-whole_framed f told items bytes s h e = e ∙ h [] ∙ ap (framed f.stride) (append-nil bytes) ∙ ap (λ (stride : ℕ). framed stride bytes) s
+pub whole_framed : {stride : ℕ} (f : FramerState) (told items : List Item) (bytes : List ℕ) → f.stride ≡ stride → IsFramedSoFar f told bytes → items ≡ told ++ still_to_tell f [] → items ≡ framed stride bytes
+whole_framed f told items bytes s h e = e ∙ h [] ∙ ap (framed f.stride) (append-nil bytes) ∙ ap (λ (n : ℕ). framed n bytes) s
 
 -- what was told so far begins the framing of whatever follows, and has the packets of the bytes so far
-pub begins_framed : (f : FramerState) (told : List Item) (bytes : List ℕ) → f.stride ≡ 188 → IsFramedSoFar f told bytes → (more : List ℕ) → (later : List Item) × (told ++ later ≡ framed 188 (bytes ++ more))
-begins_framed f told bytes s h = λ more. (still_to_tell f more, h more ∙ ap (λ (stride : ℕ). framed stride (bytes ++ more)) s)
+pub begins_framed : {stride : ℕ} (f : FramerState) (told : List Item) (bytes : List ℕ) → f.stride ≡ stride → IsFramedSoFar f told bytes → (more : List ℕ) → (later : List Item) × (told ++ later ≡ framed stride (bytes ++ more))
+begins_framed f told bytes s h = λ more. (still_to_tell f more, h more ∙ ap (λ (n : ℕ). framed n (bytes ++ more)) s)
 
-pub packets_framed : (f : FramerState) (told : List Item) (bytes : List ℕ) → f.stride ≡ 188 → IsFramedSoFar f told bytes → packets_of (still_to_tell f []) ≡ [] → packets_of told ≡ packets_of (framed 188 bytes)
-packets_framed f told bytes s h n = all_told told (still_to_tell f []) (framed 188 bytes) (h [] ∙ ap (framed f.stride) (append-nil bytes) ∙ ap (λ (stride : ℕ). framed stride bytes) s) n
+pub packets_framed : {stride : ℕ} (f : FramerState) (told : List Item) (bytes : List ℕ) → f.stride ≡ stride → IsFramedSoFar f told bytes → packets_of (still_to_tell f []) ≡ [] → packets_of told ≡ packets_of (framed stride bytes)
+packets_framed {stride} f told bytes s h n = all_told told (still_to_tell f []) (framed stride bytes) (h [] ∙ ap (framed f.stride) (append-nil bytes) ∙ ap (λ (k : ℕ). framed k bytes) s) n
 
 -- a framer that has something left to tell was given bytes
 pub left_of_bytes : (f : FramerState) (told : List Item) (bytes : List ℕ) → IsFramedSoFar f told bytes → 0 < length (still_to_tell f []) → 0 < length bytes

@@ -1,8 +1,8 @@
 -- The items of a stream of bytes: packets of 188 bytes, each beginning with 0x47 (ISO/IEC 13818-1, 2.4.3.2), one
--- every `stride` bytes. Five good sync bytes in a row acquire sync, and two bad ones in a row lose it, as in
--- ETSI TR 101 290, 5.2.1 (TS_sync_loss); the rest is profile.
+-- every `stride` bytes; what lies between two of them is passed over. Five good sync bytes in a row acquire sync, and two
+-- bad ones in a row lose it, as in ETSI TR 101 290, 5.2.1 (TS_sync_loss); the rest is profile.
 use Rattle.std.specs.Prelude.{◌≡◌, ℕ, zero, suc, ◌+◌, ◌-◌, ◌*◌, ◌<◌, ◌≤◌, ◌==◌, nat_lt, nat_le, Bool, true, ◌&&◌, ◌||◌, if◌then◌else◌, List, [], ◌∷◌, ◌++◌, length, take, drop, slice_index, All}
-use Rattle.std.specs.List.{flat_map}
+use Rattle.std.specs.List.{flat_map, sum_by}
 use Rattle.tspkt.specs.declared.item.Item.{Item}
 use Rattle.tspkt.specs.declared.item.Item.TheVariants.{Packet, Bad, SyncLoss, Lost}
 use Rattle.tspkt.specs.declared.mode.Mode.{Mode}
@@ -55,12 +55,17 @@ packets_of (Lost count ∷ items) = packets_of items
 
 -- What the definition means, in words of its own.
 
--- how many bytes of the stream an item stands for, at 188 bytes from packet to packet
-abbrev pub covered : Item → ℕ
-covered (Packet place bytes) = 188
-covered (Bad place) = 188
-covered (SyncLoss place) = 0
-covered (Lost count) = count
+-- how many bytes of the stream an item stands for, with the bytes behind a packet
+abbrev pub covered : ℕ → Item → ℕ
+covered stride (Packet place bytes) = stride
+covered stride (Bad place) = stride
+covered stride (SyncLoss place) = 0
+covered stride (Lost count) = count
+
+-- The items stand for all bytes of the stream, and for no more but what lacks behind the last packet of 188 bytes.
+pub record IsCovered (stride : ℕ) (stream : List ℕ) (items : List Item) : Type 0 where
+  pub all : length stream ≤ sum_by (covered stride) items
+  pub no_more : sum_by (covered stride) items ≤ length stream + (stride - 188)
 
 -- a packet that is told is the 188 bytes of the stream at its place, and begins with the sync byte
 abbrev pub IsAtItsPlace : List ℕ → Item → Type 0
@@ -70,14 +75,14 @@ IsAtItsPlace stream (Bad place) = Unit {0}
 IsAtItsPlace stream (SyncLoss place) = Unit {0}
 IsAtItsPlace stream (Lost count) = Unit {0}
 
--- packets, one behind the other, the first of them at `place`
-abbrev pub packets_at : ℕ → List (List ℕ) → List Item
-packets_at place [] = []
-packets_at place (packet ∷ packets) = Packet place packet ∷ packets_at (place + 188) packets
+-- the first 188 bytes of each of these, one behind the other, the first of them at `place`
+abbrev pub packets_at : ℕ → ℕ → List (List ℕ) → List Item
+packets_at stride place [] = []
+packets_at stride place (packet ∷ packets) = Packet place (take 188 packet) ∷ packets_at stride (place + stride) packets
 
--- 188 bytes that begin with the sync byte
-abbrev pub IsWhole : List ℕ → Type 0
-IsWhole packet = (length packet ≡ 188) × (is_sync packet 0 ≡ true)
+-- a packet and the bytes behind it: as many as lie from one packet to the next, and they begin with the sync byte
+abbrev pub IsWhole : ℕ → List ℕ → Type 0
+IsWhole stride packet = (length packet ≡ stride) × (is_sync packet 0 ≡ true)
 
 -- What a framer is between two pieces of its stream.
 
@@ -128,7 +133,14 @@ pub record WantsRoom (f : FramerState) (piece : List ℕ) (out : List Item) (pla
 
 -- Where the stream is five whole packets or more, and less than a packet behind them, its items are those packets,
 -- in order, and the loss of the rest.
-abbrev pub ExactOnPackets : List ℕ → List Item → Type 0
-ExactOnPackets stream items =
-    (packets : List (List ℕ)) (rest : List ℕ) → 5 ≤ length packets → All IsWhole packets → length rest < 188
-    → stream ≡ flat_map (λ packet. packet) packets ++ rest → items ≡ packets_at 0 packets ++ lost 0 (length rest)
+abbrev pub ExactOnPackets : ℕ → List ℕ → List Item → Type 0
+ExactOnPackets stride stream items =
+    (packets : List (List ℕ)) (rest : List ℕ) → 5 ≤ length packets → All (IsWhole stride) packets → length rest < 188
+    → stream ≡ flat_map (λ packet. packet) packets ++ rest → items ≡ packets_at stride 0 packets ++ lost 0 (length rest)
+
+-- The same where some of the bytes behind the last packet lack: with them the stream would be five whole packets or more. Its items
+-- are those packets, in order.
+abbrev pub ExactOnLastPacket : ℕ → List ℕ → List Item → Type 0
+ExactOnLastPacket stride stream items =
+    (packets : List (List ℕ)) (lacking : List ℕ) → 5 ≤ length packets → All (IsWhole stride) packets → length lacking ≤ stride - 188
+    → stream ++ lacking ≡ flat_map (λ packet. packet) packets → items ≡ packets_at stride 0 packets

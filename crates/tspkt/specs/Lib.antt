@@ -5,5 +5,6 @@ pub mod Rewritten
 pub mod Counted
 pub mod Stamps
 pub mod PositionClock
+pub mod PacketFormat
 pub mod Framed
 pub mod Stepping

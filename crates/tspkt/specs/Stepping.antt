@@ -1,6 +1,7 @@
 -- For the code of the framer: one step, what waits for more bytes, and what the end tells. No public clause cites it.
 use Rattle.std.specs.Prelude.{◌≡◌, ℕ, zero, suc, ◌+◌, ◌*◌, ◌^◌, ◌<◌, ◌≤◌, ◌==◌, nat_lt, false, if◌then◌else◌, List, [], ◌∷◌, ◌++◌, length, drop, ◌⊎◌}
 use Rattle.tspkt.specs.Framed.{framed_from, is_sync, lost}
+use Rattle.tspkt.specs.declared.framer.TheConstants.{KEPT}
 use Rattle.tspkt.specs.declared.item.Item.{Item}
 use Rattle.tspkt.specs.declared.item.Item.TheVariants.{Bad, Lost}
 use Rattle.tspkt.specs.declared.mode.Mode.{Mode}
@@ -38,7 +39,7 @@ told_at_end (Synced skip) place count = told_of_last place count
 -- the fields of a framer stand for a state in which nothing more can be told
 pub record IsFramer (stride limit position : ℕ) (mode : Mode) (kept : List ℕ) : Type 0 where
   pub long : 188 ≤ stride
-  pub fits : 4 * stride ≤ 752
+  pub fits : 4 * stride ≤ KEPT
   pub limit_fits : limit < 2 ^ 64
   pub within : position + length kept ≤ limit
   pub waits : IsWaiting stride mode kept

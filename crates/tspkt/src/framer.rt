@@ -3,22 +3,17 @@
 use crate::feed_fault::FeedFault;
 use crate::item::Item;
 use crate::mode::Mode;
+use crate::packet_format::PacketFormat;
 use crate::stepping::{advance, tell_end};
 use crate::window::Window;
 use std::alloc::AllocError;
 use std::marker::Model;
 
-/// The distance from one packet to the next, in bytes.
-const STRIDE: usize = 188;
-
-/// The most bytes that are kept between two pieces: four packets.
-const KEPT: usize = 752;
-
-/// The most bytes of one stream where no other limit is given: 16,777,216 packets.
-pub(crate) const LIMIT: u64 = 3_154_116_608;
+/// The most bytes that are kept between two pieces: four packets of 204 bytes.
+const KEPT: usize = 816;
 
 // The packets that it is.
-const _: () = prove!(LIMIT == 16_777_216 * 188);
+const _: () = prove!(KEPT == 4 * 204);
 
 /// The greatest limit of the bytes of one stream: 2^47.
 pub const MAX_LIMIT: u64 = 140_737_488_355_328;
@@ -44,6 +39,7 @@ impl Model for Framer {
     ghost use Rattle.std.specs.Prelude.{◌≤◌, take};
     ghost use Rattle.tspkt.specs.Framed.{FramerState};
     ghost use Rattle.tspkt.specs.Stepping.{IsFramer};
+    ghost use Rattle.tspkt.specs.declared.framer.TheConstants.{KEPT};
 
     ghost Value = { FramerState };
 
@@ -55,26 +51,26 @@ impl Model for Framer {
       kept = take f.count f.kept;
     } };
 
-    ghost invariant = { λ f. (f.count ≤ 752) × IsFramer f.stride f.limit f.position f.mode (take f.count f.kept) };
+    ghost invariant = { λ f. (f.count ≤ KEPT) × IsFramer f.stride f.limit f.position f.mode (take f.count f.kept) };
 }
 
 impl Framer {
-    ghost use Rattle.std.specs.Prelude.{◌≡◌, List, ℕ, [], ◌+◌, ◌<◌, ◌≤◌, ◌↔◌, ◌++◌, length, vec_len, vec_capacity, OnOk, OnErr, IfErr, Err};
+    ghost use Rattle.std.specs.Prelude.{◌≡◌, List, ℕ, [], ◌+◌, ◌*◌, ◌<◌, ◌≤◌, ◌↔◌, ◌++◌, length, vec_len, vec_capacity, OnOk, OnErr, IfErr, Err};
     ghost use Rattle.tspkt.specs.Stepping.{IsFramer};
+    ghost use Rattle.tspkt.specs.PacketFormat.{stride_of};
     ghost use Rattle.tspkt.specs.Framed.{new_framer, seen, still_to_tell, packets_of, framed, HasToldAll, TakesPiece, WantsRoom, IsFramedSoFar};
 
     /// A framer that has seen nothing, for a stream of packets of 188 bytes, at most 3,154,116,608 bytes in all.
     pub fn new() -> Framer
-        ensures state { result ≡ new_framer 188 LIMIT }
+        ensures state { result ≡ new_framer 188 3154116608 }
         ensures framed { IsFramedSoFar result [] [] }
         ensures prompt { packets_of (still_to_tell result []) ≡ [] }
         ensures told_all { HasToldAll result }
     {
-        Framer::with_limit(LIMIT)
+        Framer::with_limit(PacketFormat::Ts188.limit())
     }
 
     /// The same for a stream of at most so many bytes in all, of which there may be up to 140,737,488,355,328.
-    #[tactic(auto, unfolding(crate::specs::Framed::framed_from))]
     pub fn with_limit(limit: u64) -> Framer
         requires { limit ≤ MAX_LIMIT }
         ensures state { result ≡ new_framer 188 limit }
@@ -82,8 +78,20 @@ impl Framer {
         ensures prompt { packets_of (still_to_tell result []) ≡ [] }
         ensures told_all { HasToldAll result }
     {
+        Framer::with_size(PacketFormat::Ts188, limit)
+    }
+
+    /// The same for packets that follow one another as the format says. The limit counts the bytes after packets too.
+    #[tactic(auto, unfolding(crate::specs::Framed::framed_from))]
+    pub fn with_size(format: PacketFormat, limit: u64) -> Framer
+        requires { limit ≤ MAX_LIMIT }
+        ensures state { result ≡ new_framer (stride_of format) limit }
+        ensures framed { IsFramedSoFar result [] [] }
+        ensures prompt { packets_of (still_to_tell result []) ≡ [] }
+        ensures told_all { HasToldAll result }
+    {
         Framer {
-            stride: STRIDE,
+            stride: format.stride(),
             limit,
             position: 0,
             mode: Mode::Hunting(0),
@@ -108,6 +116,9 @@ impl Framer {
         ensures prompt { OnOk result (packets_of (still_to_tell self.new []) ≡ []) }
 
         ensures told_all { OnOk result (HasToldAll self.new) }
+
+        // At most four packets wait for more bytes: 752 or 816.
+        ensures kept { OnOk result (length self.new.kept ≤ 4 * self.new.stride) }
 
         ensures too_much { (result ≡ Err FeedFault.TooMuch) ↔ (self.old.limit < seen self.old + length piece.now) }
         ensures room { result ≡ Err FeedFault.Memory

@@ -4,6 +4,7 @@ ghost use Rattle.std.specs.Prelude.{◌≡◌, ◌+◌, ◌≤◌};
 ghost use Rattle.tspkt.specs.Stamps.{time_of};
 
 use crate::framer::MAX_LIMIT;
+use crate::packet_format::PacketFormat;
 use std::marker::Model;
 
 /// The lowest rate that a clock goes by, in bits a second.
@@ -14,9 +15,6 @@ pub const HIGHEST_RATE: u64 = 100_000_000;
 
 // Half a megabit and a hundred megabits a second.
 const _: () = prove!(2 * LOWEST_RATE == 1_000_000 && HIGHEST_RATE == 100 * 1_000_000);
-
-/// The distance from one packet to the next, in bytes.
-const STRIDE: u64 = 188;
 
 /// The byte of a packet at whose time the packet comes: the last one of a PCR's base.
 const STAMPED_BYTE: u64 = 10;
@@ -33,6 +31,7 @@ pub struct PositionClock {
     position: u64,
     time: u64,
     rest: u64,
+    stride: u64,
     step: u64,
     step_rest: u64,
 }
@@ -44,23 +43,35 @@ impl Model for PositionClock {
 
     ghost view = { λ c. record { rate = c.rate; position = c.position } };
 
-    ghost invariant = { λ c. KeepsPosition c.rate c.position c.time c.rest c.step c.step_rest };
+    ghost invariant = { λ c. KeepsPosition c.rate c.position c.time c.rest c.stride c.step c.step_rest };
 }
 
 impl PositionClock {
-    /// A clock that stands at the first byte of a stream of this rate, 500,000 to 100,000,000 bits a second.
+    /// A clock that stands at the first byte of a stream of packets of 188 bytes and of this rate, 500,000 to 100,000,000 bits a
+    /// second.
     pub fn new(rate: u64) -> PositionClock
         requires lowest { LOWEST_RATE ≤ rate }
         requires highest { rate ≤ HIGHEST_RATE }
         ensures { result ≡ record { rate = rate; position = 0 } }
     {
+        PositionClock::with_size(PacketFormat::Ts188, rate)
+    }
+
+    /// The same for packets that follow one another as the format says. The rate counts the bytes after packets too.
+    pub fn with_size(format: PacketFormat, rate: u64) -> PositionClock
+        requires lowest { LOWEST_RATE ≤ rate }
+        requires highest { rate ≤ HIGHEST_RATE }
+        ensures { result ≡ record { rate = rate; position = 0 } }
+    {
+        let stride = format.stride() as u64;
         let start = STAMPED_BYTE * TICKS_OF_A_BYTE;
-        let length = STRIDE * TICKS_OF_A_BYTE;
+        let length = stride * TICKS_OF_A_BYTE;
         PositionClock {
             rate,
             position: 0,
             time: start / rate,
             rest: start % rate,
+            stride,
             step: length / rate,
             step_rest: length % rate,
         }
@@ -82,29 +93,21 @@ impl PositionClock {
         self.time
     }
 
-    /// Goes to another position, at most 140,737,488,355,328.
+    /// Goes to another position, at most 140,737,488,355,328. To the next packet it goes without a division.
     pub fn go_to(&mut self, position: u64)
         requires { position ≤ MAX_LIMIT }
         ensures { self.new ≡ record self.old { position = position } }
     {
-        if position == self.position + STRIDE {
-            self.advance();
+        if position == self.position + self.stride {
+            self.position = position;
+            self.time += self.step;
+            self.rest += self.step_rest;
+            if self.rate <= self.rest {
+                self.rest -= self.rate;
+                self.time += 1;
+            }
         } else {
             self.jump(position);
-        }
-    }
-
-    /// Goes to the next packet.
-    fn advance(&mut self)
-        requires { self.old.position + 188 ≤ MAX_LIMIT }
-        ensures { self.new ≡ record self.old { position = self.old.position + 188 } }
-    {
-        self.position += STRIDE;
-        self.time += self.step;
-        self.rest += self.step_rest;
-        if self.rate <= self.rest {
-            self.rest -= self.rate;
-            self.time += 1;
         }
     }
 

@@ -19,13 +19,8 @@ abbrev pub most_slots_of : RunLength → ℕ
 most_slots_of (Slots slots) = slots
 most_slots_of All = 1099511627776
 
--- how many bytes of an input such a run reads, at most: 16,777,216 packets, or what framing takes
-abbrev pub most_bytes_of : RunLength → ℕ
-most_bytes_of (Slots slots) = 3154116608
-most_bytes_of All = 140737488355328
-
 -- the numbers of a command are in their ranges: slots of a run, a rate in bits a second, and a period in slots
 abbrev pub IsAllowed : Command → Type 0
 IsAllowed (Run plan out length serial delays strict) = IsAllowedLength length
 IsAllowed (Check plan) = Unit {0}
-IsAllowed (Analyse rate period file) = IsWithin 500000 100000000 rate × IsWithin 1 1000000 period
+IsAllowed (Analyse format rate period file) = IsWithin 500000 100000000 rate × IsWithin 1 1000000 period

@@ -1,6 +1,7 @@
 //! What the program is asked to do.
 
 use crate::run_length::RunLength;
+use tspkt::PacketFormat;
 
 /// What the program is asked to do, in the words of its command line.
 #[derive(Clone, Copy, Debug, PartialEq, Eq)]
@@ -27,7 +28,9 @@ pub enum Command<'a> {
     },
     /// Tell the faults of a stream.
     Analyse {
-        /// The rate, in bits a second, 500,000 to 100,000,000.
+        /// How its packets follow one another.
+        format: PacketFormat,
+        /// The rate of all its bytes, in bits a second, 500,000 to 100,000,000.
         rate: u64,
         /// After how many slots without a packet a PID's absence is told, 1 to 1,000,000.
         period: u64,

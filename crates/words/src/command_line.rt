@@ -1,6 +1,7 @@
 //! The words of a command line.
 
 ghost use Rattle.std.specs.Prelude.{◌≡◌, IfOk, IfSome};
+ghost use Rattle.tspkt.specs.PacketFormat.{stride_of};
 ghost use Rattle.words.specs.Ranges.{IsWithin, IsAllowedLength, IsAllowed};
 
 use crate::command::{Command, LEAST_RATE, LineFault, MOST_RATE, MOST_SLOTS};
@@ -10,6 +11,7 @@ use clap::error::ErrorKind;
 use clap::{ArgMatches, Error};
 use std::alloc::Global;
 use std::convert::AsStr;
+use tspkt::PacketFormat;
 
 /// The number, where it is from `least` to `most`.
 fn within(number: u64, least: u64, most: u64) -> Option<u64>
@@ -33,6 +35,17 @@ fn length_of(matches: &ArgMatches) -> Option<RunLength>
     Some(RunLength::Slots(slots))
 }
 
+/// The format of packets that stand so many bytes apart, if it is one.
+fn format_of(size: u64) -> Option<PacketFormat>
+    ensures { IfSome result (λ format. stride_of format ≡ size) }
+{
+    match size {
+        188 => Some(PacketFormat::Ts188),
+        204 => Some(PacketFormat::Ts204),
+        _ => None,
+    }
+}
+
 /// The command that was read; none where a value is missing or out of its range, which the parser excludes.
 fn command_of<'a>(name: &str, matches: &ArgMatches<'a>) -> Option<Command<'a>>
     ensures { IfSome result IsAllowed }
@@ -50,6 +63,7 @@ fn command_of<'a>(name: &str, matches: &ArgMatches<'a>) -> Option<Command<'a>>
             plan: matches.get_str("plan")?,
         }),
         "analyse" => Some(Command::Analyse {
+            format: format_of(matches.get_one::<u64>("size")?)?,
             rate: within(matches.get_one::<u64>("rate")?, LEAST_RATE, MOST_RATE)?,
             period: within(matches.get_one::<u64>("period")?, 1, MOST_SLOTS)?,
             file: matches.get_str("file")?,

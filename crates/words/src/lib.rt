@@ -10,4 +10,4 @@ mod run_length;
 
 pub use command::{Command, LineFault};
 pub use command_line::line;
-pub use run_length::{RunLength, most_bytes, most_slots};
+pub use run_length::{RunLength, most_slots};

@@ -47,14 +47,20 @@ and what the inputs' rates are where they aren't as the plan states.
 Example:
   ./remux check --plan examples/plan.toml";
 
-const ANALYSE_USAGE: &str = "remux analyse --rate <N> --period <N> <F>";
+const ANALYSE_USAGE: &str = "remux analyse --rate <N> --period <N> [--size <N>] <F>";
 
 const ANALYSE_EXAMPLE: &str =
     "It prints a line for each fault of the first priority of ETSI TR 101 290, and one for the \
 stream. The status is 1 where there is a fault.
 
+With --size 204 sixteen bytes follow each packet, as demodulators hand them out: they are skipped, \
+and --rate counts them. Else packets follow one another every 188 bytes.
+
 Example:
   ./remux analyse --rate 3000000 --period 5000 out.ts";
+
+/// How many bytes may lie from one packet to the next.
+const SIZES: [&str; 2] = ["188", "204"];
 
 /// An option `--NAME` without a value.
 fn flag<'a>(alloc: Global, name: &'a str, help: &'a str) -> Arg<'a> {
@@ -117,6 +123,16 @@ fn period<'a>(alloc: Global) -> Arg<'a> {
     number(alloc, "period", help, 1, MOST_SLOTS).required(true)
 }
 
+/// The option `--size N`, which may be left out.
+fn size<'a>(alloc: Global) -> Arg<'a> {
+    Arg::new(alloc, "size")
+        .long("size")
+        .value_name("N")
+        .help("How many bytes lie from one packet to the next")
+        .value_parser(ValueParser::Names(&SIZES))
+        .default_value("188")
+}
+
 /// A command with its help, and without arguments.
 fn command<'a>(
     alloc: Global,
@@ -158,10 +174,11 @@ fn check_command<'a>(alloc: Global) -> Result<Command<'a>, AllocError> {
 
 fn analyse_command<'a>(alloc: Global) -> Result<Command<'a>, AllocError> {
     let about = "Reports the faults of a stream";
-    let stream = "The stream's file: packets of 188 bytes from its start; - is standard input";
+    let stream = "The stream's file: packets from its start; - is standard input";
     command(alloc, "analyse", about, ANALYSE_USAGE, ANALYSE_EXAMPLE)
         .arg(rate(alloc))?
         .arg(period(alloc))?
+        .arg(size(alloc))?
         .arg(file(alloc, "file", stream))
 }
 

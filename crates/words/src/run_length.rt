@@ -1,12 +1,12 @@
 //! How long a run goes on.
 
-ghost use Rattle.std.specs.Prelude.{◌≡◌, ◌^◌, ◌≤◌};
-ghost use Rattle.words.specs.Ranges.{IsAllowedLength, most_slots_of, most_bytes_of};
+ghost use Rattle.std.specs.Prelude.{◌≡◌};
+ghost use Rattle.words.specs.Ranges.{IsAllowedLength, most_slots_of};
 
 /// How long a run goes on, if its inputs don't end before.
 #[derive(Clone, Copy, Debug, PartialEq, Eq)]
 pub enum RunLength {
-    /// At most so many slots, 1 to 1,000,000, over inputs of up to 3,154,116,608 bytes.
+    /// At most so many slots, 1 to 1,000,000, over inputs of up to 16,777,216 packets.
     Slots(u64),
     /// Until its inputs end: 2^40 slots, a week and more at every rate, over inputs of up to 2^47 bytes.
     All,
@@ -20,16 +20,5 @@ pub fn most_slots(length: RunLength) -> u64
     match length {
         RunLength::Slots(slots) => slots,
         RunLength::All => 1 << 40,
-    }
-}
-
-/// The most bytes of an input of a run of this length.
-pub fn most_bytes(length: RunLength) -> u64
-    ensures value { result ≡ most_bytes_of length }
-    ensures within { result ≤ 2 ^ 47 }
-{
-    match length {
-        RunLength::Slots(_) => 3_154_116_608,
-        RunLength::All => 1 << 47,
     }
 }

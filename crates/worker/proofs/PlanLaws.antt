@@ -1,5 +1,5 @@
 -- The inputs of a plan.
-use Rattle.std.proofs.Common.{◌≡◌, ℕ, List, Some, All, get_or, map, option_map, ap, ◌∙◌, subst}
+use Rattle.std.proofs.Common.{◌≡◌, ℕ, List, Some, All, map, option_map, ap, ◌∙◌, subst}
 use Rattle.std.specs.List.{slice_get}
 use Rattle.std.proofs.lemmas.Option.{slice_get_within, slice_get-map, get_or_from_slice_get}
 use Rattle.request.specs.declared.input.Input.{Input}

@@ -13,10 +13,10 @@ use Rattle.reading.proofs.KnownLaws.{consumes_on}
 use Rattle.reading.proofs.PacketLaws.{reads_nothing, reads_told, takeable_same, unstopped_reading}
 use Rattle.reading.proofs.StreamLaws.{told_failed}
 use Rattle.reading.specs.Counting.{nothing_counted}
-use Rattle.reading.specs.Takeable.{OriginValue, takeable, counted_of, is_well_formed, is_named}
+use Rattle.reading.specs.Takeable.{OriginValue, stride_at, framed_at, takeable, counted_of, is_well_formed, is_named}
 use Rattle.reading.specs.declared.report.Report.{Report}
 use Rattle.reading.specs.declared.stop.Stop.TheVariants.{ReadFailed}
-use Rattle.tspkt.specs.Framed.{framed, packets_of}
+use Rattle.tspkt.specs.Framed.{packets_of}
 use Rattle.tspkt.specs.declared.item.Item.{Item}
 use Rattle.tspkt.specs.declared.item.Item.TheVariants.{Packet, Bad, SyncLoss, Lost}
 use Rattle.port.specs.Rings.{PortValue}
@@ -95,13 +95,13 @@ sends_released {R} remaining failures a x port item is held sent reads =
 
 -- what it gave, and what it holds, is what can be taken of them
 failed_given : {R : Type 0} (remaining : R → Option (List ℕ)) (plan : PlanValue) (x : PacketReader R) (bytes : List ℕ) (given : List Stamped) → HasRead remaining plan x bytes given → x.report.stopped ≡ Some ReadFailed
-    → given ++ option_to_list x.held ≡ takeable plan x.origin (framed 188 bytes)
+    → given ++ option_to_list x.held ≡ takeable plan x.origin (framed_at x.origin bytes)
 failed_given remaining plan x bytes given has failed =
     let items = x.stream.items in
     let none = has.1.over (subst IsSome (sym failed) refl) in
     let all : has.0 ++ items.ahead ≡ has.0 = ap (λ v. has.0 ++ v) none ∙ append-nil has.0 in
-    let told = told_failed items.limit items.framer (has.0 ++ items.ahead) bytes (remaining x.stream.source) x.report.stopped failed has.1.passed in
-    sym has.1.given_is ∙ takeable_same plan x.origin has.0 (framed 188 bytes) (ap packets_of (sym all) ∙ told.packets)
+    let told = told_failed (stride_at x.origin) items.limit items.framer (has.0 ++ items.ahead) bytes (remaining x.stream.source) x.report.stopped failed has.1.passed in
+    sym has.1.given_is ∙ takeable_same plan x.origin has.0 (framed_at x.origin bytes) (ap packets_of (sym all) ∙ told.packets)
 
 none_of : (o : Option Stamped) → length (option_to_list o) ≡ 0 → o ≡ None
 none_of None e = refl
@@ -111,7 +111,7 @@ pub none_behind : {R : Type 0} (remaining : R → Option (List ℕ)) (plan : Pla
     → a.held ≡ None → b.origin ≡ a.origin → a.report.stopped ≡ Some ReadFailed → b.report.stopped ≡ Some ReadFailed → b.held ≡ None
 none_behind remaining plan a b bytes given first second unheld origin failed still =
     let x = failed_given remaining plan a bytes given first failed in
-    let y = failed_given remaining plan b bytes given second still ∙ ap (λ o. takeable plan o (framed 188 bytes)) origin in
+    let y = failed_given remaining plan b bytes given second still ∙ ap (λ o. takeable plan o (framed_at o bytes)) origin in
     let none = ap (λ (o : Option Stamped). length (option_to_list o)) unheld in
     none_of b.held (omega (arith, ap length (y ∙ sym x), length-append given (option_to_list b.held), length-append given (option_to_list a.held), none))
 

@@ -1,23 +1,21 @@
 -- What a worker has done.
-use Rattle.std.proofs.Common.{◌≡◌, ℕ, ◌<◌, List, [], ◌∷◌, ◌++◌, length, Bool, true, false, Option, None, Some, IfSome, MatchBool, ap, ◌∙◌, sym, subst, refl, ◌⊎◌, inl, inr, arith}
-use Rattle.std.specs.Option.{option_to_list}
+use Rattle.std.proofs.Common.{◌≡◌, ℕ, List, [], ◌∷◌, length, Bool, true, false, Option, None, Some, IfSome, MatchBool, ap, ◌∙◌, sym, subst, refl, ◌⊎◌, inl, inr, arith}
 use Rattle.std.proofs.lemmas.Bool.{false≢true}
 use Rattle.std.proofs.lemmas.Option.{none-some}
 use Rattle.std.specs.Io.KnownBytes.{Consumes}
-use Rattle.tspkt.specs.Framed.{framed}
 use Rattle.tspkt.specs.declared.item.Item.{Item}
 use Rattle.tspkt.specs.declared.stamped.Stamped.{Stamped}
 use Rattle.plan.specs.Build.{PlanValue}
-use Rattle.reading.specs.Takeable.{OriginValue, takeable, CountsItems}
+use Rattle.reading.specs.Takeable.{OriginValue, framed_at, CountsItems}
 use Rattle.reading.specs.Failures.{FailsOnce}
 use Rattle.reading.specs.PacketReading.{HasRead, IsSpent, TellsFailures}
 use Rattle.reading.proofs.KnownLaws.{consumes_nothing}
 use Rattle.reading.specs.declared.report.Report.{Report}
 use Rattle.reading.specs.declared.stop.Stop.{Stop}
-use Rattle.reading.specs.declared.stop.Stop.TheVariants.{Gate, ReadFailed, TooMuch, Memory}
+use Rattle.reading.specs.declared.stop.Stop.TheVariants.{Gate, ReadFailed, Memory}
 use Rattle.reading.specs.declared.packet_reader.PacketReader.{PacketReader}
 use Rattle.reading.proofs.PacketLaws.{given_begins, looked_framed, whole_read, failed_read, counts_told, too_much, within_read, counted_stopped}
-use Rattle.port.specs.Rings.{PortValue, FinishedValue}
+use Rattle.port.specs.Rings.{FinishedValue}
 use Rattle.port.specs.Stops.{StopsOnce}
 use Rattle.worker.specs.declared.sender.Sender.{Sender}
 use Rattle.worker.specs.Sending.{HasSent, SendsOn, first_cause}
@@ -98,7 +96,7 @@ sent_of remaining most plan x start bytes sent stop is_ended report read has lim
       let u = no_cause stop x.report.stopped is_ended (sym e ∙ cause) in
       let spent = spent_of x None (sym u.0) (λ b. none-some Memory b) (over u.1) in
       let w = whole_read remaining plan x bytes sent has spent u.0 in
-      record { sent_is = w.given_is; counts = counts_of plan x.origin (framed 188 bytes) x.report report counts w.counts; at_end = w.at_end };
+      record { sent_is = w.given_is; counts = counts_of plan x.origin (framed_at x.origin bytes) x.report report counts w.counts; at_end = w.at_end };
   failed = λ e.
       let same = own_cause stop x.report.stopped report.stopped is_ended cause is.own (λ b. let bad = sym e ∙ b in cc) (λ b. let bad = sym e ∙ b in cc) in
       let u = unstopped_failed stop x.report.stopped is_ended is (sym same ∙ e) in

@@ -2,11 +2,10 @@
 use Rattle.std.specs.Prelude.{◌≡◌, ℕ, ◌<◌, ◌≤◌, List, ◌++◌, length, Bool, true, Option, Some, None, IfSome}
 use Rattle.std.specs.Option.{option_to_list}
 use Rattle.std.specs.Io.KnownBytes.{Consumes, IsAtEnd}
-use Rattle.tspkt.specs.Framed.{framed}
 use Rattle.tspkt.specs.declared.item.Item.{Item}
 use Rattle.tspkt.specs.declared.stamped.Stamped.{Stamped}
 use Rattle.plan.specs.Build.{PlanValue}
-use Rattle.reading.specs.Takeable.{OriginValue, takeable, CountsItems}
+use Rattle.reading.specs.Takeable.{OriginValue, stride_at, framed_at, takeable, CountsItems}
 use Rattle.reading.specs.PacketReading.{BeginsTakeable, CountsTold}
 use Rattle.reading.specs.StreamReading.{BeginsFramed}
 use Rattle.reading.specs.declared.report.Report.{Report}
@@ -15,15 +14,15 @@ use Rattle.port.specs.Rings.{RingId, FinishedValue}
 
 -- The input ended by itself: all that can be taken of its bytes was sent, and the report counts all of their framing.
 pub record IsSentWhole (plan : PlanValue) (origin : OriginValue) (bytes : List ℕ) (left : Option (List ℕ)) (report : Report) (sent : List Stamped) : Type 0 where
-  pub sent_is : sent ≡ takeable plan origin (framed 188 bytes)
-  pub counts : CountsItems plan origin (framed 188 bytes) report
+  pub sent_is : sent ≡ takeable plan origin (framed_at origin bytes)
+  pub counts : CountsItems plan origin (framed_at origin bytes) report
   pub at_end : IsAtEnd left
 
 -- The report counts a beginning of the framing, of which all was sent that can be taken, but for at most one packet: none where
 -- the end mark was sent, and there was memory to read with.
 pub record IsCounted (plan : PlanValue) (origin : OriginValue) (bytes : List ℕ) (left : Option (List ℕ)) (report : Report) (is_ended : Bool) (sent : List Stamped) : Type 0 where
   pub looked : List Item
-  pub framing : BeginsFramed bytes (IsAtEnd left) looked
+  pub framing : BeginsFramed (stride_at origin) bytes (IsAtEnd left) looked
   pub counts : CountsItems plan origin looked report
   pub held : Option Stamped
   pub sent_is : takeable plan origin looked ≡ sent ++ option_to_list held
@@ -39,7 +38,7 @@ pub record HasSentOf (limit : ℕ) (plan : PlanValue) (origin : OriginValue) (st
   -- and are all of it where nothing stopped the worker
   pub whole : report.stopped ≡ None → IsSentWhole plan origin bytes left report sent
   -- at a failed read they are all of it too
-  pub failed : report.stopped ≡ Some ReadFailed → sent ≡ takeable plan origin (framed 188 bytes)
+  pub failed : report.stopped ≡ Some ReadFailed → sent ≡ takeable plan origin (framed_at origin bytes)
   -- and the report counts what was told of the bytes before it
   pub told : report.stopped ≡ Some ReadFailed → CountsTold plan origin bytes (IsAtEnd left) report
   -- it is told as too long exactly where more bytes than it may have were read

@@ -2,11 +2,13 @@
 
 ghost use Rattle.std.specs.Prelude.{◌≡◌, ◌<◌, ◌≤◌, length};
 ghost use Rattle.tspkt.specs.declared.framer.TheConstants.{MAX_LIMIT};
+ghost use Rattle.tspkt.specs.declared.packet_format.PacketFormat.{PacketFormat};
+ghost use Rattle.reading.specs.InputLimit.{limit_of_input};
 
 use crate::sender::Sender;
 use plan::Plan;
 use port::{FinishedPort, Gate, Port};
-use reading::{PacketReader, Report, Source, Stop};
+use reading::{InputLimit, PacketReader, Report, Source, Stop};
 use std::alloc::Global;
 use std::sync::Wait;
 use std::time::Clock;
@@ -17,12 +19,12 @@ pub struct Worker<R, G> {
     alloc: Global,
     plan: Plan,
     number: usize,
-    limit: u64,
+    limit: InputLimit,
     source: R,
     gate: G,
     port: Port,
     ghost known: { number < length plan.request.inputs },
-    ghost within: { limit ≤ MAX_LIMIT },
+    ghost within: { (format : PacketFormat) → limit_of_input limit format ≤ MAX_LIMIT },
     ghost unsent: { length port.sent ≡ 0 },
 }
 
@@ -31,12 +33,13 @@ impl<R: Source + Drop, G: Gate + Drop> Worker<R, G> {
     ghost use Rattle.std.specs.List.{slice_get};
     ghost use Rattle.request.specs.Request.{InputValue};
     ghost use Rattle.reading.specs.Failures.{FailsOnce};
+    ghost use Rattle.reading.specs.InputLimit.{IsAllowed, limit_of_input};
     ghost use Rattle.reading.specs.Takeable.{origin_of};
     ghost use Rattle.port.specs.Stops.{StopsOnce};
     ghost use Rattle.worker.specs.Working.{HasWorked};
 
-    /// The worker of the plan's input with this number, of at most `limit` bytes (up to 140,737,488,355,328), whose port sent
-    /// nothing yet. It takes no memory before it runs.
+    /// The worker of the plan's input with this number, which may have as many bytes as `limit` says (up to 140,737,488,355,328),
+    /// and whose port sent nothing yet. It takes no memory before it runs.
     pub fn new(
         alloc: Global,
         source: R,
@@ -44,10 +47,10 @@ impl<R: Source + Drop, G: Gate + Drop> Worker<R, G> {
         port: Port,
         plan: Plan,
         number: usize,
-        limit: u64,
+        limit: InputLimit,
     ) -> Worker<R, G>
         requires number { number < length plan.request.inputs }
-        requires limit { limit ≤ MAX_LIMIT }
+        requires limit { IsAllowed limit }
         requires unsent { port.sent ≡ [] }
         ensures input { (result.plan ≡ plan) × (result.number ≡ number) × (result.limit ≡ limit) }
         ensures ends { (result.source ≡ source) × (result.gate ≡ gate) × (result.port ≡ port) }
@@ -70,7 +73,7 @@ impl<R: Source + Drop, G: Gate + Drop> Worker<R, G> {
     /// the first is told. The end mark was sent exactly where the gate never said no.
     pub fn run<T: Wait + Clock>(self, rt: &T) -> (Report, FinishedPort, R, G)
         ensures sent { (input : InputValue) → slice_get self.plan.request.inputs self.number ≡ Some input
-            → HasWorked self.limit self.plan (origin_of self.number input) (R.remaining self.source) (R.remaining result.2)
+            → HasWorked (limit_of_input self.limit input.format) self.plan (origin_of self.number input) (R.remaining self.source) (R.remaining result.2)
             self.port.ring result.0 result.1 }
         ensures failed { result.0.stopped ≡ Some Stop.ReadFailed
             → FailsOnce (R.failures self.source) (R.failures result.2) }
@@ -92,7 +95,9 @@ impl<R: Source + Drop, G: Gate + Drop> Worker<R, G> {
         } = self;
         // What all requests keep is known with this.
         let _ = plan.request().rate();
-        let reader = PacketReader::new(alloc, number, &plan.inputs()[number], source, limit);
+        let input = &plan.inputs()[number];
+        let most = limit.bytes(input.format);
+        let reader = PacketReader::new(alloc, number, input, source, most);
         let mut sender = Sender {
             plan,
             reader,

@@ -4,6 +4,7 @@
 //! multiplex of that rate.
 
 use crate::tests::memory_files::{MemoryFiles, does};
+use crate::tests::sizes::{wide_plan, widened};
 use std::alloc::{AllocError, Global};
 use std::process::Abort;
 use std::sync::Wait;
@@ -117,6 +118,23 @@ fn an_input_that_runs_fast_is_told(rt: HostRuntime) -> Result<(), Fail> {
         let done = does(rt, &RUN, &mut files_of(alloc, example::PLAN, &fast(first))?)?;
         assert_eq!(rt; done.texts().1, of_run.as_str());
     }
+    Ok(())
+}
+
+/// The rate of packets of 204 bytes counts all of their bytes: 1,632,000 and 2 in a thousand more. What the services take doesn't:
+/// 1,635,264 * 188 / 204 is 1,507,008, and 1,507,008 * 4 / 502 is 12,008.03.
+#[test]
+fn all_bytes_of_an_input_are_measured(rt: HostRuntime) -> Result<(), Fail> {
+    let alloc = rt.alloc();
+    let mut files = MemoryFiles::new(alloc)?;
+    files.add("x.toml", wide_plan(alloc)?.as_bytes())?;
+    files.add("x.ts", &widened(alloc, &input_of(alloc, &fast(0))?)?)?;
+    let done = does(rt, &CHECK, &mut files)?;
+    let told =
+        "rate: input 0 runs at 1635264 bits a second by the PCRs of PID 0x0101, 2000 ppm above the stated 1632000: state 1635264
+services: measured 12008 bits a second of 1504000, the tables take 45120
+";
+    assert_eq!(rt; told_of_check(done.texts().1), Some(told));
     Ok(())
 }
 

@@ -7,7 +7,7 @@ use std::test::Fail;
 /// The program of the example's input has one stream, of type 0x02 on PID 0x0101. A round has the packets of PAT and PMT and
 /// one of the SDT or the NIT, with two slots each; 500 slots are half a second. Its service 0 has the number 500, its PMT's PID
 /// 0x0100, and one stream, which takes PID 0x0101 of input 0 to 0x0200. Lines are counted in the text of the example's plan.
-const PLAN_CAUSES: [(&str, &str, &str); 24] = [
+const PLAN_CAUSES: [(&str, &str, &str); 25] = [
     (
         "rate = 1504000",
         "rate = 499999",
@@ -54,6 +54,14 @@ the plan has 0 inputs, from 1 to 8
         "fault 2 OutOfRange
 a value of the plan is out of its range
 line 15: input 0: offset is -1, from 0 to 97200000000
+",
+    ),
+    (
+        "offset = 0",
+        "offset = 0\nsize = 192",
+        "fault 2 OutOfRange
+a value of the plan is out of its range
+line 16: input 0: size is 192, either 188 or 204
 ",
     ),
     (

@@ -88,11 +88,16 @@ fn a_missing_key_is_told_with_its_line(rt: HostRuntime) -> Result<(), Fail> {
 
 /// Edits of the example's plan, each of a key that several tables have or that has a header, and what is said of it. In its text
 /// `[[input]]` is line 12 and `[[service]]` line 16; the keys of its last table are lines 22 to 24.
-const WRONG_KEYS: [(&str, &str, &str); 8] = [
+const WRONG_KEYS: [(&str, &str, &str); 9] = [
     (
         "1504000\noffset",
         "true\noffset",
         "line 14: invalid type: boolean `true`, expected an integer in `input.rate`",
+    ),
+    (
+        "offset = 0",
+        "offset = 0\nsize = \"204\"",
+        "line 16: invalid type: string \"204\", expected an integer in `input.size`",
     ),
     (
         "\nleak",

@@ -69,7 +69,7 @@ fn stream(alloc: Global, row: &Row) -> Result<Vec<u8>, Fail> {
 }
 
 /// What was told, in words.
-fn text(alloc: Global, items: &[Item]) -> Result<String, Fail> {
+pub fn text(alloc: Global, items: &[Item]) -> Result<String, Fail> {
     let mut text = String::new(alloc);
     for item in items {
         let (word, number) = match item {
@@ -87,7 +87,7 @@ fn text(alloc: Global, items: &[Item]) -> Result<String, Fail> {
 }
 
 /// Feeds a piece; where that found no memory the framer is as it was, and is fed again.
-fn feed(framer: &mut Framer, piece: &[u8], items: &mut Vec<Item>) -> Result<(), FeedFault> {
+pub fn feed(framer: &mut Framer, piece: &[u8], items: &mut Vec<Item>) -> Result<(), FeedFault> {
     match framer.feed(piece, items) {
         Err(FeedFault::Memory) => framer.feed(piece, items),
         other => other,
@@ -95,7 +95,7 @@ fn feed(framer: &mut Framer, piece: &[u8], items: &mut Vec<Item>) -> Result<(), 
 }
 
 /// Finishes, and once more where that found no memory.
-fn finish(framer: Framer, items: &mut Vec<Item>) -> bool {
+pub fn finish(framer: Framer, items: &mut Vec<Item>) -> bool {
     match framer.finish(items) {
         Ok(()) => true,
         Err((framer, _)) => framer.finish(items).is_ok(),

@@ -67,6 +67,7 @@ pub fn input(alloc: Global) -> Result<InputParts, AllocError> {
         file: String::from_str(alloc, "x.ts")?,
         rate: 1_504_000,
         offset: 0,
+        size: None,
     })
 }
 

@@ -4,6 +4,37 @@ use crate::request_tests::helpers::{example, fault, input, no_lists, service, st
 use request::{Parts, PlanFault};
 use std::alloc::{AllocError, Global};
 
+/// The fault of the example plan with an input of this size.
+fn fault_of_size(alloc: Global, size: Option<i64>) -> Result<Option<PlanFault>, AllocError> {
+    let mut parts = no_lists(alloc)?;
+    let mut first = input(alloc)?;
+    first.size = size;
+    parts.inputs.push(first)?;
+    let row = stream(257, 512, 2_000_000);
+    parts.services.push(service(alloc, 500, 256, &[row])?)?;
+    Ok(fault(alloc, parts))
+}
+
+#[test]
+fn sizes_of_packets(rt: HostRuntime) -> Result<(), PlanFault> {
+    let out = Some(PlanFault::OutOfRange);
+    for (size, wanted) in [
+        (None, None),
+        (Some(188), None),
+        (Some(204), None),
+        (Some(187), out),
+        (Some(189), out),
+        (Some(192), out),
+        (Some(203), out),
+        (Some(205), out),
+        (Some(0), out),
+        (Some(-188), out),
+    ] {
+        assert_eq!(rt; fault_of_size(rt.alloc(), size)?, wanted);
+    }
+    Ok(())
+}
+
 /// A number of a plan.
 #[derive(Clone, Copy, Debug)]
 enum Key {

@@ -3,6 +3,7 @@
 use crate::request_tests::helpers::{EXAMPLE, read, rows};
 use request::{PlanFault, Request};
 use std::alloc::{AllocError, Global};
+use tspkt::PacketFormat;
 
 /// The rates and periods.
 fn rates(request: &Request) -> [u64; 3] {
@@ -32,6 +33,25 @@ fn example_plan(rt: HostRuntime) -> Result<(), PlanFault> {
     let rows = rows(rt.alloc(), &request)?;
     let wanted = [4, 1_504_000, 0, 0, 100, 500, 256, 0, 0, 257, 512, 2_000_000];
     assert_eq!(rt; rows.as_slice(), wanted.as_slice());
+    Ok(())
+}
+
+/// How the packets of the example plan's input follow one another, where another text stands in the place of its offset.
+fn format_with(alloc: Global, text: &str) -> Result<Option<PacketFormat>, PlanFault> {
+    let text = EXAMPLE.replace(alloc, "offset = 0", text)?;
+    let request = read(alloc, text.as_str())?;
+    Ok(request.inputs().first().map(|input| input.format))
+}
+
+#[test]
+fn formats_of_inputs(rt: HostRuntime) -> Result<(), PlanFault> {
+    for (text, wanted) in [
+        ("offset = 0", PacketFormat::Ts188),
+        ("offset = 0\nsize = 188", PacketFormat::Ts188),
+        ("offset = 0\nsize = 204", PacketFormat::Ts204),
+    ] {
+        assert_eq!(rt; format_with(rt.alloc(), text)?, Some(wanted), "{text}");
+    }
     Ok(())
 }
 
@@ -90,6 +110,12 @@ fn faults_of_texts(rt: HostRuntime) -> Result<(), PlanFault> {
         ("offset = 0", "offset = 2026-01-01", bad),
         ("offset = 0", "offset = \"1\"", bad),
         ("offset = 0", "=", bad),
+        ("offset = 0", "offset = 0\nsize = 188", None),
+        ("offset = 0", "offset = 0\nsize = 204", None),
+        ("offset = 0", "offset = 0\nsize = 192", out),
+        ("offset = 0", "offset = 0\nsize = -188", out),
+        ("offset = 0", "offset = 0\nsize = \"188\"", bad),
+        ("offset = 0", "offset = 0\nsize = 188.0", bad),
         ("ring = 64", "ring = 64\nwatch2 = 1", bad),
         ("\"\"", "\"4\"", bad),
         ("\"\"", "\"4 0\"", bad),

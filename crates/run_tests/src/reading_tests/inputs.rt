@@ -4,11 +4,12 @@ use super::bytes_of;
 use super::device::TestReader;
 use acquire::Found;
 use plan::Plan;
-use reading::{INPUT_LIMIT, PacketReader, ReadSource, Report, Stop};
+use reading::{InputLimit, PacketReader, ReadSource, Report, Stop};
 use request::{Input, InputParts, Parts, Request, ServiceParts, StreamParts};
 use std::alloc::Global;
 use std::test::Fail;
 use tables::{Pmt, Sdt};
+use tspkt::PacketFormat;
 
 /// A section with these eight bytes of header and this body: section_length and CRC_32 are put in.
 fn section(alloc: Global, header: [u8; 8], body: &[u8]) -> Result<Vec<u8>, Fail> {
@@ -60,6 +61,7 @@ fn plan(alloc: Global) -> Result<Plan, Fail> {
         file: String::new(alloc),
         rate: 10_000_000,
         offset: 0,
+        size: None,
     };
     let parts = Parts {
         rate: 10_000_000,
@@ -109,8 +111,10 @@ fn times(alloc: Global, step: usize, fails_at: usize) -> Result<(Vec<u64>, Repor
         file: String::new(alloc),
         rate: 10_000_000,
         offset: 0,
+        format: PacketFormat::Ts188,
     };
-    let mut input = PacketReader::new(alloc, 0, &input, ReadSource::new(device), INPUT_LIMIT);
+    let limit = InputLimit::OfFormat.bytes(input.format);
+    let mut input = PacketReader::new(alloc, 0, &input, ReadSource::new(device), limit);
     let mut times = Vec::new(alloc);
     let mut piece = [0; 1000];
     for _ in 0..10 {

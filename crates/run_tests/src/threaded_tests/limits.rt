@@ -4,7 +4,7 @@ use crate::threaded_tests::devices::{TestReader, TestWriter};
 use crate::threaded_tests::gates::OpenGate;
 use anyhow::{Result, bail};
 use example::{packets, plan_of};
-use reading::{ReadSource, Report, Stop};
+use reading::{InputLimit, ReadSource, Report, Stop};
 use serial::{WriteSink, run_serial_within};
 use std::alloc::Global;
 use std::sync::Wait;
@@ -14,7 +14,7 @@ use std::time::Clock;
 use threaded::run_threads;
 
 /// How many bytes the input may have: those of five packets.
-const LIMIT: u64 = 940;
+const LIMIT: InputLimit = InputLimit::Bytes(940);
 
 /// A reader of five packets and so many bytes.
 fn reader(alloc: Global, more: usize) -> Result<ReadSource<TestReader>> {

@@ -7,7 +7,7 @@ use anyhow::{Result, bail};
 use example::packets;
 use plan::Plan;
 use port::Gate;
-use reading::ReadSource;
+use reading::{InputLimit, ReadSource};
 use serial::{RunFault, Summary, WriteSink, run_serial};
 use std::alloc::Global;
 use std::sync::Wait;
@@ -28,9 +28,6 @@ pub fn readers(alloc: Global, fails: bool) -> Result<Vec<ReadSource<TestReader>>
     let second = TestReader::new(packets(alloc, &[5, 6, 7, 8, 9])?);
     Ok(vec![in alloc; ReadSource::new(first), ReadSource::new(second)]?)
 }
-
-/// How many bytes an input of a test may have.
-const LIMIT: u64 = 1_000_000;
 
 /// Runs two inputs in threads, for at most this many slots, to a writer that has room for so many bytes.
 pub fn run_gated<
@@ -54,7 +51,16 @@ pub fn run_gated<
         bytes: Vec::new(alloc),
         room,
     });
-    let (sink, result) = run_threads(alloc, rt, plan, slots, LIMIT, readers, gates, sink);
+    let (sink, result) = run_threads(
+        alloc,
+        rt,
+        plan,
+        slots,
+        InputLimit::OfFormat,
+        readers,
+        gates,
+        sink,
+    );
     let bytes = sink.into_inner().bytes;
     match result {
         Ok((summary, lent)) => Ok((bytes, Ok((summary, gates_of(alloc, lent)?)))),
@@ -73,7 +79,18 @@ fn gates_of<R: Drop, G: Drop>(alloc: Global, lent: Vec<(R, G)>) -> Result<Vec<G>
 
 /// Runs the same two inputs of a plan in one thread.
 pub fn run_in_one(alloc: Global, plan: Plan) -> Result<Ran> {
-    let readers = readers(alloc, false)?;
+    run_one(alloc, plan, 1_000, readers(alloc, false)?)
+}
+
+/// Runs the inputs of a plan in one thread, for at most this many slots.
+pub fn run_one(
+    alloc: Global,
+    plan: Plan,
+    slots: u64,
+    readers: Vec<ReadSource<TestReader>>,
+) -> Result<Ran>
+    requires { slots ≤ 2 ^ 40 }
+{
     if plan.inputs().len() != readers.len() {
         bail!("the plan has another number of inputs");
     }
@@ -81,7 +98,7 @@ pub fn run_in_one(alloc: Global, plan: Plan) -> Result<Ran> {
         bytes: Vec::new(alloc),
         room: usize::MAX,
     });
-    let (sink, result) = run_serial(alloc, plan, 1_000, readers, sink);
+    let (sink, result) = run_serial(alloc, plan, slots, readers, sink);
     let bytes = sink.into_inner().bytes;
     match result {
         Ok((summary, _)) => Ok((bytes, Ok(summary))),

@@ -23,9 +23,17 @@ struct SharedStation {
     is_done: bool,
 }
 
-impl SharedStation {
+/// What two threads lock and tick.
+trait Ticks {
     /// Ticks, where the next slot is of the thread with this number: the even ones are of 0, the odd ones of 1.
-    fn tick(&mut self, rt: &impl Abort, number: u64) {
+    fn tick<A: Abort>(&mut self, rt: &A, number: u64);
+
+    /// Whether nothing is left to send.
+    fn is_done(&self) -> bool;
+}
+
+impl Ticks for SharedStation {
+    fn tick<A: Abort>(&mut self, rt: &A, number: u64) {
         if self.station.slots() % 2 != number {
             return;
         }
@@ -39,6 +47,10 @@ impl SharedStation {
             Sending::NotReady(_) => {}
             _ => self.is_done = true,
         }
+    }
+
+    fn is_done(&self) -> bool {
+        self.is_done
     }
 }
 
@@ -64,9 +76,9 @@ fn send_next(rt: &impl Abort, port: Port, first: u8, sent: &mut u8) -> Option<Po
 }
 
 /// Sends the packets of an input, and locks and ticks, one tick a lock, until nothing is left to send.
-fn send_and_tick<T: Wait + Abort>(
+fn send_and_tick<T: Wait + Abort, S: Ticks>(
     rt: &T,
-    shared: &Mutex<SharedStation>,
+    shared: &Mutex<S>,
     number: u64,
     port: Port,
     first: u8,
@@ -80,7 +92,7 @@ fn send_and_tick<T: Wait + Abort>(
         };
         let mut station = shared.lock(rt);
         station.tick(rt, number);
-        if station.is_done {
+        if station.is_done() {
             break;
         }
         drop(station);
@@ -88,8 +100,21 @@ fn send_and_tick<T: Wait + Abort>(
     }
 }
 
-/// Ticks a station in two threads, each of which sends the packets of an input too: the bytes that went out. Queues and rings
-/// have room for so many packets.
+/// Ticks in two threads, each of which sends the packets of an input too.
+fn tick_in_two<T: Threads + Wait + Abort + Sync, S: Ticks + Send>(
+    rt: &T,
+    shared: &Mutex<S>,
+    first: Port,
+    second: Port,
+) {
+    thread::join(
+        rt,
+        move || send_and_tick(rt, shared, 0, first, 0),
+        move || send_and_tick(rt, shared, 1, second, 5),
+    );
+}
+
+/// Ticks a station in two threads: the bytes that went out. Queues and rings have room for so many packets.
 fn bytes_of<T: Threads + Wait + Abort + Sync>(rt: &T, alloc: Global, room: usize) -> Vec<u8> {
     let plan = plan_with_rings(alloc, room, room, &[0, 0]).expect(rt, "a plan");
     let (station, mut ports) = Station::open(alloc, plan, 1_000).expect(rt, "a station");
@@ -100,12 +125,7 @@ fn bytes_of<T: Threads + Wait + Abort + Sync>(rt: &T, alloc: Global, room: usize
         bytes: Vec::new(alloc),
         is_done: false,
     });
-    let station = &shared;
-    thread::join(
-        rt,
-        move || send_and_tick(rt, station, 0, first, 0),
-        move || send_and_tick(rt, station, 1, second, 5),
-    );
+    tick_in_two(rt, &shared, first, second);
     shared.into_inner().bytes
 }
 

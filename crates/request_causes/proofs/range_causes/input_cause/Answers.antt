@@ -1,18 +1,25 @@
-use Rattle.std.proofs.Common.{◌≡◌, List, Some, slice_get, length, map, refl, ap, ◌∙◌, sym}
-use Rattle.std.specs.Prelude.{option_map}
-use Rattle.std.proofs.lemmas.Option.{slice_get-map, slice_get_read}
-use Rattle.request.specs.declared.input_parts.InputParts.{InputParts}
+use Rattle.std.proofs.Common.{rules, ◌≡◌, true, false, None, ap, ◌∙◌, sym}
+use Rattle.std.specs.Prelude.{is_some}
+use Rattle.std.specs.List.{list_any}
 use Rattle.request.specs.Parts.{input_parts_value}
+use Rattle.request_causes.specs.RangeCauses.{is_outside, input_numbers}
+use Rattle.request_causes.proofs.RangeLaws.{bad_input_number, size_left}
 use Rattle.request_causes.proofs.range_causes.input_cause.Goals as goal
 
-pub returns-in-Some-clause-cause : goal.returns-in-Some-clause-cause
-returns-in-Some-clause-cause c =
-    let rows = c.as_slice-inputs.result.now in
-    let i = c.index-inputs-input.result in
-    let place = c.loop-input.input in
-    let at : slice_get rows place ≡ Some i = slice_get_read rows (length rows) place i refl c.loop-input-test.true c.index-inputs-input.is in
-    let here : slice_get (map input_parts_value c.args.parts.now.inputs.items) place ≡ Some (input_parts_value i) =
-    ap (λ (xs : List InputParts). slice_get (map input_parts_value xs) place) (sym c.as_slice-inputs.ensures.value)
-    ∙ slice_get-map input_parts_value rows place
-    ∙ ap (option_map input_parts_value) at in
-    (input_parts_value i, here, c.in-Some.ensures.outside)
+pub returns-in-Some-clause-some : goal.returns-in-Some-clause-some
+returns-in-Some-clause-some c = bad_input_number (input_parts_value c.args.input.now) (sym c.in-Some.ensures.some)
+
+pub returns-in_err-size-clause-some : goal.returns-in_err-size-clause-some
+returns-in_err-size-clause-some c =
+    let none : c.find_outside_input.result ≡ None = search rules in
+    let good : list_any is_outside (input_numbers (input_parts_value c.args.input.now)) ≡ false = sym c.find_outside_input.ensures.some ∙ ap is_some none in
+    let right : is_some c.find_wrong_size.result ≡ false = search rules in
+    let nothing : is_some c.from_residual.result ≡ false = search rules in
+    size_left (input_parts_value c.args.input.now) _ good (nothing ∙ sym right ∙ c.find_wrong_size.ensures.some)
+
+pub returns-clause-some : goal.returns-clause-some
+returns-clause-some c =
+    let none : c.find_outside_input.result ≡ None = search rules in
+    let good : list_any is_outside (input_numbers (input_parts_value c.args.input.now)) ≡ false = sym c.find_outside_input.ensures.some ∙ ap is_some none in
+    let wrong : is_some c.find_wrong_size.result ≡ true = search rules in
+    size_left (input_parts_value c.args.input.now) _ good (sym wrong ∙ c.find_wrong_size.ensures.some)

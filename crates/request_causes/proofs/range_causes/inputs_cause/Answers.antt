@@ -18,4 +18,4 @@ returns-then-is_count-clause-some c =
     let rows = c.args.parts.now.inputs.items in
     let many : length (map input_parts_value rows) ≡ length rows = length-map rows input_parts_value in
     let count : is_count_between 1 MAX_INPUTS (length (map input_parts_value rows)) ≡ true = cc in
-    inputs_left (map input_parts_value rows) _ count c.input_cause.ensures.some
+    inputs_left (map input_parts_value rows) _ count c.first_input_cause.ensures.some

@@ -30,7 +30,7 @@ returns-clause-limited g c =
     let l = c.requires.unready.input in
     let within : c.args.number < length c.args.inputs.now.items = omega (arith, l, c.requires.fed.1.count) in
     on_ok_weaker c.pull.result
-    (λ size limit all. all_limited limit c.args.inputs.now.items c.args.number c.index_mut.result.now c.pull.new.input c.index_mut.ensures.value within size all)
+    (λ size limit p all. all_limited limit p c.args.inputs.now.items c.args.number c.index_mut.result.now c.pull.new.input c.index_mut.ensures.value within size all)
     c.pull.ensures.limit
 
 pub returns-clause-halted : goal.returns-clause-halted

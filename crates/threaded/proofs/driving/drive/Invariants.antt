@@ -1,11 +1,11 @@
 use Rattle.std.proofs.Common.{◌≡◌, ◌≤◌, vec_capacity}
-use Rattle.threaded.specs.declared.driving.TheConstants.{STEPS}
-use Rattle.threaded.specs.Driving.{GoesOn}
+use Rattle.threaded.specs.declared.passage.TheConstants.{STEPS}
+use Rattle.threaded.specs.Handing.{HandsAll}
 use Rattle.threaded.proofs.driving.drive.Given as goal
 
 abbrev pub invariant-loop : goal.invariant-loop
 invariant-loop g l = record {
-  goes : GoesOn l.fn.station l.station l.fn.output l.output (g.W.Sink.contents l.fn.sink) (g.W.Sink.contents l.sink);
-  failures : g.W.Sink.failures l.sink ≡ g.W.Sink.failures l.fn.sink;
+  all : HandsAll l.fn.station l.station l.port.sent;
+  ring : l.port.ring ≡ l.fn.port.ring;
   room : STEPS ≤ vec_capacity l.packets;
 }

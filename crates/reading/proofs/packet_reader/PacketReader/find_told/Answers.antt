@@ -4,7 +4,7 @@ use Rattle.std.specs.Borrow.{Bor}
 use Rattle.std.specs.List.{slice_get}
 use Rattle.std.specs.Option.{option_copied}
 use Rattle.reading.specs.declared.report.Report.{Report}
-use Rattle.reading.specs.Takeable.{OriginValue}
+use Rattle.reading.specs.Takeable.{OriginValue, stride_at}
 use Rattle.reading.specs.PacketReading.{HasLooked}
 use Rattle.reading.specs.declared.stream_reader.StreamReader.{StreamReader}
 use Rattle.reading.proofs.PacketLaws.{looked_on}
@@ -28,7 +28,7 @@ returns-then-is_some-clause-read g c = λ bytes given h.
     let k = c.loop-item.invariant.read bytes given h in
     let item = c.in-Some.item.now in
     let first = sym c.in-Some.ensures.item in
-    let passed = c.pass.ensures.passed bytes s.report.stopped k.0 item first k.1.passed in
+    let passed = c.pass.ensures.passed (stride_at s.origin) bytes s.report.stopped k.0 item first k.1.passed in
     let P : OriginValue → Type 0 = λ v. HasLooked g.R.Source.remaining c.args.plan.now v c.pass.new.self look.new.held look.new.report bytes given (k.0 ++ item ∷ []) in (
       k.0 ++ item ∷ [],
       subst P (sym look.ensures.origin)
@@ -45,7 +45,7 @@ loop-item-preserved g c =
           let k = kept.read bytes given h in
           let item = c.in-Some.item.now in
           let first = sym c.in-Some.ensures.item in
-          let passed = c.pass.ensures.passed bytes s.report.stopped k.0 item first k.1.passed in
+          let passed = c.pass.ensures.passed (stride_at s.origin) bytes s.report.stopped k.0 item first k.1.passed in
           let P : OriginValue → Type 0 = λ v. HasLooked g.R.Source.remaining c.args.plan.now v c.pass.new.self look.new.held look.new.report bytes given (k.0 ++ item ∷ []) in (
             k.0 ++ item ∷ [],
             subst P (sym look.ensures.origin)

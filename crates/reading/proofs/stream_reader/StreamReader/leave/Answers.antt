@@ -11,5 +11,5 @@ unfailed : Gate ≢ ReadFailed
 unfailed e = cc
 
 pub returns-clause-left : goal.returns-clause-left
-returns-clause-left g c = λ bytes passed h.
-    left_now c.args.self.now.items c.give_up.new.self passed bytes _ None Gate c.give_up.ensures other (λ e. none-some TooMuch e) (λ e. absurd (unfailed e)) h
+returns-clause-left g c = λ stride bytes passed h.
+    left_now stride c.args.self.now.items c.give_up.new.self passed bytes _ None Gate c.give_up.ensures other (λ e. none-some TooMuch e) (λ e. absurd (unfailed e)) h

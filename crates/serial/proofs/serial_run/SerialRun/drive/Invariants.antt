@@ -1,5 +1,6 @@
 use Rattle.std.proofs.Common.{◌≡◌, ℕ, List, Option}
 use Rattle.mux.specs.History.{Run, emitted}
+use Rattle.reading.specs.declared.input_limit.InputLimit.{InputLimit}
 use Rattle.serial.specs.Written.{Sends}
 use Rattle.serial.specs.Feeding.{AllTellFailures}
 use Rattle.serial.specs.Sending.{bytes_of}
@@ -8,8 +9,8 @@ use Rattle.serial.proofs.serial_run.SerialRun.drive.Given as goal
 
 abbrev pub invariant-loop : goal.invariant-loop
 invariant-loop g l = record {
-  goes : (run : Run) × (limit : ℕ) × (starts : List (Option (List ℕ))) × IsRunning g.R.Source.remaining run limit starts l.self;
-  runs : (run : Run) (limit : ℕ) (starts : List (Option (List ℕ))) → IsRunning g.R.Source.remaining run limit starts l.fn.self → IsRunning g.R.Source.remaining run limit starts l.self;
+  goes : (run : Run) × (limit : InputLimit) × (starts : List (Option (List ℕ))) × IsRunning g.R.Source.remaining run limit starts l.self;
+  runs : (run : Run) (limit : InputLimit) (starts : List (Option (List ℕ))) → IsRunning g.R.Source.remaining run limit starts l.fn.self → IsRunning g.R.Source.remaining run limit starts l.self;
   written : (before : Option (List ℕ)) → Sends before (g.W.Sink.contents l.fn.sink) (bytes_of (emitted l.fn.self.mux.run.plan l.fn.self.mux.events)) l.fn.self.output.writer
       → Sends before (g.W.Sink.contents l.sink) (bytes_of (emitted l.fn.self.mux.run.plan l.self.mux.events)) l.self.output.writer;
   run : l.self.mux.run ≡ l.fn.self.mux.run;

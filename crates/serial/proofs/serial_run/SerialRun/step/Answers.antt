@@ -5,6 +5,7 @@ use Rattle.mux.specs.History.{Run, History}
 use Rattle.mux.proofs.Emitted.{last_sent}
 use Rattle.mux.proofs.Heads.{some_of, lent_last}
 use Rattle.plan.specs.Build.{PlanValue}
+use Rattle.serial.specs.Feeding.{AreLimited}
 use Rattle.serial.specs.Giving.{TakesInOrder}
 use Rattle.serial.specs.Running.{TakesAsNeeded, IsRunning, AreFed, AreHalted}
 use Rattle.serial.proofs.HaltedLaws.{halted_fed, halted_running, unrefused_running}
@@ -83,7 +84,8 @@ returns-in_err-pull_at-in-NotReady-clause-halted g c =
     let B : History → Type 0 = λ v. AreHalted g.R.Source.remaining limit run.plan v.events starts now.inputs.items in
     let N : History → Type 0 = λ v. TakesAsNeeded run v.events in
     let err = c.in_err-pull_at-in-NotReady.ensures.err in
-    let halted = c.in_err-pull_at-in-NotReady.ensures.halted limit starts (subst F (sym same) (subst G (sym plan) is.fed)) is.limited (subst T (sym same) is.in_order) in
+    let L : PlanValue → Type 0 = λ p. AreLimited limit p old.inputs.items in
+    let halted = c.in_err-pull_at-in-NotReady.ensures.halted limit starts (subst F (sym same) (subst G (sym plan) is.fed)) (subst L (sym plan) is.limited) (subst T (sym same) is.in_order) in
     (subst B (sym err) (subst A plan halted), subst N (sym err) (subst N (sym same) is.needed)))
 
 pub returns-in-Memory-clause-halted : goal.returns-in-Memory-clause-halted

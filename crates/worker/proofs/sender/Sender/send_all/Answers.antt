@@ -1,4 +1,4 @@
-use Rattle.std.proofs.Common.{◌≡◌, ◌∙◌, sym, rules}
+use Rattle.std.proofs.Common.{◌∙◌, sym, rules}
 use Rattle.worker.specs.declared.sender.Sender.{Sender}
 use Rattle.worker.proofs.SendingLaws.{sends_gate, sends_found, sends_looked, sends_sends, unfailed_found, unfailed_reading}
 use Rattle.worker.proofs.sender.Sender.send_all.Goals as goal

@@ -1,9 +1,9 @@
-use Rattle.std.proofs.Common.{◌≡◌, ◌<◌, ℕ, List, [], length, Option, Some, None, ap, refl, subst, sym, ◌∙◌, arith}
+use Rattle.std.proofs.Common.{◌≡◌, ◌<◌, ℕ, [], length, ap, refl, subst, sym, ◌∙◌, arith}
 use Rattle.std.proofs.lemmas.Option.{slice_get_read, same_Some}
 use Rattle.std.proofs.lemmas.List.{length-map}
 use Rattle.request.specs.Request.{RequestValue, InputValue, IsRequest, input_value, IsInput}
-use Rattle.plan.specs.Build.{PlanValue}
-use Rattle.reading.specs.Takeable.{OriginValue, origin_of}
+use Rattle.reading.specs.InputLimit.{limit_of_input}
+use Rattle.reading.specs.Takeable.{origin_of}
 use Rattle.reading.specs.declared.report.Report.{Report}
 use Rattle.worker.specs.declared.sender.Sender.{Sender}
 use Rattle.worker.proofs.PlanLaws.{all_at, input_at}
@@ -40,8 +40,10 @@ returns-clause-sent g c input at =
       unfailed = λ e. c.send-stop.ensures.unfailed e (g.R.Source.remaining c.args.self.source) (fresh_sent g.R.Source.remaining a c.args.self.source c.new-reader.ensures.source (c.new-reader.ensures.read p) unsent);
       unmarked = λ e. (c.finish.ensures.stopped e).1;
     } in
-    worked g.R.Source.remaining g.R.Source.failures c.args.self.limit a c.send-stop.new.self p (origin_of i input) c.args.self.source c.finish.result.2 c.send-stop.result c.finish.result.0 c.finish.result.1
-    refl (c.new-reader.ensures.origin ∙ ap (origin_of i) same) c.new-reader.ensures.source c.new-reader.ensures.limit (c.new-reader.ensures.read p) unsent
+    let most : ℕ = limit_of_input c.args.self.limit input.format in
+    let size = c.new-reader.ensures.limit ∙ c.bytes-most.ensures.value ∙ ap (λ (v : InputValue). limit_of_input c.args.self.limit v.format) same in
+    worked g.R.Source.remaining g.R.Source.failures most a c.send-stop.new.self p (origin_of i input) c.args.self.source c.finish.result.2 c.send-stop.result c.finish.result.0 c.finish.result.1
+    refl (c.new-reader.ensures.origin ∙ ap (origin_of i) same) c.new-reader.ensures.source size (c.new-reader.ensures.read p) unsent
     c.send-stop.ensures.sent c.finish.ensures.source c.send-stop.ensures.over own c.finish.ensures.counts c.finish.ensures.cause c.finish.ensures.port
 
 pub send-stop-requires : goal.send-stop-requires

@@ -1,0 +1,3 @@
+pub mod TickLaws
+pub mod KeepingLaws
+pub mod SharingLaws

@@ -1,0 +1,194 @@
+//! A broadcast of one input and two readers, ticked by hand. A slot takes 27,000 ticks, and so does a packet of the input: packet k
+//! has the time of slot k, and slots 0, 2 and 4 have tables. So five packets and an end mark give eight slots: the PAT, packet 0, the
+//! PMT, packet 1, the SDT, and packets 2, 3 and 4.
+
+ghost use Rattle.std.specs.Prelude.{◌≡◌, ◌<◌, length};
+
+mod asking;
+mod device;
+mod opening;
+mod polling;
+mod recording;
+mod refusals;
+mod refusing_end;
+mod serial_bytes;
+
+use crate::tests::asking::{
+    delayed, ends, marks, offers, reads, reads_the_pat, seals, sends, ticks, took,
+};
+use crate::tests::opening::{Seats, open};
+use broadcast::{Broadcast, Ticked};
+use feed::FeedReader;
+use mux::Sending;
+use std::alloc::Global;
+use std::process::Abort;
+use std::sync::Wait;
+
+/// Both packets of the ring are taken, and the slot is the PAT. Both readers read it, the second without a mark.
+fn publishes_the_pat<T: Abort + Wait>(
+    rt: &T,
+    alloc: Global,
+    broadcast: &mut Broadcast,
+    first: &mut FeedReader,
+    second: &mut FeedReader,
+)
+    requires feed { first.old.known.feed ≡ broadcast.old.feed }
+    requires inputs { 0 < length broadcast.old.station.history.run.plan.request.inputs }
+    ensures run { broadcast.new.station.history.run ≡ broadcast.old.station.history.run }
+{
+    ticks(rt, broadcast, Sending::Sent, 0);
+    took(rt, broadcast, 2, 0);
+    first.learn(marks(rt, broadcast, 1, false));
+    reads_the_pat(rt, alloc, first);
+    reads_the_pat(rt, alloc, second);
+}
+
+/// Slot 1 has the time 28,436 and slot 3 has 82,436, so the delays say that the packets came at 1,436 and 28,436.
+fn shows_the_delays<T: Abort + Wait>(rt: &T, broadcast: &mut Broadcast)
+    requires { 0 < length broadcast.old.station.history.run.plan.request.streams }
+{
+    sends(rt, broadcast, 1);
+    delayed(rt, broadcast, 27_000);
+    sends(rt, broadcast, 2);
+    delayed(rt, broadcast, 54_000);
+    ticks(rt, broadcast, Sending::Done, 0);
+}
+
+#[test]
+fn a_tick_publishes_its_slot(rt: HostRuntime) {
+    let (seats, mut port) = open(&rt, rt.alloc());
+    let Seats {
+        mut broadcast,
+        mut first,
+        mut second,
+    } = seats;
+    offers(&rt, &mut port, 2);
+    publishes_the_pat(&rt, rt.alloc(), &mut broadcast, &mut first, &mut second);
+    ends(&rt, port);
+    shows_the_delays(&rt, &mut broadcast);
+    broadcast.close(&rt);
+}
+
+/// The packet of the ring was taken, though no slot can be sent.
+#[test]
+fn a_tick_that_sends_nothing_publishes_nothing(rt: HostRuntime) {
+    let (seats, mut port) = open(&rt, rt.alloc());
+    let Seats {
+        mut broadcast,
+        mut first,
+        second: _second,
+    } = seats;
+    offers(&rt, &mut port, 1);
+    ticks(&rt, &mut broadcast, Sending::NotReady(0), 0);
+    took(&rt, &broadcast, 1, 0);
+    reads(&rt, rt.alloc(), &mut first, &[]);
+    broadcast.close(&rt);
+}
+
+/// The first reader reads three slots by a mark, and the rest by the mark of the seal; the second reads all at once, by a mark that
+/// was made behind the seal.
+fn reads_by_marks<T: Abort + Wait>(
+    rt: &T,
+    alloc: Global,
+    broadcast: &mut Broadcast,
+    first: &mut FeedReader,
+    second: &mut FeedReader,
+)
+    requires first { first.old.known.feed ≡ broadcast.old.feed }
+    requires second { second.old.known.feed ≡ broadcast.old.feed }
+{
+    sends(rt, broadcast, 3);
+    first.learn(marks(rt, broadcast, 3, false));
+    reads(rt, alloc, first, &[0x0000, 0x0200, 0x0100]);
+    sends(rt, broadcast, 5);
+    ticks(rt, broadcast, Sending::Done, 0);
+    first.learn(seals(rt, broadcast, 8));
+    reads(rt, alloc, first, &[0x0200, 0x0011, 0x0200, 0x0200, 0x0200]);
+    reads(rt, alloc, first, &[]);
+    assert!(rt; broadcast.seal(rt).is_none());
+    second.learn(marks(rt, broadcast, 8, true));
+    let all = [
+        0x0000, 0x0200, 0x0100, 0x0200, 0x0011, 0x0200, 0x0200, 0x0200,
+    ];
+    reads(rt, alloc, second, &all);
+}
+
+#[test]
+fn readers_read_by_their_marks(rt: HostRuntime) {
+    let (seats, mut port) = open(&rt, rt.alloc());
+    let Seats {
+        mut broadcast,
+        mut first,
+        mut second,
+    } = seats;
+    offers(&rt, &mut port, 5);
+    ends(&rt, port);
+    reads_by_marks(&rt, rt.alloc(), &mut broadcast, &mut first, &mut second);
+    broadcast.close(&rt);
+}
+
+/// Behind the seal slots go out, and aren't published.
+fn sends_behind_the_seal<T: Abort + Wait>(
+    rt: &T,
+    alloc: Global,
+    broadcast: &mut Broadcast,
+    first: &mut FeedReader,
+)
+    requires { first.old.known.feed ≡ broadcast.old.feed }
+{
+    sends(rt, broadcast, 3);
+    first.learn(seals(rt, broadcast, 3));
+    ticks(rt, broadcast, Sending::Sent, 1);
+    ticks(rt, broadcast, Sending::Sent, 2);
+    assert_eq!(rt; broadcast.publish(rt), 2);
+    reads(rt, alloc, first, &[0x0000, 0x0200, 0x0100]);
+    reads(rt, alloc, first, &[]);
+}
+
+#[test]
+fn nothing_is_published_behind_the_seal(rt: HostRuntime) {
+    let (seats, mut port) = open(&rt, rt.alloc());
+    let Seats {
+        mut broadcast,
+        mut first,
+        second: _second,
+    } = seats;
+    offers(&rt, &mut port, 5);
+    ends(&rt, port);
+    sends_behind_the_seal(&rt, rt.alloc(), &mut broadcast, &mut first);
+    broadcast.close(&rt);
+}
+
+/// All slots go out in one call, which publishes them.
+fn advances_to_the_end<T: Abort + Wait>(
+    rt: &T,
+    alloc: Global,
+    broadcast: &mut Broadcast,
+    first: &mut FeedReader,
+) {
+    let done = Ticked {
+        slot: Sending::Done,
+        behind: 0,
+    };
+    assert_eq!(rt; broadcast.advance(rt, 256), done);
+    let all = [
+        0x0000, 0x0200, 0x0100, 0x0200, 0x0011, 0x0200, 0x0200, 0x0200,
+    ];
+    reads(rt, alloc, first, &all);
+    assert_eq!(rt; broadcast.slots(), 8);
+    assert_eq!(rt; broadcast.counts().elementary, 5);
+}
+
+#[test]
+fn steps_are_published_at_once(rt: HostRuntime) {
+    let (seats, mut port) = open(&rt, rt.alloc());
+    let Seats {
+        mut broadcast,
+        mut first,
+        second: _second,
+    } = seats;
+    offers(&rt, &mut port, 5);
+    ends(&rt, port);
+    advances_to_the_end(&rt, rt.alloc(), &mut broadcast, &mut first);
+    broadcast.close(&rt);
+}

@@ -1,0 +1,148 @@
+//! What the tests ask of a broadcast, of its port and of its readers: each is lent, so that a test owns nothing where an answer is
+//! compared.
+
+ghost use Rattle.std.specs.Prelude.{◌≡◌, ◌≤◌, ◌<◌, ◌^◌, length};
+
+use broadcast::{Broadcast, Ticked};
+use feed::{FeedReader, PublishingEnd};
+use marks::Mark;
+use mux::Sending;
+use port::Port;
+use std::alloc::Global;
+use std::process::Abort;
+use std::sync::Wait;
+use tspkt::{Packet, Stamped};
+
+/// Packet k of an input, with counter k, PID 0x0101 and payload alone, 184 bytes 0xAA.
+pub fn item(rt: &impl Abort, k: u64) -> Stamped
+    requires { k ≤ 2 ^ 40 }
+{
+    let mut bytes = [0xAA; 188];
+    bytes[0] = 0x47;
+    bytes[1] = 0x01;
+    bytes[2] = 0x01;
+    bytes[3] = 0x10 + (k % 16) as u8;
+    Stamped {
+        packet: Packet::read(&bytes).expect(rt, "a packet"),
+        stamp: 27_000 * k + 1_436,
+    }
+}
+
+/// The first so many packets of the input go into the ring.
+pub fn offers(rt: &impl Abort, port: &mut Port, count: u8) {
+    for k in 0..count {
+        assert!(rt; port.offer(item(rt, u64::from(k))).is_ok());
+    }
+}
+
+/// The port ends.
+pub fn ends(rt: &impl Abort, port: Port) {
+    assert!(rt; port.end().is_ok());
+}
+
+/// A tick answers so, with so many packets behind.
+pub fn ticks<T: Abort + Wait, E: PublishingEnd>(
+    rt: &T,
+    broadcast: &mut Broadcast<E>,
+    slot: Sending,
+    behind: u64,
+)
+    ensures feed { broadcast.new.feed ≡ broadcast.old.feed }
+    ensures run { broadcast.new.station.history.run ≡ broadcast.old.station.history.run }
+{
+    let ticked = Ticked { slot, behind };
+    assert_eq!(rt; broadcast.tick(rt), ticked);
+}
+
+/// So many ticks send a slot each, and publish it.
+pub fn sends<T: Abort + Wait, E: PublishingEnd>(rt: &T, broadcast: &mut Broadcast<E>, count: u64)
+    ensures feed { broadcast.new.feed ≡ broadcast.old.feed }
+    ensures run { broadcast.new.station.history.run ≡ broadcast.old.station.history.run }
+{
+    for _ in 0..count {
+        ticks(rt, broadcast, Sending::Sent, 0);
+    }
+}
+
+/// What is behind is published, all of it.
+pub fn publishes<T: Abort + Wait, E: PublishingEnd>(rt: &T, broadcast: &mut Broadcast<E>)
+    ensures { broadcast.new.feed ≡ broadcast.old.feed }
+{
+    assert_eq!(rt; broadcast.publish(rt), 0);
+}
+
+/// The mark of what was published has so many packets, and is sealed or isn't.
+pub fn marks<E: PublishingEnd>(
+    rt: &impl Abort,
+    broadcast: &Broadcast<E>,
+    count: u64,
+    is_sealed: bool,
+) -> Mark
+    ensures { result.feed ≡ broadcast.now.feed }
+{
+    let mark = broadcast.mark();
+    assert_eq!(rt; mark.count(), count);
+    assert_eq!(rt; mark.is_sealed(), is_sealed);
+    mark
+}
+
+/// The feed is sealed behind so many packets.
+pub fn seals<T: Abort + Wait, E: PublishingEnd>(
+    rt: &T,
+    broadcast: &mut Broadcast<E>,
+    count: u64,
+) -> Mark
+    ensures mark { result.feed ≡ broadcast.old.feed }
+    ensures feed { broadcast.new.feed ≡ broadcast.old.feed }
+{
+    let mark = broadcast.seal(rt).expect(rt, "a mark");
+    assert_eq!(rt; mark.count(), count);
+    assert_eq!(rt; mark.is_sealed(), true);
+    mark
+}
+
+/// A read gives packets of these PIDs.
+pub fn reads(rt: &impl Abort, alloc: Global, reader: &mut FeedReader, pids: &[u16])
+    ensures { reader.new.known.feed ≡ reader.old.known.feed }
+{
+    let mut piece = Vec::with_capacity(alloc, 16).expect(rt, "memory");
+    assert!(rt; reader.read(&mut piece, 16).is_ok());
+    assert_eq!(rt; piece.len(), pids.len());
+    for (packet, pid) in piece.as_slice().iter().zip(pids) {
+        assert_eq!(rt; packet.pid(), *pid);
+    }
+}
+
+/// Of the packets of the input so many were taken, and so many of these were sent.
+pub fn took<E: PublishingEnd>(rt: &impl Abort, broadcast: &Broadcast<E>, taken: u64, sent: u64)
+    requires { 0 < length broadcast.now.station.history.run.plan.request.inputs }
+{
+    let totals = broadcast.totals(0);
+    assert_eq!(rt; totals.taken, taken);
+    assert_eq!(rt; totals.sent, sent);
+}
+
+/// The largest delay of the stream's packets is this many ticks.
+pub fn delayed<E: PublishingEnd>(rt: &impl Abort, broadcast: &Broadcast<E>, ticks: u64)
+    requires { 0 < length broadcast.now.station.history.run.plan.request.streams }
+{
+    assert_eq!(rt; broadcast.station().peak(0).delay, ticks);
+}
+
+/// The example's PAT, with the packet's header and the pointer field; the rest of its packet is 0xFF.
+const PAT: [u8; 25] = [
+    0x47, 0x40, 0x00, 0x10, 0x00, 0x00, 0xB0, 0x11, 0x00, 0x01, 0xC1, 0x00, 0x00, 0x00, 0x00, 0xE0,
+    0x10, 0x01, 0xF4, 0xE1, 0x00, 0xF8, 0x93, 0xDA, 0x6A,
+];
+
+/// A read gives the packet of the PAT, and nothing else.
+pub fn reads_the_pat(rt: &impl Abort, alloc: Global, reader: &mut FeedReader)
+    ensures { reader.new.known.feed ≡ reader.old.known.feed }
+{
+    let mut piece = Vec::with_capacity(alloc, 16).expect(rt, "memory");
+    assert!(rt; reader.read(&mut piece, 16).is_ok());
+    assert_eq!(rt; piece.len(), 1);
+    let mut expected = [0xFF; 188];
+    expected[..25].copy_from_slice(&PAT);
+    assert_eq!(rt; piece[0].bytes(), &expected);
+}

@@ -1,0 +1,14 @@
+-- How the packets of a stream follow one another: every 188 bytes (ISO/IEC 13818-1, 2.4.3.2), or every 204, with sixteen bytes
+-- of an outer code behind each (ETSI EN 300 421, 4.4.2). The limits are profile.
+use Rattle.std.specs.Prelude.{ℕ, ◌*◌}
+use Rattle.tspkt.specs.declared.packet_format.PacketFormat.{PacketFormat}
+use Rattle.tspkt.specs.declared.packet_format.PacketFormat.TheVariants.{Ts188, Ts204}
+
+-- from the first byte of a packet to that of the next
+abbrev pub stride_of : PacketFormat → ℕ
+stride_of Ts188 = 188
+stride_of Ts204 = 204
+
+-- the most bytes of a stream where no other limit is given: 16,777,216 packets
+abbrev pub limit_of : PacketFormat → ℕ
+limit_of format = 16777216 * stride_of format
