@@ -1,21 +1,21 @@
 #!/usr/bin/env bash
 # Makes the multiplex of 4 inputs with 8 services at 38 Mbit/s, 900,000 slots, in threads and in one thread, and the same streams
 # at the same rate with `ffmpeg -c copy`, and copies the inputs with `cat`, in turn, three times or TURNS times. Each line: which,
-# packets, packets a second, and peak memory. The last lines are the ratios of the best times, and whether the bytes of both runs
-# are those of plain.c, which makes the same multiplex with none of our code. REMUX names another program than the built one, and
-# BEFORE one whose run is measured beside it.
+# packets, packets a second, and peak memory. The last lines are the ratios of the best times and of the medians, and whether the
+# bytes of both runs are those of plain.c, which makes the same multiplex with none of our code. REMUX names another program than
+# the built one, BEFORE one whose run is measured beside it, and FOLDER where inputs and output lie (/dev/shm/remux: in memory).
 set -euo pipefail
 cd "$(dirname "${BASH_SOURCE[0]}")"
 program=${REMUX:-$PWD/../remux}
 [ -n "${REMUX:-}" ] || (cd ../crates/remux && rt run > /dev/null 2>&1)
-folder=$PWD/data/remux
+folder=${FOLDER:-$PWD/data/remux}
 [ -s "$folder/job.toml" ] || ./make_inputs.sh "$folder"
 cc -O2 -o "$folder/plain" plain.c
 cd "$folder"
 trap 'rm -f plain out.ts' EXIT
 cat input_?.ts > /dev/null
 python3 - "$program" "${TURNS:-3}" "${BEFORE:-}" <<'PY'
-import hashlib, os, subprocess, sys, time
+import hashlib, os, statistics, subprocess, sys, time
 
 run = ["run", "--plan", "job.toml", "--out", "out.ts", "--slots", "900000"]
 inputs = ["input_%d.ts" % k for k in range(4)]
@@ -37,7 +37,7 @@ def digest():
         return hashlib.file_digest(file, "sha256").hexdigest()
 
 
-best, ours = {}, {}
+speeds, ours = {}, {}
 for turn in range(int(sys.argv[2])):
     for name, words in jobs.items():
         start = time.perf_counter()
@@ -47,13 +47,14 @@ for turn in range(int(sys.argv[2])):
         if status:
             sys.exit("%s: status %d" % (name, status))
         packets = os.path.getsize("out.ts") // 188
-        best[name] = max(best.get(name, 0), packets / seconds)
+        speeds.setdefault(name, []).append(packets / seconds)
         print("%s: %d packets, %d a second, %d MB" % (name, packets, packets / seconds, usage.ru_maxrss // 1024))
         if words[0] == sys.argv[1]:
             ours.setdefault(name, set()).add(digest())
         os.remove("out.ts")
 for name in list(jobs)[1:]:
-    print("threads is %.2f times %s" % (best["threads"] / best[name], name))
+    best, middle = (of(speeds["threads"]) / of(speeds[name]) for of in (max, statistics.median))
+    print("threads is %.2f times %s by the best times, %.2f by the medians" % (best, name, middle))
 subprocess.run(["./plain", "job.toml", "out.ts", "900000"], check=True, stdout=subprocess.DEVNULL)
 for name, digests in ours.items():
     if digests != {digest()}:
