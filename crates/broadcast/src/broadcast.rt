@@ -101,10 +101,11 @@ impl<E: PublishingEnd> Broadcast<E> {
     /// Ticks the station, and publishes what it sent. What the rings show is moved in, input 0 first, and then the next slot is
     /// sent, where it can be. `Memory` is answered, and the station isn't ticked, where a packet of an earlier call still waits for
     /// memory. `behind` is how many packets that went out aren't published: each is published by a later call. Where the feed is
-    /// sealed nothing is published. It waits for readers that are reading.
+    /// sealed nothing is published, and `Memory` is never answered. It waits for readers that are reading.
     pub fn tick<R: Wait>(&mut self, rt: &R) -> Ticked
         ensures ticks { result.slot ≢ Sending.Memory → Ticks self.old.station result.slot self.new.station }
-        ensures memory { result.slot ≡ Sending.Memory → (self.new.station ≡ self.old.station) × (behind_of self.old ≢ []) }
+        ensures memory { result.slot ≡ Sending.Memory → (self.old.is_sealed ≡ false)
+            × (self.new.station ≡ self.old.station) × (behind_of self.old ≢ []) }
         ensures publishes { PublishesOn self.old self.new }
         ensures nothing_lost { LosesNothing self.new }
         ensures behind { result.behind ≡ length (behind_of self.new) }
@@ -119,7 +120,8 @@ impl<E: PublishingEnd> Broadcast<E> {
     /// The same without publishing.
     fn tick_station(&mut self) -> Sending
         ensures ticks { result ≢ Sending.Memory → Ticks self.old.station result self.new.station }
-        ensures memory { result ≡ Sending.Memory → (self.new.station ≡ self.old.station) × (behind_of self.old ≢ []) }
+        ensures memory { result ≡ Sending.Memory → (self.old.is_sealed ≡ false)
+            × (self.new.station ≡ self.old.station) × (behind_of self.old ≢ []) }
         ensures feed { self.new ≡ record self.old { station = self.new.station } }
         ensures rings { rings_of self.new.station.inputs ≡ rings_of self.old.station.inputs }
         ensures run { self.new.station.history.run ≡ self.old.station.history.run }
@@ -144,7 +146,8 @@ impl<E: PublishingEnd> Broadcast<E> {
         ensures advances { result.slot ≢ Sending.Memory → (packets : List (List ℕ))
             × Advances most self.old.station result.slot self.new.station packets
             × (emitted_by self.new.station ≡ emitted_by self.old.station ++ packets) }
-        ensures memory { result.slot ≡ Sending.Memory → (self.new.station ≡ self.old.station) × (behind_of self.old ≢ []) }
+        ensures memory { result.slot ≡ Sending.Memory → (self.old.is_sealed ≡ false)
+            × (self.new.station ≡ self.old.station) × (behind_of self.old ≢ []) }
         ensures publishes { PublishesOn self.old self.new }
         ensures nothing_lost { LosesNothing self.new }
         ensures behind { result.behind ≡ length (behind_of self.new) }
@@ -162,7 +165,8 @@ impl<E: PublishingEnd> Broadcast<E> {
         ensures advances { result ≢ Sending.Memory → (packets : List (List ℕ))
             × Advances most self.old.station result self.new.station packets
             × (emitted_by self.new.station ≡ emitted_by self.old.station ++ packets) }
-        ensures memory { result ≡ Sending.Memory → (self.new.station ≡ self.old.station) × (behind_of self.old ≢ []) }
+        ensures memory { result ≡ Sending.Memory → (self.old.is_sealed ≡ false)
+            × (self.new.station ≡ self.old.station) × (behind_of self.old ≢ []) }
         ensures feed { self.new ≡ record self.old { station = self.new.station } }
         ensures rings { rings_of self.new.station.inputs ≡ rings_of self.old.station.inputs }
         ensures run { self.new.station.history.run ≡ self.old.station.history.run }

@@ -14,9 +14,9 @@ mod refusing_end;
 mod serial_bytes;
 
 use crate::tests::asking::{
-    delayed, ends, marks, offers, reads, reads_the_pat, seals, sends, ticks, took,
+    delayed, ends, equals, is_refused, learns, reads, reads_the_pat, seals, sends, ticks, took,
 };
-use crate::tests::opening::{Seats, open};
+use crate::tests::opening::{Seats, close, open};
 use broadcast::{Broadcast, Ticked};
 use feed::FeedReader;
 use mux::Sending;
@@ -25,20 +25,19 @@ use std::process::Abort;
 use std::sync::Wait;
 
 /// Both packets of the ring are taken, and the slot is the PAT. Both readers read it, the second without a mark.
-fn publishes_the_pat<T: Abort + Wait>(
-    rt: &T,
-    alloc: Global,
-    broadcast: &mut Broadcast,
-    first: &mut FeedReader,
-    second: &mut FeedReader,
-)
-    requires feed { first.old.known.feed ≡ broadcast.old.feed }
-    requires inputs { 0 < length broadcast.old.station.history.run.plan.request.inputs }
-    ensures run { broadcast.new.station.history.run ≡ broadcast.old.station.history.run }
+fn publishes_the_pat<T: Abort + Wait>(rt: &T, alloc: Global, seats: &mut Seats)
+    requires feed { seats.old.first.known.feed ≡ seats.old.broadcast.feed }
+    requires inputs { 0 < length seats.old.broadcast.station.history.run.plan.request.inputs }
+    ensures run { seats.new.broadcast.station.history.run ≡ seats.old.broadcast.station.history.run }
 {
+    let Seats {
+        broadcast,
+        first,
+        second,
+    } = seats;
     ticks(rt, broadcast, Sending::Sent, 0);
     took(rt, broadcast, 2, 0);
-    first.learn(marks(rt, broadcast, 1, false));
+    learns(rt, first, broadcast, 1, false);
     reads_the_pat(rt, alloc, first);
     reads_the_pat(rt, alloc, second);
 }
@@ -56,139 +55,129 @@ fn shows_the_delays<T: Abort + Wait>(rt: &T, broadcast: &mut Broadcast)
 
 #[test]
 fn a_tick_publishes_its_slot(rt: HostRuntime) {
-    let (seats, mut port) = open(&rt, rt.alloc());
-    let Seats {
-        mut broadcast,
-        mut first,
-        mut second,
-    } = seats;
-    offers(&rt, &mut port, 2);
-    publishes_the_pat(&rt, rt.alloc(), &mut broadcast, &mut first, &mut second);
+    let (mut seats, port) = open(&rt, rt.alloc(), 2);
+    publishes_the_pat(&rt, rt.alloc(), &mut seats);
     ends(&rt, port);
-    shows_the_delays(&rt, &mut broadcast);
-    broadcast.close(&rt);
+    shows_the_delays(&rt, &mut seats.broadcast);
+    close(&rt, seats);
 }
 
 /// The packet of the ring was taken, though no slot can be sent.
 #[test]
 fn a_tick_that_sends_nothing_publishes_nothing(rt: HostRuntime) {
-    let (seats, mut port) = open(&rt, rt.alloc());
-    let Seats {
-        mut broadcast,
-        mut first,
-        second: _second,
-    } = seats;
-    offers(&rt, &mut port, 1);
-    ticks(&rt, &mut broadcast, Sending::NotReady(0), 0);
-    took(&rt, &broadcast, 1, 0);
-    reads(&rt, rt.alloc(), &mut first, &[]);
-    broadcast.close(&rt);
+    let (mut seats, _port) = open(&rt, rt.alloc(), 1);
+    ticks(&rt, &mut seats.broadcast, Sending::NotReady(0), 0);
+    took(&rt, &seats.broadcast, 1, 0);
+    reads(&rt, rt.alloc(), &mut seats.first, &[]);
+    close(&rt, seats);
 }
 
-/// The first reader reads three slots by a mark, and the rest by the mark of the seal; the second reads all at once, by a mark that
-/// was made behind the seal.
+/// The PIDs of the eight slots.
+const PIDS: [u16; 8] = [
+    0x0000, 0x0200, 0x0100, 0x0200, 0x0011, 0x0200, 0x0200, 0x0200,
+];
+
+/// The first reader reads three slots by a mark, and the rest by the mark of the seal.
 fn reads_by_marks<T: Abort + Wait>(
     rt: &T,
     alloc: Global,
     broadcast: &mut Broadcast,
-    first: &mut FeedReader,
-    second: &mut FeedReader,
+    reader: &mut FeedReader,
 )
-    requires first { first.old.known.feed ≡ broadcast.old.feed }
-    requires second { second.old.known.feed ≡ broadcast.old.feed }
+    requires { reader.old.known.feed ≡ broadcast.old.feed }
+    ensures { broadcast.new.feed ≡ broadcast.old.feed }
 {
     sends(rt, broadcast, 3);
-    first.learn(marks(rt, broadcast, 3, false));
-    reads(rt, alloc, first, &[0x0000, 0x0200, 0x0100]);
+    learns(rt, reader, broadcast, 3, false);
+    reads(rt, alloc, reader, &[0x0000, 0x0200, 0x0100]);
     sends(rt, broadcast, 5);
     ticks(rt, broadcast, Sending::Done, 0);
-    first.learn(seals(rt, broadcast, 8));
-    reads(rt, alloc, first, &[0x0200, 0x0011, 0x0200, 0x0200, 0x0200]);
-    reads(rt, alloc, first, &[]);
+    reader.learn(seals(rt, broadcast, 8));
+    reads(rt, alloc, reader, &[0x0200, 0x0011, 0x0200, 0x0200, 0x0200]);
+    reads(rt, alloc, reader, &[]);
+}
+
+/// The second reads all at once, by a mark that was made after the seal.
+fn reads_all<T: Abort + Wait>(
+    rt: &T,
+    alloc: Global,
+    broadcast: &mut Broadcast,
+    reader: &mut FeedReader,
+)
+    requires { reader.old.known.feed ≡ broadcast.old.feed }
+{
     assert!(rt; broadcast.seal(rt).is_none());
-    second.learn(marks(rt, broadcast, 8, true));
-    let all = [
-        0x0000, 0x0200, 0x0100, 0x0200, 0x0011, 0x0200, 0x0200, 0x0200,
-    ];
-    reads(rt, alloc, second, &all);
+    learns(rt, reader, broadcast, 8, true);
+    reads(rt, alloc, reader, &PIDS);
 }
 
 #[test]
 fn readers_read_by_their_marks(rt: HostRuntime) {
-    let (seats, mut port) = open(&rt, rt.alloc());
-    let Seats {
-        mut broadcast,
-        mut first,
-        mut second,
-    } = seats;
-    offers(&rt, &mut port, 5);
+    let (mut seats, port) = open(&rt, rt.alloc(), 5);
     ends(&rt, port);
-    reads_by_marks(&rt, rt.alloc(), &mut broadcast, &mut first, &mut second);
-    broadcast.close(&rt);
+    reads_by_marks(&rt, rt.alloc(), &mut seats.broadcast, &mut seats.first);
+    reads_all(&rt, rt.alloc(), &mut seats.broadcast, &mut seats.second);
+    close(&rt, seats);
 }
 
-/// Behind the seal slots go out, and aren't published.
-fn sends_behind_the_seal<T: Abort + Wait>(
+/// After the seal slots go out, and aren't published.
+fn sends_after_the_seal<T: Abort + Wait>(
     rt: &T,
     alloc: Global,
     broadcast: &mut Broadcast,
-    first: &mut FeedReader,
+    reader: &mut FeedReader,
 )
-    requires { first.old.known.feed ≡ broadcast.old.feed }
+    requires { reader.old.known.feed ≡ broadcast.old.feed }
 {
     sends(rt, broadcast, 3);
-    first.learn(seals(rt, broadcast, 3));
+    reader.learn(seals(rt, broadcast, 3));
     ticks(rt, broadcast, Sending::Sent, 1);
     ticks(rt, broadcast, Sending::Sent, 2);
-    assert_eq!(rt; broadcast.publish(rt), 2);
-    reads(rt, alloc, first, &[0x0000, 0x0200, 0x0100]);
-    reads(rt, alloc, first, &[]);
+    equals(rt, broadcast.publish(rt), 2);
+    reads(rt, alloc, reader, &[0x0000, 0x0200, 0x0100]);
+    reads(rt, alloc, reader, &[]);
 }
 
 #[test]
 fn nothing_is_published_behind_the_seal(rt: HostRuntime) {
-    let (seats, mut port) = open(&rt, rt.alloc());
-    let Seats {
-        mut broadcast,
-        mut first,
-        second: _second,
-    } = seats;
-    offers(&rt, &mut port, 5);
+    let (mut seats, port) = open(&rt, rt.alloc(), 5);
     ends(&rt, port);
-    sends_behind_the_seal(&rt, rt.alloc(), &mut broadcast, &mut first);
-    broadcast.close(&rt);
+    sends_after_the_seal(&rt, rt.alloc(), &mut seats.broadcast, &mut seats.first);
+    close(&rt, seats);
 }
 
 /// All slots go out in one call, which publishes them.
-fn advances_to_the_end<T: Abort + Wait>(
-    rt: &T,
-    alloc: Global,
-    broadcast: &mut Broadcast,
-    first: &mut FeedReader,
-) {
+fn advances_to_the_end<T: Abort + Wait>(rt: &T, broadcast: &mut Broadcast) {
     let done = Ticked {
         slot: Sending::Done,
         behind: 0,
     };
     assert_eq!(rt; broadcast.advance(rt, 256), done);
-    let all = [
-        0x0000, 0x0200, 0x0100, 0x0200, 0x0011, 0x0200, 0x0200, 0x0200,
-    ];
-    reads(rt, alloc, first, &all);
-    assert_eq!(rt; broadcast.slots(), 8);
-    assert_eq!(rt; broadcast.counts().elementary, 5);
+    equals(rt, broadcast.slots(), 8);
+    equals(rt, broadcast.counts().elementary, 5);
 }
 
 #[test]
 fn steps_are_published_at_once(rt: HostRuntime) {
-    let (seats, mut port) = open(&rt, rt.alloc());
-    let Seats {
-        mut broadcast,
-        mut first,
-        second: _second,
-    } = seats;
-    offers(&rt, &mut port, 5);
+    let (mut seats, port) = open(&rt, rt.alloc(), 5);
     ends(&rt, port);
-    advances_to_the_end(&rt, rt.alloc(), &mut broadcast, &mut first);
+    advances_to_the_end(&rt, &mut seats.broadcast);
+    reads(&rt, rt.alloc(), &mut seats.first, &PIDS);
+    close(&rt, seats);
+}
+
+/// One reader read what was published, and the other nothing yet.
+#[test]
+fn a_closed_feed_lets_no_reader_in(rt: HostRuntime) {
+    let (mut seats, _port) = open(&rt, rt.alloc(), 5);
+    sends(&rt, &mut seats.broadcast, 3);
+    reads(&rt, rt.alloc(), &mut seats.first, &[0x0000, 0x0200, 0x0100]);
+    let Seats {
+        broadcast,
+        mut first,
+        mut second,
+    } = seats;
     broadcast.close(&rt);
+    is_refused(&rt, rt.alloc(), &mut first);
+    is_refused(&rt, rt.alloc(), &mut second);
 }

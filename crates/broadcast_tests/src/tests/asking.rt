@@ -4,7 +4,7 @@
 ghost use Rattle.std.specs.Prelude.{◌≡◌, ◌≤◌, ◌<◌, ◌^◌, length};
 
 use broadcast::{Broadcast, Ticked};
-use feed::{FeedReader, PublishingEnd};
+use feed::{FeedReader, NotLetIn, PublishingEnd, ReadingEnd};
 use marks::Mark;
 use mux::Sending;
 use port::Port;
@@ -26,6 +26,11 @@ pub fn item(rt: &impl Abort, k: u64) -> Stamped
         packet: Packet::read(&bytes).expect(rt, "a packet"),
         stamp: 27_000 * k + 1_436,
     }
+}
+
+/// This number is the one that is expected.
+pub fn equals(rt: &impl Abort, found: u64, expected: u64) {
+    assert_eq!(rt; found, expected);
 }
 
 /// The first so many packets of the input go into the ring.
@@ -68,7 +73,13 @@ pub fn sends<T: Abort + Wait, E: PublishingEnd>(rt: &T, broadcast: &mut Broadcas
 pub fn publishes<T: Abort + Wait, E: PublishingEnd>(rt: &T, broadcast: &mut Broadcast<E>)
     ensures { broadcast.new.feed ≡ broadcast.old.feed }
 {
-    assert_eq!(rt; broadcast.publish(rt), 0);
+    equals(rt, broadcast.publish(rt), 0);
+}
+
+/// A mark has so many packets, and is sealed or isn't.
+fn is_mark(rt: &impl Abort, mark: &Mark, count: u64, is_sealed: bool) {
+    equals(rt, mark.count(), count);
+    assert!(rt; mark.is_sealed() == is_sealed);
 }
 
 /// The mark of what was published has so many packets, and is sealed or isn't.
@@ -81,9 +92,22 @@ pub fn marks<E: PublishingEnd>(
     ensures { result.feed ≡ broadcast.now.feed }
 {
     let mark = broadcast.mark();
-    assert_eq!(rt; mark.count(), count);
-    assert_eq!(rt; mark.is_sealed(), is_sealed);
+    is_mark(rt, &mark, count, is_sealed);
     mark
+}
+
+/// A reader learns the mark of what was published, which has so many packets and is sealed or isn't.
+pub fn learns<E: PublishingEnd>(
+    rt: &impl Abort,
+    reader: &mut FeedReader,
+    broadcast: &Broadcast<E>,
+    count: u64,
+    is_sealed: bool,
+)
+    requires { reader.old.known.feed ≡ broadcast.now.feed }
+    ensures { reader.new.known.feed ≡ reader.old.known.feed }
+{
+    reader.learn(marks(rt, broadcast, count, is_sealed));
 }
 
 /// The feed is sealed behind so many packets.
@@ -96,21 +120,43 @@ pub fn seals<T: Abort + Wait, E: PublishingEnd>(
     ensures feed { broadcast.new.feed ≡ broadcast.old.feed }
 {
     let mark = broadcast.seal(rt).expect(rt, "a mark");
-    assert_eq!(rt; mark.count(), count);
-    assert_eq!(rt; mark.is_sealed(), true);
+    is_mark(rt, &mark, count, true);
     mark
+}
+
+/// What a read gives, of at most 256 packets.
+pub fn piece_of<R: ReadingEnd + Drop>(
+    rt: &impl Abort,
+    alloc: Global,
+    reader: &mut FeedReader<R>,
+) -> Vec<Packet>
+    ensures { reader.new.known.feed ≡ reader.old.known.feed }
+{
+    let mut piece = Vec::with_capacity(alloc, 256).expect(rt, "memory");
+    assert!(rt; reader.read(&mut piece, 256).is_ok());
+    piece
+}
+
+/// The packets have these PIDs.
+fn have_pids(rt: &impl Abort, packets: &[Packet], pids: &[u16]) {
+    assert!(rt; packets.len() == pids.len());
+    for (packet, pid) in packets.iter().zip(pids) {
+        assert_eq!(rt; packet.pid(), *pid);
+    }
 }
 
 /// A read gives packets of these PIDs.
 pub fn reads(rt: &impl Abort, alloc: Global, reader: &mut FeedReader, pids: &[u16])
     ensures { reader.new.known.feed ≡ reader.old.known.feed }
 {
+    let piece = piece_of(rt, alloc, reader);
+    have_pids(rt, piece.as_slice(), pids);
+}
+
+/// A read is refused.
+pub fn is_refused(rt: &impl Abort, alloc: Global, reader: &mut FeedReader) {
     let mut piece = Vec::with_capacity(alloc, 16).expect(rt, "memory");
-    assert!(rt; reader.read(&mut piece, 16).is_ok());
-    assert_eq!(rt; piece.len(), pids.len());
-    for (packet, pid) in piece.as_slice().iter().zip(pids) {
-        assert_eq!(rt; packet.pid(), *pid);
-    }
+    assert!(rt; reader.read(&mut piece, 16) == Err(NotLetIn));
 }
 
 /// Of the packets of the input so many were taken, and so many of these were sent.
@@ -118,15 +164,15 @@ pub fn took<E: PublishingEnd>(rt: &impl Abort, broadcast: &Broadcast<E>, taken: 
     requires { 0 < length broadcast.now.station.history.run.plan.request.inputs }
 {
     let totals = broadcast.totals(0);
-    assert_eq!(rt; totals.taken, taken);
-    assert_eq!(rt; totals.sent, sent);
+    equals(rt, totals.taken, taken);
+    equals(rt, totals.sent, sent);
 }
 
 /// The largest delay of the stream's packets is this many ticks.
 pub fn delayed<E: PublishingEnd>(rt: &impl Abort, broadcast: &Broadcast<E>, ticks: u64)
     requires { 0 < length broadcast.now.station.history.run.plan.request.streams }
 {
-    assert_eq!(rt; broadcast.station().peak(0).delay, ticks);
+    equals(rt, broadcast.station().peak(0).delay, ticks);
 }
 
 /// The example's PAT, with the packet's header and the pointer field; the rest of its packet is 0xFF.
@@ -135,14 +181,18 @@ const PAT: [u8; 25] = [
     0x10, 0x01, 0xF4, 0xE1, 0x00, 0xF8, 0x93, 0xDA, 0x6A,
 ];
 
+/// The packet is that of the PAT.
+fn is_the_pat(rt: &impl Abort, packet: &Packet) {
+    let mut expected = [0xFF; 188];
+    expected[..25].copy_from_slice(&PAT);
+    assert_eq!(rt; packet.bytes(), &expected);
+}
+
 /// A read gives the packet of the PAT, and nothing else.
 pub fn reads_the_pat(rt: &impl Abort, alloc: Global, reader: &mut FeedReader)
     ensures { reader.new.known.feed ≡ reader.old.known.feed }
 {
-    let mut piece = Vec::with_capacity(alloc, 16).expect(rt, "memory");
-    assert!(rt; reader.read(&mut piece, 16).is_ok());
-    assert_eq!(rt; piece.len(), 1);
-    let mut expected = [0xFF; 188];
-    expected[..25].copy_from_slice(&PAT);
-    assert_eq!(rt; piece[0].bytes(), &expected);
+    let piece = piece_of(rt, alloc, reader);
+    assert!(rt; piece.len() == 1);
+    is_the_pat(rt, &piece[0]);
 }

@@ -1,10 +1,12 @@
-//! A broadcast of one input or two, and the ports of its inputs.
+//! A broadcast of one input, and the port of its input.
 
 ghost use Rattle.std.specs.Prelude.{◌≡◌, [], length};
 
+use crate::tests::asking::offers;
 use broadcast::Broadcast;
 use example::plan_with_rings;
 use feed::FeedReader;
+use plan::Plan;
 use port::Port;
 use std::alloc::Global;
 use std::process::Abort;
@@ -17,23 +19,32 @@ pub struct Seats {
     pub second: FeedReader,
 }
 
-/// A broadcast of the example plan, whose queue and ring have room for 8 packets, its readers, which read nothing, and the port of
-/// its input.
-pub fn open<T: Abort + Wait>(rt: &T, alloc: Global) -> (Seats, Port)
-    ensures first { result.0.first.known.feed ≡ result.0.broadcast.feed }
-    ensures second { result.0.second.known.feed ≡ result.0.broadcast.feed }
-    ensures unread { (result.0.first.read ≡ []) × (result.0.second.read ≡ []) }
-    ensures inputs { length result.0.broadcast.station.history.run.plan.request.inputs ≡ 1 }
-    ensures streams { length result.0.broadcast.station.history.run.plan.request.streams ≡ 1 }
+/// The example plan with one input and one stream, whose queue and ring have room for 8 packets.
+fn plan_of(rt: &impl Abort, alloc: Global) -> Plan
+    ensures inputs { length result.request.inputs ≡ 1 }
+    ensures streams { length result.request.streams ≡ 1 }
 {
     let plan = plan_with_rings(alloc, 8, 8, &[0]).expect(rt, "a plan");
     assert!(rt; plan.inputs().len() == 1);
     assert!(rt; plan.streams().len() == 1);
+    plan
+}
+
+/// A broadcast of that plan, its readers, which read nothing, and the port of its input, with the first so many packets in the ring.
+pub fn open<T: Abort + Wait>(rt: &T, alloc: Global, packets: u8) -> (Seats, Port)
+    ensures first { result.0.first.known.feed ≡ result.0.broadcast.feed }
+    ensures second { result.0.second.known.feed ≡ result.0.broadcast.feed }
+    ensures unread { result.0.first.read ≡ [] }
+    ensures inputs { length result.0.broadcast.station.history.run.plan.request.inputs ≡ 1 }
+    ensures streams { length result.0.broadcast.station.history.run.plan.request.streams ≡ 1 }
+{
+    let plan = plan_of(rt, alloc);
     let (broadcast, mut ports, mut readers) = Broadcast::open(rt, alloc, plan, 1_000, 2).expect(
         rt,
         "a broadcast",
     );
-    let port = ports.pop().expect(rt, "a port");
+    let mut port = ports.pop().expect(rt, "a port");
+    offers(rt, &mut port, packets);
     let second = readers.pop().expect(rt, "two readers");
     let first = readers.pop().expect(rt, "two readers");
     let seats = Seats {
@@ -42,4 +53,14 @@ pub fn open<T: Abort + Wait>(rt: &T, alloc: Global) -> (Seats, Port)
         second,
     };
     (seats, port)
+}
+
+/// The broadcast is closed.
+pub fn close<T: Abort + Wait>(rt: &T, seats: Seats) {
+    let Seats {
+        broadcast,
+        first: _first,
+        second: _second,
+    } = seats;
+    broadcast.close(rt);
 }

@@ -1,11 +1,12 @@
 //! Two threads that lock and tick a broadcast of two inputs, two readers that poll it meanwhile, and one that reads at the end.
 
-use crate::tests::asking::{item, seals};
+use crate::tests::asking::{item, piece_of, seals};
 use crate::tests::serial_bytes::serial_bytes;
 use broadcast::{Broadcast, MAX_STEPS};
 use example::plan_with_rings;
 use feed::{FeedReader, PublishingEnd, ReadingEnd};
 use mux::Sending;
+use plan::Plan;
 use port::Port;
 use std::alloc::Global;
 use std::process::Abort;
@@ -68,24 +69,23 @@ fn send_and_tick<T: Wait + Abort, B: GoesOn>(rt: &T, shared: &Mutex<B>, port: Po
     }
 }
 
-/// The packet stands at the front of these bytes: those behind it.
-fn behind<'a>(rt: &impl Abort, packet: &Packet, bytes: &'a [u8]) -> &'a [u8] {
-    assert_eq!(rt; bytes.get(..188), Some(packet.bytes().as_slice()));
+/// The packet stands at the front of these bytes: those after it.
+fn after<'a>(rt: &impl Abort, packet: &Packet, bytes: &'a [u8]) -> &'a [u8] {
+    assert!(rt; bytes.get(..188) == Some(packet.bytes().as_slice()));
     bytes.get(188..).unwrap_or(&[])
 }
 
-/// Reads on. What is read stands at the front of these bytes: those behind it.
+/// Reads on. What is read stands at the front of these bytes: those after it.
 fn reads_on<'a, R: ReadingEnd + Drop>(
     rt: &impl Abort,
     alloc: Global,
     reader: &mut FeedReader<R>,
     bytes: &'a [u8],
 ) -> &'a [u8] {
-    let mut piece = Vec::with_capacity(alloc, 256).expect(rt, "memory");
-    assert!(rt; reader.read(&mut piece, 256).is_ok());
+    let piece = piece_of(rt, alloc, reader);
     let mut rest = bytes;
     for packet in &piece {
-        rest = behind(rt, packet, rest);
+        rest = after(rt, packet, rest);
     }
     rest
 }
@@ -192,6 +192,39 @@ fn input_bytes(rt: &impl Abort, alloc: Global, packets: u32) -> Vec<u8> {
     bytes
 }
 
+/// The example plan with two inputs.
+fn plan_of_two(rt: &impl Abort, alloc: Global) -> Plan {
+    plan_with_rings(alloc, 8, 64, &[0, 0]).expect(rt, "a plan")
+}
+
+/// The bytes of the run in one thread, whose inputs have so many packets.
+fn bytes_in_one_thread(rt: &impl Abort, alloc: Global, packets: u32) -> Vec<u8> {
+    let input = input_bytes(rt, alloc, packets);
+    serial_bytes(rt, alloc, plan_of_two(rt, alloc), input.as_slice())
+}
+
+/// A broadcast of two inputs, their ports, and three readers.
+struct Seats {
+    broadcast: Broadcast,
+    ports: (Port, Port),
+    both: (FeedReader, FeedReader),
+    last: FeedReader,
+}
+
+fn open<T: Abort + Wait>(rt: &T, alloc: Global) -> Seats {
+    let plan = plan_of_two(rt, alloc);
+    let (broadcast, mut ports, mut readers) = Broadcast::open(rt, alloc, plan, 1_000_000, 3).expect(
+        rt,
+        "a broadcast",
+    );
+    Seats {
+        broadcast,
+        ports: last_two(rt, &mut ports),
+        both: last_two(rt, &mut readers),
+        last: readers.pop().expect(rt, "three readers"),
+    }
+}
+
 /// Two threads tick a broadcast of two inputs and two poll it, and a third reader reads at the end: each reads the bytes of the run
 /// in one thread, which has so many slots.
 fn all_read_the_serial_bytes<T: Threads + Wait + Abort + Sync>(
@@ -200,28 +233,17 @@ fn all_read_the_serial_bytes<T: Threads + Wait + Abort + Sync>(
     work: Work,
     slots: u64,
 ) {
-    let plan = plan_with_rings(alloc, 8, 64, &[0, 0]).expect(rt, "a plan");
-    let again = plan_with_rings(alloc, 8, 64, &[0, 0]).expect(rt, "a plan");
-    let input = input_bytes(rt, alloc, work.packets);
-    let bytes = serial_bytes(rt, alloc, again, input.as_slice());
-    let (broadcast, mut ports, mut readers) = Broadcast::open(rt, alloc, plan, 1_000_000, 3).expect(
-        rt,
-        "a broadcast",
-    );
-    let ports = last_two(rt, &mut ports);
-    let both = last_two(rt, &mut readers);
-    let last = readers.pop().expect(rt, "three readers");
-    let mut broadcast = broadcast_and_poll(
-        rt,
-        alloc,
+    let bytes = bytes_in_one_thread(rt, alloc, work.packets);
+    let bytes = bytes.as_slice();
+    let Seats {
         broadcast,
         ports,
         both,
-        work,
-        bytes.as_slice(),
-    );
+        last,
+    } = open(rt, alloc);
+    let mut broadcast = broadcast_and_poll(rt, alloc, broadcast, ports, both, work, bytes);
     seals(rt, &mut broadcast, slots);
-    polls(rt, alloc, last, bytes.as_slice());
+    polls(rt, alloc, last, bytes);
     broadcast.close(rt);
 }
 

@@ -2,24 +2,52 @@
 
 ghost use Rattle.std.specs.Prelude.{◌≡◌};
 
-use crate::tests::asking::{ends, offers, seals, sends};
+use crate::tests::asking::{ends, marks, piece_of, seals, sends};
 use crate::tests::device::TestWriter;
 use crate::tests::opening::{Seats, open};
+use broadcast::Broadcast;
 use feed::FeedReader;
+use marks::Mark;
 use recorder::{RecordFault, Recorder};
 use serial::WriteSink;
 use std::alloc::Global;
 use std::process::Abort;
 use std::sync::Wait;
+use tspkt::Packet;
 
-/// A sink that takes at most so many bytes a write, and fails at the write with this number, from 0.
-fn sink(alloc: Global, step: usize, fails_at: usize) -> WriteSink<TestWriter> {
+/// A recorder of the first reader of a broadcast, and its second one.
+struct Recording {
+    broadcast: Broadcast,
+    recorder: Recorder<WriteSink<TestWriter>>,
+    second: FeedReader,
+}
+
+/// A sink that takes at most 100 bytes a write, and fails at the write with this number, from 0.
+fn sink(alloc: Global, fails_at: usize) -> WriteSink<TestWriter> {
     WriteSink::new(TestWriter {
         bytes: Vec::new(alloc),
-        step,
+        step: 100,
         fails_at,
         calls: 0,
     })
+}
+
+/// A recorder over such a sink, and a broadcast of eight slots, of which none went out yet.
+fn open_recording<T: Abort + Wait>(rt: &T, alloc: Global, fails_at: usize) -> Recording
+    ensures { result.recorder.reader.known.feed ≡ result.broadcast.feed }
+{
+    let (seats, port) = open(rt, alloc, 5);
+    ends(rt, port);
+    let Seats {
+        broadcast,
+        first,
+        second,
+    } = seats;
+    Recording {
+        broadcast,
+        recorder: Recorder::new(alloc, first, sink(alloc, fails_at)),
+        second,
+    }
 }
 
 /// A step writes so many packets, or fails.
@@ -33,118 +61,121 @@ fn steps(
     assert_eq!(rt; recorder.step(), expected);
 }
 
-/// The bytes of all packets that a reader reads.
-fn bytes_of(rt: &impl Abort, alloc: Global, reader: &mut FeedReader) -> Vec<u8> {
-    let mut piece = Vec::with_capacity(alloc, 16).expect(rt, "memory");
+/// A recorder ends so: the bytes that were written.
+fn finishes(
+    rt: &impl Abort,
+    recorder: Recorder<WriteSink<TestWriter>>,
+    mark: Mark,
+    expected: Result<(), RecordFault>,
+) -> Vec<u8>
+    requires { mark.feed ≡ recorder.reader.known.feed }
+{
+    let (sink, result) = recorder.finish(mark);
+    assert_eq!(rt; result, expected);
+    sink.into_inner().bytes
+}
+
+/// The bytes of these packets.
+fn bytes_of(rt: &impl Abort, alloc: Global, packets: &[Packet]) -> Vec<u8> {
     let mut bytes = Vec::new(alloc);
-    assert!(rt; reader.read(&mut piece, 16).is_ok());
-    for packet in &piece {
+    for packet in packets {
         bytes.extend_from_slice(packet.bytes()).expect(rt, "memory");
     }
     bytes
 }
 
-/// A step writes what was published so far, and the end writes the rest, in writes of at most 100 bytes.
+/// Of these bytes those were written that so many writes of 100 bytes take.
+fn wrote(rt: &impl Abort, writes: usize, written: &[u8], bytes: &[u8]) {
+    let count = writes.saturating_mul(100).min(bytes.len());
+    assert_eq!(rt; written, &bytes[..count]);
+}
+
+/// How a recorder of so many bytes ends whose sink fails at the write with this number.
+fn end_of(fails_at: usize, bytes: usize) -> Result<(), RecordFault> {
+    if fails_at.saturating_mul(100) < bytes {
+        Err(RecordFault::Write)
+    } else {
+        Ok(())
+    }
+}
+
+/// The broadcast is sealed after so many slots, and the recorder ends. Of their bytes, which the second reader reads, those were
+/// written that came before the write that fails, if one does.
+fn ends_recording<T: Abort + Wait>(
+    rt: &T,
+    alloc: Global,
+    recording: Recording,
+    slots: usize,
+    fails_at: usize,
+)
+    requires { recording.recorder.reader.known.feed ≡ recording.broadcast.feed }
+{
+    let Recording {
+        mut broadcast,
+        recorder,
+        mut second,
+    } = recording;
+    let mark = seals(rt, &mut broadcast, slots as u64);
+    let all = slots.saturating_mul(188);
+    let written = finishes(rt, recorder, mark, end_of(fails_at, all));
+    let piece = piece_of(rt, alloc, &mut second);
+    broadcast.close(rt);
+    let bytes = bytes_of(rt, alloc, piece.as_slice());
+    assert!(rt; bytes.len() == all);
+    wrote(rt, fails_at, written.as_slice(), bytes.as_slice());
+}
+
+/// A step writes what was published so far, and the end writes the rest.
 #[test]
 fn all_that_was_published_is_recorded(rt: HostRuntime) {
-    let alloc = rt.alloc();
-    let (seats, mut port) = open(&rt, alloc);
-    let Seats {
-        mut broadcast,
-        first,
-        mut second,
-    } = seats;
-    let mut recorder = Recorder::new(alloc, first, sink(alloc, 100, usize::MAX));
-    offers(&rt, &mut port, 5);
-    ends(&rt, port);
-    sends(&rt, &mut broadcast, 3);
-    steps(&rt, &mut recorder, Ok(3));
-    steps(&rt, &mut recorder, Ok(0));
-    sends(&rt, &mut broadcast, 5);
-    let mark = seals(&rt, &mut broadcast, 8);
-    let (sink, result) = recorder.finish(mark);
-    let bytes = bytes_of(&rt, alloc, &mut second);
-    broadcast.close(&rt);
-    assert_eq!(rt; result, Ok(()));
-    assert_eq!(rt; bytes.len(), 8 * 188);
-    assert_eq!(rt; sink.into_inner().bytes.as_slice(), bytes.as_slice());
+    let mut recording = open_recording(&rt, rt.alloc(), usize::MAX);
+    sends(&rt, &mut recording.broadcast, 3);
+    steps(&rt, &mut recording.recorder, Ok(3));
+    steps(&rt, &mut recording.recorder, Ok(0));
+    sends(&rt, &mut recording.broadcast, 5);
+    ends_recording(&rt, rt.alloc(), recording, 8, usize::MAX);
 }
 
 /// The first 100 bytes went out.
 #[test]
 fn a_failed_write_ends_a_recorder(rt: HostRuntime) {
-    let alloc = rt.alloc();
-    let (seats, mut port) = open(&rt, alloc);
-    let Seats {
-        mut broadcast,
-        first,
-        mut second,
-    } = seats;
-    let mut recorder = Recorder::new(alloc, first, sink(alloc, 100, 1));
-    offers(&rt, &mut port, 5);
-    sends(&rt, &mut broadcast, 3);
-    steps(&rt, &mut recorder, Err(RecordFault::Write));
-    steps(&rt, &mut recorder, Err(RecordFault::Write));
-    let mark = seals(&rt, &mut broadcast, 3);
-    let (sink, result) = recorder.finish(mark);
-    let bytes = bytes_of(&rt, alloc, &mut second);
-    broadcast.close(&rt);
-    let written = sink.into_inner().bytes;
-    wrote(&rt, 1, 3, result, written.as_slice(), bytes.as_slice());
+    let mut recording = open_recording(&rt, rt.alloc(), 1);
+    sends(&rt, &mut recording.broadcast, 3);
+    steps(&rt, &mut recording.recorder, Err(RecordFault::Write));
+    steps(&rt, &mut recording.recorder, Err(RecordFault::Write));
+    ends_recording(&rt, rt.alloc(), recording, 3, 1);
 }
 
-/// Records eight slots to a sink that takes 100 bytes a write and fails at the write with this number: what was written begins the
-/// bytes of the eight slots, and is these where there is no such write.
+/// Eight slots are recorded, to a sink that fails at the write with this number.
 fn records_until<T: Abort + Wait>(rt: &T, alloc: Global, fails_at: usize) {
-    let (seats, mut port) = open(rt, alloc);
-    let Seats {
-        mut broadcast,
-        first,
-        mut second,
-    } = seats;
-    let recorder = Recorder::new(alloc, first, sink(alloc, 100, fails_at));
-    offers(rt, &mut port, 5);
-    ends(rt, port);
-    sends(rt, &mut broadcast, 8);
-    let mark = seals(rt, &mut broadcast, 8);
-    let (sink, result) = recorder.finish(mark);
-    let bytes = bytes_of(rt, alloc, &mut second);
-    broadcast.close(rt);
-    let written = sink.into_inner().bytes;
-    wrote(
-        rt,
-        fails_at,
-        8,
-        result,
-        written.as_slice(),
-        bytes.as_slice(),
-    );
+    let mut recording = open_recording(rt, alloc, fails_at);
+    sends(rt, &mut recording.broadcast, 8);
+    ends_recording(rt, alloc, recording, 8, fails_at);
 }
 
-/// Of these bytes, those of so many slots, those were written that so many writes of 100 bytes take.
-fn wrote(
-    rt: &impl Abort,
-    writes: usize,
-    slots: usize,
-    answer: Result<(), RecordFault>,
-    written: &[u8],
-    bytes: &[u8],
-) {
-    assert_eq!(rt; bytes.len(), slots.saturating_mul(188));
-    let count = writes.saturating_mul(100).min(bytes.len());
-    let expected = if count < bytes.len() {
-        Err(RecordFault::Write)
-    } else {
-        Ok(())
-    };
-    assert_eq!(rt; answer, expected);
-    assert_eq!(rt; written, &bytes[..count]);
-}
-
-/// The eight slots take 16 writes, of the numbers 0 to 15.
+/// Eight slots take 16 writes, of the numbers 0 to 15.
 #[test]
 fn a_sink_may_fail_at_each_of_its_calls(rt: HostRuntime) {
     for fails_at in 0..17 {
         records_until(&rt, rt.alloc(), fails_at);
     }
+}
+
+/// Three packets were written before the close, and none after it.
+#[test]
+fn a_closed_feed_lets_no_recorder_in(rt: HostRuntime) {
+    let mut recording = open_recording(&rt, rt.alloc(), usize::MAX);
+    sends(&rt, &mut recording.broadcast, 3);
+    steps(&rt, &mut recording.recorder, Ok(3));
+    sends(&rt, &mut recording.broadcast, 1);
+    let Recording {
+        broadcast,
+        mut recorder,
+        second: _second,
+    } = recording;
+    let mark = marks(&rt, &broadcast, 4, false);
+    broadcast.close(&rt);
+    steps(&rt, &mut recorder, Err(RecordFault::Memory));
+    let written = finishes(&rt, recorder, mark, Err(RecordFault::Memory));
+    assert!(rt; written.len() == 564);
 }

@@ -2,7 +2,7 @@
 
 ghost use Rattle.std.specs.Prelude.{◌≡◌};
 
-use crate::tests::asking::{marks, offers, publishes, reads, seals, sends, ticks};
+use crate::tests::asking::{learns, publishes, reads, seals, sends, ticks};
 use crate::tests::opening::{Seats, open};
 use crate::tests::refusing_end::RefusingEnd;
 use broadcast::Broadcast;
@@ -37,37 +37,32 @@ fn publishes_later<T: Abort + Wait, E: PublishingEnd>(
     ticks(rt, broadcast, Sending::Sent, 1);
     reads(rt, alloc, first, &[]);
     publishes(rt, broadcast);
-    first.learn(marks(rt, broadcast, 1, false));
+    learns(rt, first, broadcast, 1, false);
     reads(rt, alloc, first, &[0x0000]);
 }
 
-#[test]
-fn a_slot_whose_publish_is_refused_is_published_later(rt: HostRuntime) {
-    let (seats, mut port) = open(&rt, rt.alloc());
+/// The first slot of a broadcast goes out, over an end that refuses the first so many appends and publishes.
+fn is_published_later<T: Abort + Wait>(rt: &T, alloc: Global, appends: u64, publishes: u64) {
+    let (seats, _port) = open(rt, alloc, 2);
     let Seats {
         broadcast,
         mut first,
         second: _second,
     } = seats;
-    let mut broadcast = refusing(broadcast, 0, 1);
-    offers(&rt, &mut port, 2);
-    publishes_later(&rt, rt.alloc(), &mut broadcast, &mut first);
-    broadcast.close(&rt);
+    let mut broadcast = refusing(broadcast, appends, publishes);
+    publishes_later(rt, alloc, &mut broadcast, &mut first);
+    broadcast.close(rt);
+}
+
+#[test]
+fn a_slot_whose_publish_is_refused_is_published_later(rt: HostRuntime) {
+    is_published_later(&rt, rt.alloc(), 0, 1);
 }
 
 /// The tick's append is refused, and once more its publish tries it.
 #[test]
 fn a_slot_whose_append_is_refused_is_published_later(rt: HostRuntime) {
-    let (seats, mut port) = open(&rt, rt.alloc());
-    let Seats {
-        broadcast,
-        mut first,
-        second: _second,
-    } = seats;
-    let mut broadcast = refusing(broadcast, 2, 0);
-    offers(&rt, &mut port, 2);
-    publishes_later(&rt, rt.alloc(), &mut broadcast, &mut first);
-    broadcast.close(&rt);
+    is_published_later(&rt, rt.alloc(), 2, 0);
 }
 
 /// Two slots go out and stay behind. The second waits outside the feed, so that the next tick answers `Memory`; it publishes both,
@@ -92,14 +87,13 @@ fn catches_up<T: Abort + Wait, E: PublishingEnd>(
 
 #[test]
 fn what_waits_for_memory_goes_first(rt: HostRuntime) {
-    let (seats, mut port) = open(&rt, rt.alloc());
+    let (seats, _port) = open(&rt, rt.alloc(), 5);
     let Seats {
         broadcast,
         mut first,
         second: _second,
     } = seats;
     let mut broadcast = refusing(broadcast, 7, 0);
-    offers(&rt, &mut port, 5);
     catches_up(&rt, rt.alloc(), &mut broadcast, &mut first);
     broadcast.close(&rt);
 }
