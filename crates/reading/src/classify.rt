@@ -58,17 +58,21 @@ fn classify_packet(
     ensures counts { report.new ≡ with_counts report.old (counted_of plan.now origin.old (Packet position bytes.now)) }
 {
     report.framed = report.framed.saturating_add(1);
-    let Ok(packet) = tspkt::Packet::read(bytes) else {
+    // A packet that isn't taken is told by its header alone, and not copied.
+    if tspkt::Packet::fault(bytes).is_some() {
         report.malformed = report.malformed.saturating_add(1);
         return None;
-    };
-    let Some(number) = stream_of(plan, origin, &packet) else {
+    }
+    let Some(mapped) = plan.lookup(origin.number(), tspkt::Packet::pid_in(bytes)) else {
         report.unmapped = report.unmapped.saturating_add(1);
         return None;
     };
     let stamp = origin.stamp(position);
+    let Ok(packet) = tspkt::Packet::read(bytes) else {
+        unreachable!()
+    };
     *held = Some(Stamped { packet, stamp });
-    Some(number)
+    Some(mapped.number)
 }
 
 /// The number of the stream that the plan maps a packet's PID of an input to; none where it names no such stream.

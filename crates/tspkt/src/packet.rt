@@ -40,23 +40,41 @@ impl Packet {
     ghost use Rattle.tspkt.specs.Counters.{is_copy};
     ghost use Rattle.tspkt.specs.Counted.{with_counter, IsOutsideCounter};
 
-    /// The packet in these bytes, or the first fault that they have.
+    /// The first fault of these bytes, read as a packet; none where they are one. Nothing is copied.
     #[tactic(auto, unfolding(crate::specs::Packet::fault_of))]
+    pub fn fault(bytes: &[u8; 188]) -> Option<Malformed>
+        ensures { result ≡ fault_of bytes.now }
+    {
+        if fields::sync_byte(bytes) != 0x47 {
+            return Some(Malformed::BadSync);
+        }
+        if fields::adaptation_field_control(bytes) == 0 {
+            return Some(Malformed::ReservedControl);
+        }
+        if fields::has_bad_adaptation(bytes) {
+            return Some(Malformed::BadAdaptation);
+        }
+        None
+    }
+
+    /// The PID of these bytes, read as a packet, 0 to 0x1FFF. Nothing is copied.
+    pub fn pid_in(bytes: &[u8; 188]) -> u16
+        ensures value { result ≡ pid_of bytes.now }
+        ensures fits { result < 2 ^ 13 }
+    {
+        fields::pid(bytes)
+    }
+
+    /// The packet in these bytes, or the first fault that they have.
     pub fn read(bytes: &[u8; 188]) -> Result<Packet, Malformed>
         ensures { MatchResult result
             (λ packet. (packet ≡ bytes.now) × (fault_of bytes.now ≡ None))
             (λ fault. fault_of bytes.now ≡ Some fault) }
     {
-        if fields::sync_byte(bytes) != 0x47 {
-            return Err(Malformed::BadSync);
+        match Packet::fault(bytes) {
+            Some(fault) => Err(fault),
+            None => Ok(Packet { bytes: *bytes }),
         }
-        if fields::adaptation_field_control(bytes) == 0 {
-            return Err(Malformed::ReservedControl);
-        }
-        if fields::has_bad_adaptation(bytes) {
-            return Err(Malformed::BadAdaptation);
-        }
-        Ok(Packet { bytes: *bytes })
     }
 
     /// The 188 bytes.
