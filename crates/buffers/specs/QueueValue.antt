@@ -15,7 +15,7 @@ with_last q item = record q { items = q.items ++ item ∷ [] }
 abbrev pub without_first : QueueValue → QueueValue
 without_first q = record q { items = drop 1 q.items }
 
--- for the code: the time of the first of these, and the greatest u64 where there is none
+-- the time of the first of these, and the greatest u64 where there is none
 abbrev pub first_stamp : List Stamped → ℕ
 first_stamp [] = 18446744073709551615
 first_stamp (item ∷ items) = item.stamp

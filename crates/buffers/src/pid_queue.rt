@@ -2,7 +2,7 @@
 
 ghost use Rattle.std.specs.Prelude.{◌≡◌, ◌<◌, ◌≤◌, ◌↔◌, [], false, length, slice_get, option_copied, IsTrue, IsOk, IfOk, OnOk, IfErr, IfSome, IfNone, Some};
 ghost use Rattle.tspkt.specs.declared.stamped.Stamped.{Stamped};
-ghost use Rattle.buffers.specs.QueueValue.{QueueValue, with_last, without_first};
+ghost use Rattle.buffers.specs.QueueValue.{QueueValue, with_last, without_first, first_stamp};
 
 use circular_buffer::HeapCircularBuffer;
 use std::alloc::{AllocError, Global};
@@ -72,6 +72,13 @@ impl PidQueue {
         ensures { option_copied result ≡ slice_get self.now.items 0 }
     {
         self.waiting.front()
+    }
+
+    /// The time of the packet that waits longest, in ticks of 27 MHz; `u64::MAX` where nothing waits.
+    pub fn head_time(&self) -> u64
+        ensures { result ≡ first_stamp self.now.items }
+    {
+        self.next
     }
 
     /// The time of the packet that waits longest, if that isn't after this time; in ticks of 27 MHz.

@@ -1,8 +1,9 @@
 -- The best of the streams up to a place.
-use Rattle.std.proofs.Common.{ℕ, ◌+◌, ◌<◌, ◌≤◌, ◌≡◌, ◌⊎◌, List, length, get_or, Option, Some, None, refl, ap, ◌∙◌, sym, subst, arith, inl, inr}
+use Rattle.std.proofs.Common.{ℕ, ◌+◌, ◌<◌, ◌≤◌, ◌≡◌, ◌⊎◌, List, [], length, map, get_or, Option, Some, None, refl, ap, ◌∙◌, sym, subst, arith, inl, inr}
 use Rattle.std.specs.Prelude.{IfSome, IfNone}
 use Rattle.std.specs.List.{slice_get}
 use Rattle.std.proofs.lemmas.Bool.{cases_order}
+use Rattle.std.proofs.lemmas.List.{get_or-map, get_or_default}
 use Rattle.std.proofs.lemmas.Option.{same_Some, slice_get_read, slice_get-get_or, slice_get_within}
 use Rattle.tspkt.specs.declared.stamped.Stamped.{Stamped}
 use Rattle.request.specs.declared.stream.Stream.{Stream}
@@ -10,7 +11,9 @@ use Rattle.mux.specs.declared.candidate.Candidate.{Candidate}
 use Rattle.buffers.specs.QueueValue.{QueueValue}
 use Rattle.buffers.specs.BucketValue.{BucketValue}
 use Rattle.mux.specs.Lawful.{IsNotAfter}
+use Rattle.mux.specs.Keeping.{head_time}
 use Rattle.mux.specs.Choosing.{IsEligibleHead, IsFirstHead, Precedes, Leads, IsBetterHead, IsNoBetterHead}
+use Rattle.mux.proofs.HeadTimes.{time_of_head}
 
 -- of the streams before place n, this one goes first
 pub record IsBest (streams : List Stream) (queues : List QueueValue) (buckets : List BucketValue) (now n : ℕ) (b : Candidate) : Type 0 where
@@ -136,6 +139,17 @@ skips_read streams queues buckets now n (Some b) q d limit best at_limit l size 
                 ])
           ];
     }
+
+-- the head at the next place has a later time
+pub passed_over : (streams : List Stream) (queues : List QueueValue) (heads : List ℕ) (buckets : List BucketValue) (now n : ℕ) (best : Option Candidate) (limit : ℕ) → IsBestBelow streams queues buckets now n best → IsLimit now best limit
+    → n < length queues → length streams ≡ length queues → heads ≡ map head_time queues → limit < get_or heads n 0 → IsBestBelow streams queues buckets now (n + 1) best
+passed_over streams queues heads buckets now n best limit is at_limit l size heads_are later =
+    let empty : QueueValue = record { items = []; capacity = 0 } in
+    let nobody : Stream = record { input = 0; pid = 0; output_pid = 0; leak = 0 } in
+    let q : QueueValue = get_or queues n empty in
+    let of_head : get_or heads n 0 ≡ head_time q = ap (λ ns. get_or ns n 0) heads_are ∙ get_or-map head_time queues n empty 0 l in
+    skips_read streams queues buckets now n best q nobody limit is at_limit l size (get_or_default queues n empty q l)
+    (λ item bucket head due here room. let e = time_of_head q.items item head in absurd (omega arith))
 
 -- the head at the next place goes first
 picks : (streams : List Stream) (queues : List QueueValue) (buckets : List BucketValue) (now n : ℕ) (best : Option Candidate) (next : Candidate) (item : Stamped) → IsBestBelow streams queues buckets now n best

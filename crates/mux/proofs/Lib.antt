@@ -19,6 +19,7 @@ pub mod Heads
 pub mod Steps
 pub mod Peaks
 pub mod Noted
+pub mod HeadTimes
 pub mod Readiness
 pub mod Choices
 pub mod Opening

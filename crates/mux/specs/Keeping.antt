@@ -5,7 +5,7 @@ use Rattle.mux.specs.declared.mux.TheConstants.{MAX_SLOTS}
 use Rattle.mux.specs.declared.event.Event.{Event}
 use Rattle.request.specs.declared.stream.Stream.{Stream}
 use Rattle.mux.specs.declared.input_state.InputState.{InputState}
-use Rattle.buffers.specs.QueueValue.{QueueValue}
+use Rattle.buffers.specs.QueueValue.{QueueValue, first_stamp}
 use Rattle.buffers.specs.BucketValue.{BucketValue}
 use Rattle.rounds.specs.Turn.{TurnValue}
 use Rattle.mux.specs.SlotClock.{ClockValue, clock_at}
@@ -68,6 +68,14 @@ pub record IsKept (r : Run) (h : List Event) (states : List InputState) (queues 
   pub turn_is : turn ≡ turn_at r.plan (slots h)
   pub packets_are : packets ≡ emitted r.plan h
   pub counts_are : counts ≡ counts_of h
+
+-- the time of the head of a queue
+abbrev pub head_time : QueueValue → ℕ
+head_time q = first_stamp q.items
+
+-- the times that lie beside the queues are those of their heads
+pub record KeepsHeads (heads : List ℕ) (queues : List QueueValue) : Type 0 where
+  pub heads_are : heads ≡ map head_time queues
 
 -- the same state, with no full queue noted
 abbrev pub without_full : InputState → InputState

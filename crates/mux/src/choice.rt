@@ -5,7 +5,7 @@ ghost use Rattle.std.specs.List.{slice_get};
 ghost use Rattle.tspkt.specs.declared.stamped.Stamped.{Stamped};
 ghost use Rattle.request.specs.declared.stream.Stream.{Stream};
 ghost use Rattle.mux.specs.declared.input_state.InputState.{InputState};
-ghost use Rattle.mux.specs.Keeping.{ready_at, without_full, KeepsNoted};
+ghost use Rattle.mux.specs.Keeping.{ready_at, without_full, KeepsNoted, head_time};
 ghost use Rattle.mux.specs.Choosing.{Leads, Follows, IsBetterHead, IsNoBetterHead, IsEligibleHead, IsFirstHead};
 
 use crate::candidate::Candidate;
@@ -100,14 +100,17 @@ fn better_head(
 }
 
 /// Of the heads that are due, and that their streams' buckets have room for, the one that goes
-/// first: that of the least time, and of these that of the least output PID.
+/// first: that of the least time, and of these that of the least output PID. The times of all heads are given beside the
+/// queues.
 pub(crate) fn choose(
     streams: &[Stream],
     queues: &[PidQueue],
+    heads: &[u64],
     progress: &Progress,
     now: u64,
 ) -> Option<Candidate>
     requires queues { length streams.now ≡ length queues.now }
+    requires heads { heads.now ≡ map head_time queues.now }
     requires buckets { length streams.now ≡ length progress.now.buckets }
     ensures none { IfNone result ((k : ℕ) (st : Stream) (item : Stamped)
         → IsEligibleHead streams.now queues.now progress.now.buckets now k st item → ⊥) }
@@ -116,10 +119,12 @@ pub(crate) fn choose(
     let mut best: Option<Candidate> = None;
     // No head of a later time goes before the best, so most queues are passed over by one comparison.
     let mut limit = now;
-    for (i, stream) in streams.iter().enumerate() {
-        if let Some(next) = better_head(best, i, *stream, &queues[i], progress, limit) {
-            best = Some(next);
-            limit = next.stamp;
+    for (i, head) in heads.iter().enumerate() {
+        if *head <= limit {
+            if let Some(next) = better_head(best, i, streams[i], &queues[i], progress, limit) {
+                best = Some(next);
+                limit = next.stamp;
+            }
         }
     }
     best

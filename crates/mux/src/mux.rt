@@ -8,7 +8,7 @@ ghost use Rattle.mux.specs.History.{opened, queue, slots, emitted};
 ghost use Rattle.mux.specs.Totals.{IsTotals, IsCounts};
 ghost use Rattle.mux.specs.Headline.{IsSound, IsLevelOf};
 ghost use Rattle.mux.specs.Peaks.{IsPeak};
-ghost use Rattle.mux.specs.Keeping.{state_of, queue_of, no_peak};
+ghost use Rattle.mux.specs.Keeping.{state_of, queue_of, head_time, no_peak};
 
 mod offering;
 mod sending;
@@ -46,6 +46,9 @@ pub struct Mux {
     /// Whether a full queue of an input was noted since the last slot.
     is_noted: bool,
     queues: Vec<PidQueue>,
+    /// The time of each queue's head, side by side, so that a slot passes over most queues by one comparison; `u64::MAX`
+    /// where nothing waits.
+    heads: Vec<u64>,
     peaks: Vec<Peak>,
     progress: Progress,
     turn: TableTurn,
@@ -54,7 +57,7 @@ pub struct Mux {
 
 impl Model for Mux {
     ghost use Rattle.mux.specs.History.{Run, History};
-    ghost use Rattle.mux.specs.Keeping.{IsKept, KeepsPeaks, KeepsNoted};
+    ghost use Rattle.mux.specs.Keeping.{IsKept, KeepsPeaks, KeepsNoted, KeepsHeads};
 
     ghost Value = { History };
 
@@ -67,7 +70,8 @@ impl Model for Mux {
         (record { plan = m.plan; limit = m.limit }) m.past
         m.inputs.items m.queues.items m.progress.buckets m.progress.clock m.turn m.output m.counts
         × KeepsPeaks m.plan m.past m.peaks.items
-        × KeepsNoted m.is_noted m.inputs.items };
+        × KeepsNoted m.is_noted m.inputs.items
+        × KeepsHeads m.heads.items m.queues.items };
 }
 
 /// What is kept of so many inputs before the first packet.
@@ -104,6 +108,17 @@ fn new_queues(
     Ok(queues)
 }
 
+/// The time of each queue's head.
+fn new_heads(alloc: Global, queues: &[PidQueue]) -> Result<Vec<u64>, AllocError>
+    ensures { IfOk result (λ v. v.items ≡ map head_time queues.now) }
+{
+    let mut heads = Vec::with_capacity(alloc, queues.len())?;
+    for queue in queues {
+        heads.push(queue.head_time())?;
+    }
+    Ok(heads)
+}
+
 /// The peak of a stream that took nothing, a stream.
 fn new_peaks(alloc: Global, streams: &[Stream]) -> Result<Vec<Peak>, AllocError>
     ensures { IfOk result (λ v. v.items ≡ map no_peak streams.now) }
@@ -138,6 +153,7 @@ impl Mux {
             output: Output::new(alloc)?,
             inputs,
             is_noted: false,
+            heads: new_heads(alloc, queues.as_slice())?,
             queues,
             peaks,
             progress,

@@ -67,6 +67,7 @@ impl Mux {
         choose(
             self.plan.streams(),
             self.queues.as_slice(),
+            self.heads.as_slice(),
             &self.progress,
             now,
         )
@@ -134,7 +135,9 @@ impl Mux {
         let delay = now - item.stamp;
         self.output
             .push(rewrite(&item.packet, stream.output_pid, delay));
-        let _ = self.queues[index].take();
+        let queue = &mut self.queues[index];
+        let _ = queue.take();
+        self.heads[index] = queue.head_time();
         let peak = &mut self.peaks[index];
         peak.delay = peak.delay.max(delay);
         self.past.add(Event::Slot(Content::Elementary(stream)));

@@ -28,6 +28,7 @@ invariant_of-self c =
       closing c.self.invariant.0 _ c.args.input c.index_mut.result.now c.add.ensures l c.index_mut.ensures.value (ap (λ (x : InputState). x.closed) same ∙ c.if-not-index.true),
       peaks_close c.self.invariant.1 _ c.args.input c.add.ensures,
       noted_same c.self.invariant.2 c.args.input c.index_mut.result.now _ (omega (arith, length_states k)) c.index_mut.ensures.value refl,
+      c.self.invariant.3,
     )
 
 pub returns-then-not-index-clause-again : goal.returns-then-not-index-clause-again

@@ -25,6 +25,7 @@ invariant_of-self c =
       noting c.self.invariant.0 _ c.args.stream.input c.args.stream c.index_mut.result.now c.add.ensures l c.index_mut.ensures.value (subst P (sym c.self.view_is) c.requires.may),
       peaks_full c.self.invariant.1 _ c.args.stream.input c.args.stream c.add.ensures,
       noted_now _,
+      c.self.invariant.3,
     )
 
 pub returns : goal.returns

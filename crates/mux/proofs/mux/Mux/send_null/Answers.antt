@@ -28,7 +28,7 @@ invariant_of-self c =
     let packet = c.push.ensures ∙ ap (λ q. c.self.inside.output ++ q ∷ []) c.null.ensures.value in
     let kept = sending_null c.self.invariant.0 _ _ _ _ _ _ c.add.ensures c.clear_full.ensures.inputs c.pass.ensures.buckets c.pass.ensures.clock c.advance.ensures
     packet (subst S (sym c.self.view_is) c.requires.within) (subst R (sym c.self.view_is) c.requires.may) in
-    (kept, peaks_null c.self.invariant.1 _ c.add.ensures, noted_cleared _ c.self.inside.inputs.items _ c.clear_full.ensures.inputs)
+    (kept, peaks_null c.self.invariant.1 _ c.add.ensures, noted_cleared _ c.self.inside.inputs.items _ c.clear_full.ensures.inputs, c.self.invariant.3)
 
 pub returns : goal.returns
 returns c =

@@ -42,7 +42,7 @@ invariant_of-self c =
     let packet = c.push.ensures ∙ ap (λ q. c.self.inside.output ++ q ∷ []) (c.table_packet-packet.ensures ∙ ap of (sym c.self.view_is)) in
     let kept = sending_table c.self.invariant.0 c.args.place _ _ _ _ _ _ c.add.ensures c.clear_full.ensures.inputs c.pass.ensures.buckets c.pass.ensures.clock c.advance.ensures
     packet (subst S (sym c.self.view_is) c.requires.within) (subst R (sym c.self.view_is) c.requires.may) in
-    (kept, peaks_table c.self.invariant.1 _ c.args.place c.add.ensures, noted_cleared _ c.self.inside.inputs.items _ c.clear_full.ensures.inputs)
+    (kept, peaks_table c.self.invariant.1 _ c.args.place c.add.ensures, noted_cleared _ c.self.inside.inputs.items _ c.clear_full.ensures.inputs, c.self.invariant.3)
 
 pub returns : goal.returns
 returns c =
