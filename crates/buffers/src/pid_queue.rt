@@ -116,7 +116,12 @@ impl PidQueue {
         ensures first { result ≡ slice_get self.old.items 0 }
         ensures rest { self.new ≡ without_first self.old }
     {
-        let first = self.waiting.pop_front();
+        // The only one leaves at the back: its place is the next one's then, and is still in the cache.
+        let first = if self.len() == 1 {
+            self.waiting.pop_back()
+        } else {
+            self.waiting.pop_front()
+        };
         self.next = match self.waiting.front() {
             None => u64::MAX,
             Some(item) => item.stamp,
