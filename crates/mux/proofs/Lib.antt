@@ -13,6 +13,7 @@ pub mod Outputs
 pub mod Carried
 pub mod Nulls
 pub mod CounterLaws
+pub mod Pushed
 pub mod ClockLaws
 pub mod Sound
 pub mod Heads

@@ -20,7 +20,7 @@ use crate::sending::Sending;
 use crate::slot::Slot;
 use request::Stream;
 use rounds::TablePlace;
-use tspkt::{Packet, null, rewrite};
+use tspkt::{Packet, rewrite};
 
 impl Mux {
     /// Whether all inputs are closed, and nothing waits.
@@ -115,7 +115,7 @@ impl Mux {
         requires may { MaySend self.old.run.plan self.old.events Content.Null }
         ensures { self.new ≡ with_event self.old (Event.Slot Content.Null) }
     {
-        self.output.push(null());
+        self.output.push_null();
         self.past.add(Event::Slot(Content::Null));
         clear_full(&mut self.inputs, &mut self.is_noted);
         self.progress.pass();

@@ -1,4 +1,4 @@
-use Rattle.std.proofs.Common.{sym, ap, ◌∙◌, subst, ◌++◌, ◌∷◌, [], List, ◌<◌, arith}
+use Rattle.std.proofs.Common.{sym, ap, ◌∙◌, subst, List, ◌<◌, arith}
 use Rattle.mux.specs.declared.content.Content.TheVariants.{Null}
 use Rattle.mux.specs.History.{History, slots, with_event}
 use Rattle.mux.specs.declared.counts.Counts.{Counts}
@@ -25,9 +25,8 @@ pub invariant_of-self : goal.invariant_of-self
 invariant_of-self c =
     let R : History → Type 0 = λ h. MaySend h.run.plan h.events Null in
     let S : History → Type 0 = λ h. slots h.events < h.run.limit in
-    let packet = c.push.ensures ∙ ap (λ q. c.self.inside.output ++ q ∷ []) c.null.ensures.value in
     let kept = sending_null c.self.invariant.0 _ _ _ _ _ _ c.add.ensures c.clear_full.ensures.inputs c.pass.ensures.buckets c.pass.ensures.clock c.advance.ensures
-    packet (subst S (sym c.self.view_is) c.requires.within) (subst R (sym c.self.view_is) c.requires.may) in
+    c.push_null.ensures (subst S (sym c.self.view_is) c.requires.within) (subst R (sym c.self.view_is) c.requires.may) in
     (kept, peaks_null c.self.invariant.1 _ c.add.ensures, noted_cleared _ c.self.inside.inputs.items _ c.clear_full.ensures.inputs, c.self.invariant.3)
 
 pub returns : goal.returns
