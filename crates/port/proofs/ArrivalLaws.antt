@@ -1,5 +1,5 @@
 -- Packets and end marks of lists of arrivals.
-use Rattle.std.proofs.Common.{◌≡◌, ◌+◌, Bool, true, false, List, [], ◌∷◌, ◌++◌, length, drop, refl, ap, sym, ◌∙◌, arith}
+use Rattle.std.proofs.Common.{◌≡◌, ◌+◌, Bool, true, false, List, [], ◌∷◌, ◌++◌, length, drop, refl, ap, sym, ◌∙◌, arith, length-append}
 use Rattle.tspkt.specs.declared.stamped.Stamped.{Stamped}
 use Rattle.port.specs.declared.arrival.Arrival.{Arrival}
 use Rattle.port.specs.declared.arrival.Arrival.TheVariants.{Packet, End}
@@ -43,6 +43,13 @@ pub marks_left : (got known all : List Arrival) → got ++ known ≡ all → len
 marks_left got known all e =
     let s : marks_of all ≡ marks_of got + marks_of known = ap marks_of (sym e) ∙ marks_of_append got known in
     omega (arith, length_arrivals known, s)
+
+-- what is last of equal lists
+pub last_same : {A : Type 0} (xs ys : List A) (x y : A) → xs ++ x ∷ [] ≡ ys ++ y ∷ [] → x ≡ y
+last_same [] [] x y e = cc
+last_same [] (z ∷ ys) x y e = absurd (omega (arith, ap (λ vs. length vs) e, length-append ys (y ∷ [])))
+last_same (z ∷ xs) [] x y e = absurd (omega (arith, ap (λ vs. length vs) e, length-append xs (x ∷ [])))
+last_same (z ∷ xs) (w ∷ ys) x y e = last_same xs ys x y (ap (drop 1) e)
 
 -- where there is no mark, none came
 pub unmarked : (b : Bool) → mark_count b ≡ 0 → b ≡ false

@@ -1,7 +1,8 @@
 -- What is taken out of a ring in chunks, and handed on one by one (profile).
-use Rattle.std.specs.Prelude.{◌≡◌, ◌-◌, List, ◌++◌, length, take}
+use Rattle.std.specs.Prelude.{◌≡◌, ℕ, ◌-◌, ◌<◌, List, [], ◌∷◌, ◌++◌, length, take, get_or}
 use Rattle.rtrb.specs.Fifo.{Allowed}
 use Rattle.port.specs.declared.arrival.Arrival.{Arrival}
+use Rattle.port.specs.declared.arrival.Arrival.TheVariants.{End}
 use Rattle.port.specs.Arrivals.{marks_of}
 use Rattle.port.specs.Rings.{RingId}
 
@@ -18,3 +19,8 @@ handed_on received waiting = take (length received - length waiting) received
 pub record AreWaiting (received waiting : List Arrival) : Type 0 where
   pub last : received ≡ handed_on received waiting ++ waiting
   pub unmarked : Allowed (λ before _. marks_of before ≡ 0) (handed_on received waiting) waiting
+
+-- What was handed on last stands in the chunk right before those that wait; nothing was handed on where nothing stands there.
+pub record IsLastOf (chunk : List Arrival) (passed : ℕ) (handed : List Arrival) : Type 0 where
+  pub none : passed ≡ 0 → handed ≡ []
+  pub last : 0 < passed → (before : List Arrival) × (handed ≡ before ++ get_or chunk (passed - 1) End ∷ [])

@@ -1,5 +1,6 @@
 pub mod Arrivals
 pub mod Rings
 pub mod Receiving
+pub mod Advancing
 pub mod Stops
 pub mod Chunks

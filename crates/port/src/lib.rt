@@ -5,6 +5,7 @@
 #![tactic(auto)]
 
 mod arrival;
+mod arrival_kind;
 mod finished_port;
 mod gate;
 mod nothing_after_end;
@@ -17,6 +18,7 @@ mod rings;
 mod tests;
 
 pub use arrival::Arrival;
+pub use arrival_kind::ArrivalKind;
 pub use finished_port::FinishedPort;
 pub use gate::Gate;
 pub use point::Point;

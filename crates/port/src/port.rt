@@ -1,11 +1,11 @@
 //! The end of a ring that sends.
 
-ghost use Rattle.std.specs.Prelude.{◌≡◌, ◌++◌, ◌∷◌, [], true, false, IfSome, MatchResult};
+ghost use Rattle.std.specs.Prelude.{◌≡◌, ◌++◌, ◌∷◌, [], true, false, IfSome, MatchBool, MatchResult};
 
 use crate::arrival::Arrival;
 use crate::finished_port::FinishedPort;
 use crate::nothing_after_end::NothingAfterEnd;
-use rtrb::{Producer, PushError};
+use rtrb::Producer;
 use std::alloc::Global;
 use std::marker::Model;
 use tspkt::Stamped;
@@ -36,19 +36,30 @@ impl Model for Port {
 
 impl Port {
     /// Sends a packet of the input. Where no free place is seen in the ring the packet comes back, and nothing changed.
-    #[tactic(auto, using(crate::proofs::RingLaws::same_id, crate::proofs::ArrivalLaws::packets_of_snoc, crate::proofs::ArrivalLaws::marks_of_snoc))]
     pub fn offer(&mut self, item: Stamped) -> Result<(), Stamped>
         ensures ring { self.new.ring ≡ self.old.ring }
         ensures sent { MatchResult result
             (λ _. self.new ≡ record self.old { sent = self.old.sent ++ item ∷ [] })
             (λ back. (back ≡ item) × (self.new ≡ self.old)) }
     {
+        if self.send(&item) { Ok(()) } else { Err(item) }
+    }
+
+    /// Sends a copy of a packet of the input. False is answered where no free place is seen in the ring, and then nothing
+    /// changed.
+    #[tactic(auto, using(crate::proofs::RingLaws::same_id, crate::proofs::ArrivalLaws::packets_of_snoc, crate::proofs::ArrivalLaws::marks_of_snoc))]
+    pub fn send(&mut self, item: &Stamped) -> bool
+        ensures ring { self.new.ring ≡ self.old.ring }
+        ensures sent { MatchBool result
+            (self.new ≡ record self.old { sent = self.old.sent ++ item.now ∷ [] })
+            (self.new ≡ self.old) }
+    {
         let Port { producer, .. } = self;
-        match producer.push(Arrival::Packet(item)) {
-            Ok(()) => Ok(()),
-            Err(PushError::Full(Arrival::Packet(back))) => Err(back),
-            Err(PushError::Full(Arrival::End)) => unreachable!(),
+        if producer.is_full() {
+            return false;
         }
+        producer.push_reserved(Arrival::Packet(*item));
+        true
     }
 
     /// Sends the end mark, and nothing after it. Where no free place is seen in the ring the port comes back, unchanged.

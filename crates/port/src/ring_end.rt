@@ -1,12 +1,15 @@
 //! The end of a ring that receives.
 
-ghost use Rattle.std.specs.Prelude.{◌≡◌, IfSome};
+ghost use Rattle.std.specs.Prelude.{◌≡◌, ◌<◌, false, length, IfSome};
 ghost use Rattle.port.specs.Receiving.{IsReceived, IsLeft};
+ghost use Rattle.port.specs.Advancing.{IsAdvanced, IsLast};
 
 use crate::arrival::Arrival;
+use crate::arrival_kind::ArrivalKind;
 use crate::finished_port::FinishedPort;
 use crate::ring_reader::RingReader;
 use std::marker::Model;
+use tspkt::Stamped;
 
 /// The receiving end of an input's ring. Contracts see which ring it is, the packets that came out of it, and whether the end
 /// mark came. None of its calls locks, waits or asks for memory.
@@ -35,19 +38,43 @@ impl Model for RingEnd {
 impl RingEnd {
     /// Takes what comes next out of the ring: a packet, or the end mark. `None` is answered where nothing is seen in the
     /// ring, and always behind the end mark.
-    #[tactic(auto, using(crate::proofs::ArrivalLaws::packets_of_snoc, crate::proofs::ArrivalLaws::packets_of_mark, crate::proofs::ArrivalLaws::marks_of_snoc, crate::proofs::ArrivalLaws::marks_of_mark, crate::proofs::ArrivalLaws::unmarked))]
     pub fn next(&mut self) -> Option<Arrival>
         ensures ring { self.new.ring ≡ self.old.ring }
         ensures received { IsReceived self.old result self.new }
     {
+        match self.advance()? {
+            ArrivalKind::Packet => Some(Arrival::Packet(*self.last())),
+            ArrivalKind::End => Some(Arrival::End),
+        }
+    }
+
+    /// Takes what comes next out of the ring, and tells what kind it is: a packet, which `last` then shows, or the end mark.
+    /// `None` is answered where nothing is seen in the ring, and always behind the end mark.
+    #[tactic(auto, using(crate::proofs::ArrivalLaws::packets_of_snoc, crate::proofs::ArrivalLaws::packets_of_mark, crate::proofs::ArrivalLaws::marks_of_snoc, crate::proofs::ArrivalLaws::marks_of_mark, crate::proofs::ArrivalLaws::unmarked))]
+    pub fn advance(&mut self) -> Option<ArrivalKind>
+        ensures ring { self.new.ring ≡ self.old.ring }
+        ensures advanced { IsAdvanced self.old result self.new }
+    {
         let RingEnd { reader, is_ended } = self;
-        match reader.next() {
-            Some(Arrival::Packet(item)) => Some(Arrival::Packet(item)),
-            Some(Arrival::End) => {
-                *is_ended = true;
-                Some(Arrival::End)
-            }
-            None => None,
+        if !reader.advance() {
+            return None;
+        }
+        if let Arrival::Packet(_) = reader.last() {
+            return Some(ArrivalKind::Packet);
+        }
+        *is_ended = true;
+        Some(ArrivalKind::End)
+    }
+
+    /// The packet that came out of the ring last, where one did and no end mark came behind it.
+    pub fn last(&self) -> &Stamped
+        requires came { 0 < length self.now.received }
+        requires unmarked { self.now.is_ended ≡ false }
+        ensures { IsLast self.now result.now }
+    {
+        match self.reader.last() {
+            Arrival::Packet(item) => item,
+            Arrival::End => unreachable!(),
         }
     }
 

@@ -31,7 +31,7 @@ impl Model for RingReader {
     ghost use Rattle.std.specs.Prelude.{◌≤◌, drop, take};
     ghost use Rattle.rtrb.specs.Ring.{received};
     ghost use Rattle.port.specs.Rings.{ring_id};
-    ghost use Rattle.port.specs.Chunks.{ReaderValue, handed_on, AreWaiting};
+    ghost use Rattle.port.specs.Chunks.{ReaderValue, handed_on, AreWaiting, IsLastOf};
 
     ghost Value = { ReaderValue };
 
@@ -41,11 +41,12 @@ impl Model for RingReader {
     } };
 
     ghost invariant = { λ r. (r.passed ≤ r.count) × (r.count ≤ 16)
-        × AreWaiting (received r.consumer) (drop r.passed (take r.count r.chunk)) };
+        × AreWaiting (received r.consumer) (drop r.passed (take r.count r.chunk))
+        × IsLastOf r.chunk r.passed (handed_on (received r.consumer) (drop r.passed (take r.count r.chunk))) };
 }
 
 impl RingReader {
-    ghost use Rattle.std.specs.Prelude.{◌≡◌, ◌++◌, ◌∷◌, [], List, length, MatchOption};
+    ghost use Rattle.std.specs.Prelude.{◌≡◌, ◌++◌, ◌∷◌, ◌<◌, [], List, length, MatchBool};
     ghost use Rattle.rtrb.specs.Ring.{received, sent};
     ghost use Rattle.port.specs.declared.arrival.Arrival.{Arrival as AnyArrival};
     ghost use Rattle.port.specs.Arrivals.{marks_of};
@@ -65,29 +66,34 @@ impl RingReader {
         }
     }
 
-    /// Takes what is seen in the ring out of it, where all that came out was handed on.
-    fn look(&mut self)
-        ensures { self.new ≡ self.old }
+    /// Hands on what comes next, which `last` then shows. False is answered where nothing is seen in the ring. Nothing comes
+    /// behind an end mark.
+    pub fn advance(&mut self) -> bool
+        ensures { MatchBool result
+            ((x : AnyArrival) × (self.new ≡ record self.old { handed = self.old.handed ++ x ∷ [] })
+            × (marks_of self.old.handed ≡ 0))
+            (self.new ≡ self.old) }
     {
-        if self.passed == self.count {
-            self.passed = 0;
-            self.count = self.consumer.pop_partial_slice(&mut self.chunk);
+        if self.passed < self.count {
+            self.passed += 1;
+            return true;
         }
+        let count = self.consumer.pop_partial_slice(&mut self.chunk);
+        // A chunk into which nothing came shows still what was handed on last.
+        if count == 0 {
+            return false;
+        }
+        self.count = count;
+        self.passed = 1;
+        true
     }
 
-    /// Hands on what comes next. `None` is answered where nothing is seen in the ring. Nothing comes behind an end mark.
-    pub fn next(&mut self) -> Option<Arrival>
-        ensures { MatchOption result (self.new ≡ self.old)
-            (λ x. (self.new ≡ record self.old { handed = self.old.handed ++ x ∷ [] })
-            × (marks_of self.old.handed ≡ 0)) }
+    /// What was handed on last.
+    pub fn last(&self) -> &Arrival
+        requires { 0 < length self.now.handed }
+        ensures { (before : List AnyArrival) × (self.now.handed ≡ before ++ result.now ∷ []) }
     {
-        self.look();
-        if self.passed == self.count {
-            return None;
-        }
-        let next = self.chunk[self.passed];
-        self.passed += 1;
-        Some(next)
+        &self.chunk[self.passed - 1]
     }
 
     /// How many arrivals of those that were sent weren't handed on, beside the end that sends.

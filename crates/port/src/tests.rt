@@ -1,5 +1,5 @@
-use crate::Arrival;
 use crate::rings::ring;
+use crate::{Arrival, ArrivalKind, RingEnd};
 use std::test::Fail;
 use tspkt::{Stamped, null};
 
@@ -13,6 +13,13 @@ fn stamped(stamp: u64) -> Stamped {
 fn stamp_of(arrival: Option<Arrival>) -> Option<u64> {
     match arrival {
         Some(Arrival::Packet(item)) => Some(item.stamp),
+        _ => None,
+    }
+}
+
+fn lent_stamp(end: &mut RingEnd) -> Option<u64> {
+    match end.advance() {
+        Some(ArrivalKind::Packet) => Some(end.last().stamp),
         _ => None,
     }
 }
@@ -66,5 +73,24 @@ fn more_than_comes_out_at_once_comes_out_in_order(rt: HostRuntime) -> Result<(),
         assert_eq!(rt; stamp_of(end.next()), Some(stamp));
     }
     assert!(rt; end.next().is_none());
+    Ok(())
+}
+
+#[test]
+fn what_is_sent_is_lent_in_order_beside_what_comes_by_value(rt: HostRuntime) -> Result<(), Fail> {
+    let (mut port, mut end) = ring(rt.alloc(), 0, 40)?;
+    for stamp in 0..40 {
+        assert!(rt; port.send(&stamped(stamp)));
+    }
+    assert!(rt; !port.send(&stamped(40)));
+    for pair in 0..20 {
+        assert_eq!(rt; lent_stamp(&mut end), Some(2 * pair));
+        assert_eq!(rt; stamp_of(end.next()), Some(2 * pair + 1));
+    }
+    assert!(rt; end.advance().is_none());
+    assert!(rt; port.end().is_ok());
+    assert_eq!(rt; end.advance(), Some(ArrivalKind::End));
+    assert!(rt; end.is_ended());
+    assert!(rt; end.advance().is_none());
     Ok(())
 }
