@@ -113,13 +113,13 @@ fn send<T: Wait + Clock>(
         (packets_in port.new.sent ≡ packets_in port.old.sent ++ packet.now ∷ [])
         (port.new ≡ port.old) }
 {
+    // The time of a packet that goes out is its place, so none is told.
+    let item = Stamped {
+        packet: *packet,
+        stamp: 0,
+    };
     for _ in rt.forever() {
-        // The time of a packet that goes out is its place, so none is told.
-        let item = Stamped {
-            packet: *packet,
-            stamp: 0,
-        };
-        if port.offer(item).is_ok() {
+        if port.send(&item) {
             return true;
         }
         if is_over.load(Ordering::SeqCst) {

@@ -4,7 +4,7 @@ ghost use Rattle.threaded.specs.Outputs.{IsWritten};
 
 use crate::outlet::Outlet;
 use crate::written::Written;
-use port::{Arrival, RingEnd};
+use port::{ArrivalKind, RingEnd};
 use serial::{RunFault, Sink};
 use std::alloc::Global;
 use std::sync::atomic::{AtomicBool, Ordering};
@@ -54,9 +54,9 @@ fn write_all<T: Wait + Clock, W: Sink>(
     ensures { IsWritten W.contents W.failures end.old outlet.old end.new outlet.new result }
 {
     for _ in rt.forever() {
-        match end.next() {
-            Some(Arrival::Packet(item)) => outlet.output.put(&item.packet, &mut outlet.sink)?,
-            Some(Arrival::End) => return outlet.output.flush(&mut outlet.sink),
+        match end.advance() {
+            Some(ArrivalKind::Packet) => outlet.output.put(&end.last().packet, &mut outlet.sink)?,
+            Some(ArrivalKind::End) => return outlet.output.flush(&mut outlet.sink),
             None => pause(rt),
         }
     }

@@ -99,8 +99,8 @@ impl<R: Source + Drop, G: Gate + Drop> Sender<R, G> {
             (StopsOnce (G.stops self.old.gate) (G.stops self.new.gate)) }
     {
         for _ in rt.forever() {
-            let item = *self.reader.held().unwrap();
-            if self.port.offer(item).is_ok() {
+            let item = self.reader.held().unwrap();
+            if self.port.send(item) {
                 self.reader.release();
                 return self.gate.pass(Point::Offered);
             }

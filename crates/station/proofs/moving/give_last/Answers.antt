@@ -1,0 +1,112 @@
+use Rattle.std.proofs.Common.{◌≡◌, Bool, true, Some, None, refl, ap, sym, subst, ◌∙◌, inl, inr}
+use Rattle.std.proofs.lemmas.Bool.{false≢true}
+use Rattle.mux.specs.declared.event.Event.TheVariants.{Took, Close}
+use Rattle.mux.specs.declared.offered.Offered.{Offered}
+use Rattle.mux.specs.History.{History, with_event, is_closed}
+use Rattle.mux.specs.Answers.{OfferAnswers}
+use Rattle.station.specs.declared.inlet.Inlet.{Inlet}
+use Rattle.station.specs.Stations.{LeavesOthers}
+use Rattle.station.specs.Moving.{IsHeldBack}
+use Rattle.station.proofs.InletLaws.{took, noted, refused, is_shut, others_took, others_noted, others_close}
+use Rattle.station.proofs.TakingLaws.{lawful_at, refused_answer}
+use Rattle.station.proofs.moving.give_last.Goals as goal
+
+pub unreachable-requires : goal.unreachable-requires
+unreachable-requires c =
+    let h = c.args.mux.now in
+    let item = c.last-item.result.now in
+    let lawful = c.requires.lawful item c.last-item.ensures in
+    elim c.in-Closed.is [
+      | inl e ↦
+          (let P : Offered → Type 0 = λ v. OfferAnswers h c.args.number item v c.offer.new.self in
+          let a = subst P e c.offer.ensures.answer in
+          let shut = is_shut h.run.plan h.events c.args.number item a.0 in
+          false≢true (sym c.requires.open ∙ (lawful.closed ∙ shut)))
+      | inr e ↦ c.offer.ensures.unrefused e
+    ]
+
+pub returns-in-Taken-clause-lawful : goal.returns-in-Taken-clause-lawful
+returns-in-Taken-clause-lawful c =
+    let h = c.args.mux.now in
+    let i = c.args.number in
+    let x = c.args.inlet.now in
+    let item = c.last-item.result.now in
+    let y : Inlet = record x { held = Some item } in
+    let lawful = c.requires.lawful item c.last-item.ensures in
+    let P : Offered → Type 0 = λ v. OfferAnswers h i item v c.offer.new.self in
+    let a = subst P c.in-Taken.is c.offer.ensures.answer in
+    lawful_at i (with_event h (Took i item)) c.offer.new.self (record x { held = None }) x a.1
+    (λ k. record { end = x.end; held = c.requires.empty k; is_closed = x.is_closed }) (took h i y item refl c.requires.open lawful)
+
+pub returns-in-Taken-clause-others : goal.returns-in-Taken-clause-others
+returns-in-Taken-clause-others c =
+    let h = c.args.mux.now in
+    let i = c.args.number in
+    let item = c.last-item.result.now in
+    let P : Offered → Type 0 = λ v. OfferAnswers h i item v c.offer.new.self in
+    let a = subst P c.in-Taken.is c.offer.ensures.answer in
+    let L : History → Type 0 = LeavesOthers i h in
+    subst L (sym a.1) (others_took i h item)
+
+pub returns-in-Full-clause-lawful : goal.returns-in-Full-clause-lawful
+returns-in-Full-clause-lawful c =
+    let h = c.args.mux.now in
+    let i = c.args.number in
+    let x = c.args.inlet.now in
+    let item = c.last-item.result.now in
+    let y : Inlet = record x { held = Some item } in
+    let lawful = c.requires.lawful item c.last-item.ensures in
+    let P : Offered → Type 0 = λ v. OfferAnswers h i item v c.offer.new.self in
+    let a = subst P c.in-Full.is c.offer.ensures.answer in
+    noted h i y item c.offer.new.self refl c.requires.open a.1 lawful
+
+pub returns-in-Full-clause-others : goal.returns-in-Full-clause-others
+returns-in-Full-clause-others c =
+    let h = c.args.mux.now in
+    let i = c.args.number in
+    let item = c.last-item.result.now in
+    let P : Offered → Type 0 = λ v. OfferAnswers h i item v c.offer.new.self in
+    let a = subst P c.in-Full.is c.offer.ensures.answer in
+    others_noted i h item c.offer.new.self a.1
+
+pub returns-in-Stranger-clause-kept : goal.returns-in-Stranger-clause-kept
+returns-in-Stranger-clause-kept c e =
+    let h = c.args.mux.now in
+    let i = c.args.number in
+    let x = c.args.inlet.now in
+    let item = c.last-item.result.now in
+    let bad = refused_answer h i item c.offer.result c.offer.new.self c.in-Stranger.is c.offer.ensures.answer in
+    let history : c.close.new.mux ≡ with_event h (Close i) = c.close.ensures.mux ∙ ap (λ v. with_event v (Close i)) bad.1 in
+    let shut : true ≡ c.close.new.inlet.is_closed = sym (ap (λ (v : Inlet). v.is_closed) c.close.ensures.inlet) in
+    let B : Bool → Type 0 = IsHeldBack i h item c.close.new.mux in
+    (item, c.last-item.ensures, subst B shut (bad.0, history), c.close.ensures.inlet ∙ (λ k. record { end = x.end; held = Some item; is_closed = shut k }))
+
+pub returns-in-Stranger-clause-lawful : goal.returns-in-Stranger-clause-lawful
+returns-in-Stranger-clause-lawful c =
+    let h = c.args.mux.now in
+    let i = c.args.number in
+    let x = c.args.inlet.now in
+    let item = c.last-item.result.now in
+    let y : Inlet = record x { held = Some item } in
+    let lawful = c.requires.lawful item c.last-item.ensures in
+    let bad = refused_answer h i item c.offer.result c.offer.new.self c.in-Stranger.is c.offer.ensures.answer in
+    let history : c.close.new.mux ≡ with_event h (Close i) = c.close.ensures.mux ∙ ap (λ v. with_event v (Close i)) bad.1 in
+    lawful_at i (with_event h (Close i)) c.close.new.mux (record y { is_closed = true }) c.close.new.inlet history c.close.ensures.inlet (refused h i y item refl bad.0 lawful)
+
+pub returns-in-Stranger-clause-others : goal.returns-in-Stranger-clause-others
+returns-in-Stranger-clause-others c =
+    let h = c.args.mux.now in
+    let i = c.args.number in
+    let item = c.last-item.result.now in
+    let bad = refused_answer h i item c.offer.result c.offer.new.self c.in-Stranger.is c.offer.ensures.answer in
+    let history : c.close.new.mux ≡ with_event h (Close i) = c.close.ensures.mux ∙ ap (λ v. with_event v (Close i)) bad.1 in
+    let L : History → Type 0 = LeavesOthers i h in
+    subst L (sym history) (others_close i h)
+
+pub close-requires-clause-open : goal.close-requires-clause-open
+close-requires-clause-open c =
+    let i = c.args.number in
+    let item = c.last-item.result.now in
+    let lawful = c.requires.lawful item c.last-item.ensures in
+    let bad = refused_answer c.args.mux.now i item c.offer.result c.offer.new.self c.in-Stranger.is c.offer.ensures.answer in
+    ap (λ (v : History). is_closed i v.events) bad.1 ∙ (sym lawful.closed ∙ c.requires.open)
