@@ -55,6 +55,7 @@ impl CounterWatch {
     }
 
     /// Sees the next packet of the PID, and tells whether it is lawful behind those before it.
+    #[inline(always)]
     pub fn push(&mut self, next: &Packet) -> bool
         ensures seen { (packets : List (List ℕ)) → HasSeenPackets self.old packets
             → HasSeenPackets self.new (packets ++ next.now ∷ []) }

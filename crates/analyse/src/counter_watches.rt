@@ -12,6 +12,7 @@ use std::marker::Model;
 use tspkt::{NULL_PID, Packet};
 
 /// Sees the next packet of a PID, and tells whether it isn't lawful. The first one makes the PID's watch.
+#[inline(always)]
 fn see_packet(watch: &mut Option<CounterWatch>, packet: &Packet) -> bool
     ensures seen { (packets : List (List ℕ)) → HasSeenIfAny watch.old packets
         → HasSeenIfAny watch.new (packets ++ packet.now ∷ []) }
@@ -64,6 +65,7 @@ impl CounterWatches {
     }
 
     /// Sees what the next slot is read as, and tells whether it is a packet whose counter isn't lawful.
+    #[inline(always)]
     pub fn push(&mut self, packet: Option<&Packet>) -> bool
         ensures seen { (slots : List (List ℕ)) (slot : List ℕ) → HaveSeenPids self.old slots
             → IsReadAs slot (option_map (λ p. p.now) packet.entry)

@@ -48,6 +48,7 @@ impl GapWatch {
 
     /// Sees what holds behind the first `count` slots, and answers whether a gap is told at the slot that comes next:
     /// the thing was watched, and no mark came, for as many slots as the limit says and no more.
+    #[inline(always)]
     pub fn push(&mut self, count: u64, watched: bool, mark: bool) -> bool
         ensures seen { (is_watched is_mark : ℕ → Bool) → HasSeenNumbers self.old is_watched is_mark count
             → is_watched count ≡ watched → is_mark count ≡ mark

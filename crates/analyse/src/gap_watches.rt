@@ -62,6 +62,7 @@ fn is_of_packet(packet: Option<&Packet>, pid: u16) -> bool
 }
 
 /// Tells the PID `also`, where there is one.
+#[inline(always)]
 fn tell_also(
     count: u64,
     also: Option<u16>,
@@ -131,6 +132,7 @@ impl GapWatches {
 
     /// Sees a number of slots at which the same PIDs are watched as before, and the last slot is a mark of its PID, if it
     /// is this packet, and of no other.
+    #[inline(always)]
     pub fn pass(&mut self, count: u64, marked: Option<&Packet>)
         ensures limit { self.new.limit ≡ self.old.limit }
         ensures watched { self.new.watched ≡ self.old.watched }
@@ -149,6 +151,7 @@ impl GapWatches {
     }
 
     /// Whether the PID is watched.
+    #[inline(always)]
     pub fn is_watched(&self, pid: u16) -> bool
         requires { pid < PID_COUNT }
         ensures { result ≡ is_watched self.now pid }
@@ -191,6 +194,7 @@ impl GapWatches {
 
     /// Tells the gaps of the slot behind `count` slots, and the PID `also` as if it had one, in the order of PIDs and
     /// behind those of `out`. An `Err` is want of memory.
+    #[inline(always)]
     pub fn tell(
         &mut self,
         count: u64,
@@ -211,6 +215,7 @@ impl GapWatches {
     }
 
     /// Finds anew the slot at which a gap can fall due, where it has come.
+    #[inline(always)]
     fn renew_due(&mut self, count: u64)
         ensures limit { self.new.limit ≡ self.old.limit }
         ensures watched { self.new.watched ≡ self.old.watched }
@@ -223,6 +228,7 @@ impl GapWatches {
     }
 
     /// Tells the gaps of the slot behind `count` slots, and `also`; all PIDs are gone through only where one can fall due.
+    #[inline(always)]
     fn tell_due(
         &self,
         count: u64,
@@ -241,6 +247,7 @@ impl GapWatches {
     }
 
     /// The least slot, from this one on, at which an open gap falls due.
+    #[inline(never)]
     fn next_due(&self, count: u64) -> u64
         ensures { IsDue self.now count result }
     {
@@ -252,6 +259,7 @@ impl GapWatches {
     }
 
     /// Tells the open gaps that are as long as the limit, and `also`.
+    #[inline(never)]
     fn tell_long(
         &self,
         count: u64,

@@ -119,6 +119,7 @@ impl PatWatch {
 
     /// Sees what the next slot is read as, and tells whether the PAT is faulty at it. `count` is the number of slots
     /// before it. An `Err` is want of memory; nothing is said of the watch behind it.
+    #[inline(always)]
     pub fn push(&mut self, count: u64, packet: Option<&Packet>) -> Result<PatSeen, AllocError>
         ensures limit { self.new.gap.limit ≡ self.old.gap.limit }
         ensures seen { OnOk result ((slots : List (List ℕ)) (slot : List ℕ) → HasSeenPat self.old slots

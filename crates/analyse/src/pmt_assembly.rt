@@ -25,6 +25,7 @@ impl PmtAssembly {
     ghost use Rattle.analyse.specs.PmtAssembling.{StandsFor};
 
     /// Reads the next packet of the PID, and leaves in `told` what tells its PMTs. An `Err` is want of memory.
+    #[inline(always)]
     pub fn push(
         &mut self,
         alloc: Global,
@@ -51,6 +52,7 @@ impl PmtAssembly {
     }
 
     /// Reads the packet where it goes on with what was begun; if not, it is still to be read.
+    #[inline(always)]
     fn goes_on(&mut self, packet: &Packet, told: &mut Vec<Told>) -> Result<bool, AllocError>
         requires payload { has_payload_of packet.now ≡ true }
         requires told { told.old.items ≡ [] }
@@ -76,6 +78,7 @@ impl PmtAssembly {
     }
 
     /// Reads a packet in which a section can begin, as if it were the first.
+    #[inline(never)]
     fn begin(
         &mut self,
         alloc: Global,
@@ -101,6 +104,7 @@ impl PmtAssembly {
     }
 
     /// No section is begun.
+    #[inline(always)]
     fn rest(&mut self)
         ensures { self.new ≡ PmtAssembly.Between }
     {

@@ -72,6 +72,7 @@ impl PmtWatch {
 
     /// Sees the next slot's packet, which is of the PID and not scrambled. `told` is room for its sections. An `Err` is want
     /// of memory.
+    #[inline(always)]
     pub fn push(&mut self, packet: &Packet, told: &mut Vec<Told>) -> Result<TableSeen, AllocError>
         ensures changed { IfOk result (λ seen. seen.changed ≡ false → self.new.newest ≡ self.old.newest) }
         ensures seen { OnOk result ((slots : List (List ℕ)) (slot : List ℕ) (pid : ℕ) → HasSeenPmts pid self.old slots
@@ -87,6 +88,7 @@ impl PmtWatch {
     }
 
     /// Takes the PMTs among what was told.
+    #[inline(always)]
     fn push_all(&mut self, told: &[Told]) -> Result<TableSeen, AllocError>
         ensures assembly { self.new.assembly ≡ self.old.assembly }
         ensures came { IfOk result (λ seen. seen.came ≡ list_any is_pmt_in told.now) }
@@ -109,6 +111,7 @@ impl PmtWatch {
     }
 
     /// Takes what was told, where it is a PMT.
+    #[inline(never)]
     fn push_one(&mut self, told: &Told) -> Result<TableSeen, AllocError>
         ensures assembly { self.new.assembly ≡ self.old.assembly }
         ensures came { IfOk result (λ seen. seen.came ≡ is_pmt_in told.now) }

@@ -15,6 +15,7 @@ use std::marker::Model;
 use tspkt::Packet;
 
 /// A watch that has seen no packet. An `Err` is want of memory.
+#[inline(never)]
 fn boxed_watch(alloc: Global) -> Result<Box<PmtWatch>, AllocError>
     ensures { IfOk result (λ w. w.value ≡ new_pmt_watch) }
 {
@@ -22,6 +23,7 @@ fn boxed_watch(alloc: Global) -> Result<Box<PmtWatch>, AllocError>
 }
 
 /// Sees the next packet of a PID, which isn't scrambled. The first one makes the PID's watch.
+#[inline(always)]
 fn see_packet(
     alloc: Global,
     watch: &mut Option<Box<PmtWatch>>,
@@ -105,6 +107,7 @@ impl PmtWatches {
     }
 
     /// Sees what the next slot is read as. An `Err` is want of memory.
+    #[inline(always)]
     pub fn push(&mut self, packet: Option<&Packet>) -> Result<TableSeen, AllocError>
         ensures changed { IfOk result (λ seen. seen.changed ≡ false → (pid program : ℕ)
             → pids_of_program self.new pid program ≡ pids_of_program self.old pid program) }

@@ -86,6 +86,7 @@ impl ProgramRows {
     }
 
     /// Takes the sections of the PAT among what was told. An `Err` is want of memory.
+    #[inline(always)]
     pub fn push(&mut self, told: &[Told]) -> Result<TableSeen, AllocError>
         ensures came { IfOk result (λ seen. seen.came ≡ list_any is_pat_in told.now) }
         ensures changed { IfOk result (λ seen. seen.changed ≡ false → self.new.rows ≡ self.old.rows) }
@@ -108,6 +109,7 @@ impl ProgramRows {
     }
 
     /// Takes the sections into the run, and tells whether there was one.
+    #[inline(always)]
     fn push_all(&mut self, told: &[Told]) -> Result<bool, AllocError>
         ensures rows { self.new.rows ≡ self.old.rows }
         ensures came { IfOk result (λ came. came ≡ list_any is_pat_in told.now) }
@@ -122,6 +124,7 @@ impl ProgramRows {
     }
 
     /// Takes what was told into the run, where it is a section of the table.
+    #[inline(never)]
     fn push_one(&mut self, told: &Told) -> Result<bool, AllocError>
         ensures rows { self.new.rows ≡ self.old.rows }
         ensures came { IfOk result (λ came. came ≡ is_pat_in told.now) }
@@ -136,6 +139,7 @@ impl ProgramRows {
     }
 
     /// The rows of programs of what is in force. An `Err` is want of memory.
+    #[inline(never)]
     fn rows_in_force(&self) -> Result<Vec<PatRow>, AllocError>
         ensures { IfOk result (λ rows. (sections : List (SectionValue PatValue)) → StandsFor self.now.run sections
             → rows.items ≡ program_rows_of sections) }

@@ -39,6 +39,7 @@ impl SectionWatch {
     }
 
     /// Sees the next packet, of whatever PID, and appends what it tells to `out`.
+    #[inline(always)]
     pub fn push(&mut self, packet: &Packet, out: &mut Vec<Told>) -> Result<(), AllocError>
         ensures pid { self.new.pid ≡ self.old.pid }
         ensures seen { OnOk result ((packets : List (List ℕ)) → HasSeenOnPid self.old packets
@@ -52,6 +53,7 @@ impl SectionWatch {
     }
 
     /// Sees what the next slot is read as, and leaves in `told` what it tells.
+    #[inline(always)]
     pub fn see(&mut self, packet: Option<&Packet>, told: &mut Vec<Told>) -> Result<(), AllocError>
         ensures pid { self.new.pid ≡ self.old.pid }
         ensures seen { OnOk result ((slots : List (List ℕ)) (slot : List ℕ)
@@ -70,6 +72,7 @@ impl SectionWatch {
     }
 
     /// Whether the packet is of the PID and not scrambled.
+    #[inline(always)]
     fn is_on(&self, packet: &Packet) -> bool
         ensures { result ≡ is_on self.now.pid packet.now }
     {

@@ -19,6 +19,7 @@ use tspkt::Packet;
 const TWO_PACKETS: u64 = 3008;
 
 /// Tells a fault, where there is one.
+#[inline(always)]
 fn tell_if(
     is_fault: bool,
     kind: FaultKind,
@@ -45,6 +46,7 @@ fn next_count(count: u64) -> Result<u64, AllocError>
 }
 
 /// The packet's PID; 0 where there is none.
+#[inline(always)]
 fn pid_of(packet: Option<&Packet>) -> u16
     ensures { result ≡ pid_or_zero (option_map (λ p. p.now) packet.entry) }
 {

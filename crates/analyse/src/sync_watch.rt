@@ -66,6 +66,7 @@ impl SyncWatch {
     }
 
     /// Sees the next slot, and tells its faults of sync.
+    #[inline(always)]
     pub fn push(&mut self, slot: &[u8; 188]) -> SyncSeen
         ensures seen { (slots : List (List ℕ)) → HasSeenSlots self.old slots
             → HasSeenSlots self.new (slots ++ slot.now ∷ []) }

@@ -18,6 +18,7 @@ use tables::PatRow;
 use tspkt::Packet;
 
 /// The PID of a scrambled packet.
+#[inline(always)]
 fn scrambled_pid(packet: Option<&Packet>) -> Option<u16>
     ensures value { result ≡ scrambled_pid (option_map (λ p. p.now) packet.entry) }
     ensures fits { ForSome result (λ pid. pid < PID_COUNT) }
@@ -29,6 +30,7 @@ fn scrambled_pid(packet: Option<&Packet>) -> Option<u16>
 }
 
 /// The PID, where it is watched.
+#[inline(always)]
 fn watched_only(gaps: &GapWatches, pid: Option<u16>) -> Option<u16>
     requires { ForSome pid (λ pid. pid < PID_COUNT) }
     ensures value { result ≡ watched_only gaps.now pid }
@@ -41,6 +43,7 @@ fn watched_only(gaps: &GapWatches, pid: Option<u16>) -> Option<u16>
 }
 
 /// The packet, where it is a mark.
+#[inline(always)]
 fn packet_if(is_mark: bool, packet: Option<&Packet>) -> Option<&Packet>
     ensures { (pid : ℕ) → is_of_packet (option_map (λ p. p.now) result) pid
         ≡ (is_mark && is_of_packet (option_map (λ p. p.now) packet.entry) pid) }
@@ -109,6 +112,7 @@ impl TableWatches {
 
     /// Tells the faults of the next slot behind those of `out`. `count` is the number of slots before it, and `packet` what
     /// it is read as. An `Err` is want of memory.
+    #[inline(always)]
     pub fn tell(
         &mut self,
         count: u64,
@@ -132,6 +136,7 @@ impl TableWatches {
 
     /// Sees what the next slot is read as, behind which the PAT in force has these rows of programs; `changed` is false
     /// only where it had them before. An `Err` is want of memory.
+    #[inline(always)]
     pub fn push(
         &mut self,
         next: u64,
