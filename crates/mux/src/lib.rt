@@ -18,6 +18,7 @@ mod counts;
 mod event;
 mod input_state;
 mod kept_bucket;
+mod last_sent;
 pub mod laws;
 mod mux;
 mod offered;

@@ -1,10 +1,12 @@
 //! The packets that went out.
 
-ghost use Rattle.std.specs.Prelude.{◌≡◌, ◌<◌, ◌-◌, ◌++◌, ◌∷◌, [], ◌%◌, length, option_copied, IfOk, All};
+ghost use Rattle.std.specs.Prelude.{◌≡◌, ◌<◌, ◌-◌, ◌++◌, ◌∷◌, [], ◌%◌, ◌^◌, length, option_copied, IfOk, All};
 ghost use Rattle.tspkt.specs.Packet.{IsPacket, null_packet};
+ghost use Rattle.tspkt.specs.Rewritten.{rewritten};
 ghost use Rattle.std.specs.List.{slice_get};
 ghost use Rattle.emission.specs.Emission.{of_pid};
 
+use crate::last_sent::LastSent;
 use crate::pid_counters::PidCounters;
 use past::Past;
 use std::alloc::{AllocError, Global};
@@ -15,10 +17,9 @@ use tspkt::{Packet, null};
 #[derive(Drop)]
 pub(crate) struct Output {
     sent: Past<Packet>,
-    /// The one that went out last of those that were pushed.
-    last: Option<Packet>,
-    /// Whether a null packet went out behind it: `null` stands for that one, so that a null slot copies no packet.
-    is_null: bool,
+    /// Which packet went out last: a null slot copies none, and another is written where the one before it stood.
+    kind: LastSent,
+    other: Packet,
     null: Packet,
     counters: PidCounters,
 }
@@ -33,7 +34,7 @@ impl Model for Output {
 
     ghost view = { λ o. reverse o.sent };
 
-    ghost invariant = { λ o. IsOutput (reverse o.sent) (last_sent o.is_null o.null o.last) o.counters
+    ghost invariant = { λ o. IsOutput (reverse o.sent) (last_sent o.kind o.null o.other) o.counters
         × (o.null ≡ null_packet) };
 }
 
@@ -44,8 +45,8 @@ impl Output {
     {
         Ok(Output {
             sent: Past::new(),
-            last: None,
-            is_null: false,
+            kind: LastSent::Nothing,
+            other: null(),
             null: null(),
             counters: PidCounters::new(alloc)?,
         })
@@ -62,10 +63,10 @@ impl Output {
     pub fn last(&self) -> Option<&Packet>
         ensures { option_copied result ≡ slice_get self.now (length self.now - 1) }
     {
-        if self.is_null {
-            Some(&self.null)
-        } else {
-            self.last.as_ref()
+        match self.kind {
+            LastSent::Nothing => None,
+            LastSent::Null => Some(&self.null),
+            LastSent::Other => Some(&self.other),
         }
     }
 
@@ -85,8 +86,20 @@ impl Output {
         let _ = packet.bytes();
         self.counters.count(packet.pid());
         self.sent.add(packet);
-        self.last = Some(packet);
-        self.is_null = false;
+        self.other = packet;
+        self.kind = LastSent::Other;
+    }
+
+    /// A packet goes out that was put on another PID, and later by a delay in ticks of 27 MHz. It is copied once.
+    pub fn push_rewritten(&mut self, packet: &Packet, pid: u16, delay: u64)
+        requires { pid < 2 ^ 13 }
+        ensures { self.new ≡ self.old ++ rewritten packet.now pid delay ∷ [] }
+    {
+        self.other.set_rewritten(packet, pid, delay);
+        let _ = self.other.bytes();
+        self.counters.count(self.other.pid());
+        self.sent.add(self.other);
+        self.kind = LastSent::Other;
     }
 
     /// A null packet goes out.
@@ -96,6 +109,6 @@ impl Output {
         let _ = self.null.bytes();
         self.counters.count(self.null.pid());
         self.sent.add(self.null);
-        self.is_null = true;
+        self.kind = LastSent::Null;
     }
 }

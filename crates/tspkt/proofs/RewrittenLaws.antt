@@ -1,5 +1,5 @@
 -- What a packet that was put on another PID and later in time keeps, and what it has instead.
-use Rattle.std.proofs.Common.{◌≡◌, ◌≢◌, ℕ, zero, suc, ◌+◌, ◌-◌, ◌*◌, ◌/◌, ◌%◌, ◌^◌, ◌<◌, ◌≤◌, List, ◌∷◌, ◌++◌, get_or, length, take, drop, refl, sym, ◌∙◌, ap, arith, Some, None, true, false, option_map, ⊎_elim, length-append, replicate}
+use Rattle.std.proofs.Common.{◌≡◌, ◌≢◌, ℕ, zero, suc, ◌+◌, ◌-◌, ◌*◌, ◌/◌, ◌%◌, ◌^◌, ◌<◌, ◌≤◌, List, Option, ◌∷◌, ◌++◌, get_or, length, take, drop, refl, sym, ◌∙◌, ap, arith, Some, None, true, false, option_map, ⊎_elim, length-append, replicate}
 use Rattle.std.proofs.lemmas.Bool.{cases_lt, cases_eq, cases_Bool}
 use Rattle.std.proofs.lemmas.Bool.Decides.{nat_tests}
 use Rattle.std.proofs.lemmas.List.{append_assoc, take_at, get_or_append_left, get_or-append_right, get_or-drop, get_or-take, length-take-le, length-drop}
@@ -381,3 +381,8 @@ bit-rewritten p pid delay h k i o =
     (kept_by_pcr q (with_pcr q (later p delay)) (later p delay) (has_pcr q (later p delay) (long_enough p pid h k) (later_fits p delay)) i (o.outside_base t) (o.outside_extension t) ∙ first))
     (λ (f : pcr_flag_of p ≡ false). rw (rewritten_plain p pid delay f) first)
     (cases_Bool (pcr_flag_of p))
+
+-- the bytes that were written are those of the definition
+pub written : (p q r bytes : List ℕ) (pcr : Option ℕ) (pid delay : ℕ) → bytes ≡ p → q ≡ with_pid bytes pid → pcr ≡ pcr_of p → r ≡ with_later_pcr pcr q delay → r ≡ rewritten p pid delay
+unfolding rewritten
+written p q r bytes pcr pid delay a b c d = cc

@@ -39,6 +39,7 @@ impl Packet {
     ghost use Rattle.tspkt.specs.Packet.{fault_of, IsPacket, pid_of, continuity_counter_of, has_payload_of, discontinuity_indicator_of, payload_unit_start_indicator_of, transport_scrambling_control_of, pcr_of, payload_of, payload_start_of};
     ghost use Rattle.tspkt.specs.Counters.{is_copy};
     ghost use Rattle.tspkt.specs.Counted.{with_counter, IsOutsideCounter};
+    ghost use Rattle.tspkt.specs.Rewritten.{rewritten};
 
     /// The first fault of these bytes, read as a packet; none where they are one. Nothing is copied.
     #[tactic(auto, unfolding(crate::specs::Packet::fault_of))]
@@ -75,6 +76,26 @@ impl Packet {
             Some(fault) => Err(fault),
             None => Ok(Packet { bytes: *bytes }),
         }
+    }
+
+    /// Becomes the packet in these bytes, which are one. They are copied once.
+    pub fn set(&mut self, bytes: &[u8; 188])
+        requires { fault_of bytes.now ≡ None }
+        ensures { self.new ≡ bytes.now }
+    {
+        // That each of them is a byte is known with this.
+        let _ = fields::sync_byte(bytes);
+        self.bytes = *bytes;
+    }
+
+    /// Becomes what `rewrite` makes of a packet. That one's bytes are copied once.
+    pub fn set_rewritten(&mut self, packet: &Packet, pid: u16, delay: u64)
+        requires { pid < 2 ^ 13 }
+        ensures { self.new ≡ rewritten packet.now pid delay }
+    {
+        self.bytes = packet.bytes;
+        fields::set_pid(&mut self.bytes, pid);
+        fields::add_to_pcr(&mut self.bytes, packet.pcr(), delay);
     }
 
     /// The 188 bytes.

@@ -20,7 +20,7 @@ use crate::sending::Sending;
 use crate::slot::Slot;
 use request::Stream;
 use rounds::TablePlace;
-use tspkt::{Packet, rewrite};
+use tspkt::Packet;
 
 impl Mux {
     /// Whether all inputs are closed, and nothing waits.
@@ -134,7 +134,7 @@ impl Mux {
         let item = self.queues[index].head().unwrap();
         let delay = now - item.stamp;
         self.output
-            .push(rewrite(&item.packet, stream.output_pid, delay));
+            .push_rewritten(&item.packet, stream.output_pid, delay);
         let queue = &mut self.queues[index];
         let _ = queue.take();
         self.heads[index] = queue.head_time();

@@ -1,13 +1,8 @@
-use Rattle.std.proofs.Common.{◌≡◌, ℕ, List, subst, Option}
-use Rattle.tspkt.specs.Packet.{IsPacket, pcr_of}
-use Rattle.tspkt.specs.Rewritten.{rewritten, with_pid, with_later_pcr}
-use Rattle.tspkt.proofs.RewrittenLaws.{is_packet-rewritten, pid_of-rewritten, pcr_of-rewritten, pcr_extension_of-rewritten, bit-rewritten}
+use Rattle.std.proofs.Common.{◌≡◌, ℕ, List, subst}
+use Rattle.tspkt.specs.Packet.{IsPacket}
+use Rattle.tspkt.specs.Rewritten.{rewritten}
+use Rattle.tspkt.proofs.RewrittenLaws.{written, is_packet-rewritten, pid_of-rewritten, pcr_of-rewritten, pcr_extension_of-rewritten, bit-rewritten}
 use Rattle.tspkt.proofs.packet.rewrite.Goals as goal
-
--- the bytes that were written are those of the definition
-written : (p q r bytes : List ℕ) (pcr : Option ℕ) (pid delay : ℕ) → bytes ≡ p → q ≡ with_pid bytes pid → pcr ≡ pcr_of p → r ≡ with_later_pcr pcr q delay → r ≡ rewritten p pid delay
-unfolding rewritten
-written p q r bytes pcr pid delay a b c d = cc
 
 pub invariant_of-result : goal.invariant_of-result
 invariant_of-result c =

@@ -128,7 +128,7 @@ invariant_of-self c =
     let head = copied_is c.head.result c.unwrap-item.result _ c.unwrap-item.ensures c.head.ensures in
     let q = queue_at c.self.invariant.0.agrees c.args.index c.args.stream c.index.result.now at c.index.ensures in
     let p = sent_packet_is c.self.invariant.0.agrees c.args.index c.args.stream c.index.result.now c.unwrap-item.result.now c.args.now at c.index.ensures head t in
-    let packet = c.push.ensures ∙ ap (λ x. c.self.inside.output ++ x ∷ []) (c.rewrite.ensures.value ∙ p) in
+    let packet = c.push_rewritten.ensures ∙ ap (λ x. c.self.inside.output ++ x ∷ []) p in
     let kept = sending_head c.self.invariant.0 c.args.index c.args.stream c.index_mut-2.result.now c.index_mut-queue.result.now c.take.new.self _ c.clear_full.new.inputs.items _ _ _ _ c.add.ensures c.clear_full.ensures.inputs
     c.index_mut-2.ensures.value l at c.index_mut-queue.ensures.value c.take.ensures.rest c.send.ensures.buckets c.send.ensures.clock c.advance.ensures
     packet (subst S (sym c.self.view_is) c.requires.within) may in

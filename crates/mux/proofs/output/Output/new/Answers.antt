@@ -8,4 +8,4 @@ use Rattle.mux.proofs.output.Output.new.Goals as goal
 pub invariant_of-result : goal.invariant_of-result
 invariant_of-result c =
     let P : List (List ℕ) → Type 0 = λ sent. IsOutput (reverse sent) None c.in_ok-new.field-0 in
-    (subst P (sym c.new.ensures) (record { whole = All-nil IsPacket; last_is = refl; counters_are = c.in_ok-new.ensures ∙ counters_none }), c.null.ensures.value)
+    (subst P (sym c.new.ensures) (record { whole = All-nil IsPacket; last_is = refl; counters_are = c.in_ok-new.ensures ∙ counters_none }), c.null-2.ensures.value)
