@@ -1,19 +1,21 @@
 -- The best of the streams up to a place.
-use Rattle.std.proofs.Common.{ℕ, ◌+◌, ◌<◌, ◌≤◌, ◌≡◌, ◌⊎◌, List, [], length, map, get_or, Option, Some, None, refl, ap, ◌∙◌, sym, subst, arith, inl, inr}
+use Rattle.std.proofs.Common.{ℕ, ◌+◌, ◌<◌, ◌≤◌, ◌≡◌, ◌⊎◌, List, [], ◌∷◌, length, map, get_or, Option, Some, None, refl, ap, ◌∙◌, sym, subst, arith, inl, inr}
 use Rattle.std.specs.Prelude.{IfSome, IfNone}
 use Rattle.std.specs.List.{slice_get}
 use Rattle.std.proofs.lemmas.Bool.{cases_order}
-use Rattle.std.proofs.lemmas.List.{get_or-map, get_or_default}
+use Rattle.std.proofs.lemmas.List.{length-map, get_or-map, get_or_default}
 use Rattle.std.proofs.lemmas.Option.{same_Some, slice_get_read, slice_get-get_or, slice_get_within}
 use Rattle.tspkt.specs.declared.stamped.Stamped.{Stamped}
 use Rattle.request.specs.declared.stream.Stream.{Stream}
 use Rattle.mux.specs.declared.candidate.Candidate.{Candidate}
-use Rattle.buffers.specs.QueueValue.{QueueValue}
-use Rattle.buffers.specs.BucketValue.{BucketValue}
+use Rattle.buffers.specs.QueueValue.{QueueValue, first_stamp}
+use Rattle.buffers.specs.BucketValue.{BucketValue, HasRoom}
 use Rattle.mux.specs.Lawful.{IsNotAfter}
-use Rattle.mux.specs.Keeping.{head_time}
+use Rattle.mux.specs.declared.head.Head.{Head}
+use Rattle.mux.specs.HeadList.{head_at, IsFirst}
+use Rattle.mux.specs.Keeping.{head_time, KeepsHeads}
 use Rattle.mux.specs.Choosing.{IsEligibleHead, IsFirstHead, Precedes, Leads, IsBetterHead, IsNoBetterHead}
-use Rattle.mux.proofs.HeadTimes.{time_of_head}
+use Rattle.mux.proofs.HeadTimes.{time_of, pid_of_head, output_of, length_heads, time_of_head}
 
 -- of the streams before place n, this one goes first
 pub record IsBest (streams : List Stream) (queues : List QueueValue) (buckets : List BucketValue) (now n : ℕ) (b : Candidate) : Type 0 where
@@ -141,15 +143,83 @@ skips_read streams queues buckets now n (Some b) q d limit best at_limit l size 
     }
 
 -- the head at the next place has a later time
-pub passed_over : (streams : List Stream) (queues : List QueueValue) (heads : List ℕ) (buckets : List BucketValue) (now n : ℕ) (best : Option Candidate) (limit : ℕ) → IsBestBelow streams queues buckets now n best → IsLimit now best limit
-    → n < length queues → length streams ≡ length queues → heads ≡ map head_time queues → limit < get_or heads n 0 → IsBestBelow streams queues buckets now (n + 1) best
+pub passed_over : (streams : List Stream) (queues : List QueueValue) (heads : List Head) (buckets : List BucketValue) (now n : ℕ) (best : Option Candidate) (limit : ℕ) → IsBestBelow streams queues buckets now n best → IsLimit now best limit
+    → n < length queues → length streams ≡ length queues → map time_of heads ≡ map head_time queues → limit < (head_at heads n).time → IsBestBelow streams queues buckets now (n + 1) best
 passed_over streams queues heads buckets now n best limit is at_limit l size heads_are later =
     let empty : QueueValue = record { items = []; capacity = 0 } in
     let nobody : Stream = record { input = 0; pid = 0; output_pid = 0; leak = 0 } in
     let q : QueueValue = get_or queues n empty in
-    let of_head : get_or heads n 0 ≡ head_time q = ap (λ ns. get_or ns n 0) heads_are ∙ get_or-map head_time queues n empty 0 l in
+    let none : Head = record { time = 0; pid = 0 } in
+    let within : n < length heads = omega (arith, sym (length-map heads time_of) ∙ ap length heads_are ∙ length-map queues head_time) in
+    let of_head : (head_at heads n).time ≡ head_time q = sym (get_or-map time_of heads n none 0 within) ∙ ap (λ ns. get_or ns n 0) heads_are ∙ get_or-map head_time queues n empty 0 l in
     skips_read streams queues buckets now n best q nobody limit is at_limit l size (get_or_default queues n empty q l)
     (λ item bucket head due here room. let e = time_of_head q.items item head in absurd (omega arith))
+
+-- the head that lies beside a queue
+head_of : {heads : List Head} {queues : List QueueValue} {streams : List Stream} → KeepsHeads heads queues streams → (j : ℕ) (queue : QueueValue) → slice_get queues j ≡ Some queue → (head_at heads j).time ≡ head_time queue
+head_of {heads} {queues} {streams} kept j queue here =
+    let empty : QueueValue = record { items = []; capacity = 0 } in
+    let none : Head = record { time = 0; pid = 0 } in
+    let l : j < length queues = slice_get_within queues j queue here in
+    let m : j < length heads = omega (arith, length_heads kept) in
+    let q : get_or queues j empty ≡ queue = same_Some _ _ (sym (slice_get-get_or queues j empty l) ∙ here) in
+    sym (get_or-map time_of heads j none 0 m) ∙ ap (λ ns. get_or ns j 0) kept.times_are ∙ get_or-map head_time queues j empty 0 l ∙ ap head_time q
+
+-- and its PID
+pid_beside : {heads : List Head} {queues : List QueueValue} {streams : List Stream} → KeepsHeads heads queues streams → (j : ℕ) (st : Stream) → slice_get streams j ≡ Some st → (head_at heads j).pid ≡ st.output_pid
+pid_beside {heads} {queues} {streams} kept j st here =
+    let nobody : Stream = record { input = 0; pid = 0; output_pid = 0; leak = 0 } in
+    let none : Head = record { time = 0; pid = 0 } in
+    let l : j < length streams = slice_get_within streams j st here in
+    let m : j < length heads = omega (arith, sym (length-map heads pid_of_head) ∙ ap length kept.pids_are ∙ length-map streams output_of) in
+    let q : get_or streams j nobody ≡ st = same_Some _ _ (sym (slice_get-get_or streams j nobody l) ∙ here) in
+    sym (get_or-map pid_of_head heads j none 0 m) ∙ ap (λ ns. get_or ns j 0) kept.pids_are ∙ get_or-map output_of streams j nobody 0 l ∙ ap output_of q
+
+-- where the first of all heads isn't due, none is
+pub none_due : {heads : List Head} {queues : List QueueValue} {streams : List Stream} → KeepsHeads heads queues streams → (buckets : List BucketValue) (now i : ℕ) (h : Head) → IsFirst heads i h → now < h.time
+    → (k : ℕ) (st : Stream) (item : Stamped) → IsEligibleHead streams queues buckets now k st item → ⊥
+none_due {heads} {queues} {streams} kept buckets now i h is later k st item can =
+    let e = head_of kept k can.queue can.here in
+    let t = time_of_head can.queue.items item can.head in
+    let l = slice_get_within queues k can.queue can.here in
+    let due = can.due in
+    elim (is.first k (omega (arith, length_heads kept))) [ inl m ↦ absurd (omega arith) | inr m ↦ absurd (omega (arith, m.0)) ]
+
+-- where there is no head
+pub none_there : {heads : List Head} {queues : List QueueValue} {streams : List Stream} → KeepsHeads heads queues streams → length heads ≡ 0 → (buckets : List BucketValue) (now : ℕ)
+    → (k : ℕ) (st : Stream) (item : Stamped) → IsEligibleHead streams queues buckets now k st item → ⊥
+none_there {heads} {queues} {streams} kept empty buckets now k st item can =
+    let l = slice_get_within queues k can.queue can.here in
+    absurd (omega (arith, length_heads kept))
+
+-- something waits where the time isn't the greatest
+waits : (items : List Stamped) → first_stamp items < 18446744073709551615 → (item : Stamped) × (slice_get items 0 ≡ Some item) × (item.stamp ≡ first_stamp items)
+waits [] l = absurd (omega arith)
+waits (x ∷ xs) l = (x, refl, refl)
+
+-- the first of all heads goes, where it is due and its bucket has room
+pub first_goes : {heads : List Head} {queues : List QueueValue} {streams : List Stream} → KeepsHeads heads queues streams → (buckets : List BucketValue) (now i : ℕ) (h : Head) → IsFirst heads i h → h.time ≤ now → h.time < 18446744073709551615
+    → (b : BucketValue) → slice_get buckets i ≡ Some b → HasRoom b → (st : Stream) → slice_get streams i ≡ Some st → IsFirstHead streams queues buckets now (record { index = i; stream = st; stamp = h.time })
+first_goes {heads} {queues} {streams} kept buckets now i h is due small b bucket_here room st stream_here =
+    let empty : QueueValue = record { items = []; capacity = 0 } in
+    let q : QueueValue = get_or queues i empty in
+    let within = is.within in
+    let here : slice_get queues i ≡ Some q = slice_get-get_or queues i empty (omega (arith, length_heads kept)) in
+    let time : h.time ≡ head_time q = ap time_of is.here ∙ head_of kept i q here in
+    let pid : h.pid ≡ st.output_pid = ap pid_of_head is.here ∙ pid_beside kept i st stream_here in
+    let one = waits q.items (omega arith) in
+    let item : Stamped = one.0 in
+    let stamp : item.stamp ≡ first_stamp q.items = one.2 in
+    record {
+      item = item;
+      head = record { stream = stream_here; queue = q; here = here; head = one.1; due = omega arith; bucket = b; bucket_here = bucket_here; room = room };
+      first = λ j su other can.
+          let e = head_of kept j can.queue can.here in
+          let t = time_of_head can.queue.items other can.head in
+          let p = pid_beside kept j su can.stream in
+          let l = slice_get_within queues j can.queue can.here in
+          elim (is.first j (omega (arith, length_heads kept))) [ inl m ↦ inl (omega arith) | inr m ↦ inr (omega (arith, m.0), omega (arith, m.1)) ];
+    }
 
 -- the head at the next place goes first
 picks : (streams : List Stream) (queues : List QueueValue) (buckets : List BucketValue) (now n : ℕ) (best : Option Candidate) (next : Candidate) (item : Stamped) → IsBestBelow streams queues buckets now n best

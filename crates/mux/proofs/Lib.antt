@@ -21,6 +21,7 @@ pub mod Steps
 pub mod Peaks
 pub mod Noted
 pub mod HeadTimes
+pub mod HeadListLaws
 pub mod Readiness
 pub mod Choices
 pub mod Opening

@@ -5,6 +5,7 @@ use Rattle.mux.specs.declared.mux.TheConstants.{MAX_SLOTS}
 use Rattle.mux.specs.declared.event.Event.{Event}
 use Rattle.request.specs.declared.stream.Stream.{Stream}
 use Rattle.mux.specs.declared.input_state.InputState.{InputState}
+use Rattle.mux.specs.declared.head.Head.{Head}
 use Rattle.buffers.specs.QueueValue.{QueueValue, first_stamp}
 use Rattle.buffers.specs.BucketValue.{BucketValue}
 use Rattle.rounds.specs.Turn.{TurnValue}
@@ -73,9 +74,10 @@ pub record IsKept (r : Run) (h : List Event) (states : List InputState) (queues 
 abbrev pub head_time : QueueValue → ℕ
 head_time q = first_stamp q.items
 
--- the times that lie beside the queues are those of their heads
-pub record KeepsHeads (heads : List ℕ) (queues : List QueueValue) : Type 0 where
-  pub heads_are : heads ≡ map head_time queues
+-- the heads that lie beside the queues have their times, and the output PIDs of their streams
+pub record KeepsHeads (heads : List Head) (queues : List QueueValue) (streams : List Stream) : Type 0 where
+  pub times_are : map (λ h. h.time) heads ≡ map head_time queues
+  pub pids_are : map (λ h. h.pid) heads ≡ map (λ st. st.output_pid) streams
 
 -- the same state, with no full queue noted
 abbrev pub without_full : InputState → InputState

@@ -11,5 +11,6 @@ pub mod PidCounters
 pub mod Buckets
 pub mod KeptBucket
 pub mod Keeping
+pub mod HeadList
 pub mod Choosing
 pub mod Output

@@ -5,10 +5,12 @@ ghost use Rattle.std.specs.List.{slice_get};
 ghost use Rattle.tspkt.specs.declared.stamped.Stamped.{Stamped};
 ghost use Rattle.request.specs.declared.stream.Stream.{Stream};
 ghost use Rattle.mux.specs.declared.input_state.InputState.{InputState};
-ghost use Rattle.mux.specs.Keeping.{ready_at, without_full, KeepsNoted, head_time};
+ghost use Rattle.mux.specs.Keeping.{ready_at, without_full, KeepsNoted, KeepsHeads, head_time};
 ghost use Rattle.mux.specs.Choosing.{Leads, Follows, IsBetterHead, IsNoBetterHead, IsEligibleHead, IsFirstHead};
 
 use crate::candidate::Candidate;
+use crate::head::Head;
+use crate::head_list::HeadList;
 use crate::input_state::InputState;
 use crate::progress::Progress;
 use buffers::PidQueue;
@@ -100,17 +102,47 @@ fn better_head(
 }
 
 /// Of the heads that are due, and that their streams' buckets have room for, the one that goes
-/// first: that of the least time, and of these that of the least output PID. The times of all heads are given beside the
-/// queues.
+/// first: that of the least time, and of these that of the least output PID. The heads are given beside the queues.
 pub(crate) fn choose(
     streams: &[Stream],
     queues: &[PidQueue],
-    heads: &[u64],
+    heads: &HeadList,
     progress: &Progress,
     now: u64,
 ) -> Option<Candidate>
     requires queues { length streams.now ≡ length queues.now }
-    requires heads { heads.now ≡ map head_time queues.now }
+    requires heads { KeepsHeads heads.now queues.now streams.now }
+    requires buckets { length streams.now ≡ length progress.now.buckets }
+    ensures none { IfNone result ((k : ℕ) (st : Stream) (item : Stamped)
+        → IsEligibleHead streams.now queues.now progress.now.buckets now k st item → ⊥) }
+    ensures some { IfSome result (IsFirstHead streams.now queues.now progress.now.buckets now) }
+{
+    let (index, head) = heads.first()?;
+    if now < head.time {
+        return None;
+    }
+    // A head may have the time `u64::MAX` too, as an empty queue has.
+    if head.time < u64::MAX && progress.bucket(index).fits() {
+        return Some(Candidate {
+            index,
+            stream: streams[index],
+            stamp: head.time,
+        });
+    }
+    choose_of_all(streams, queues, heads.all(), progress, now)
+}
+
+/// The same, by a walk over all heads: the buffer of the one that goes first may have no room.
+#[inline(never)]
+fn choose_of_all(
+    streams: &[Stream],
+    queues: &[PidQueue],
+    heads: &[Head],
+    progress: &Progress,
+    now: u64,
+) -> Option<Candidate>
+    requires queues { length streams.now ≡ length queues.now }
+    requires heads { map (λ h. h.time) heads.now ≡ map head_time queues.now }
     requires buckets { length streams.now ≡ length progress.now.buckets }
     ensures none { IfNone result ((k : ℕ) (st : Stream) (item : Stamped)
         → IsEligibleHead streams.now queues.now progress.now.buckets now k st item → ⊥) }
@@ -120,7 +152,7 @@ pub(crate) fn choose(
     // No head of a later time goes before the best, so most queues are passed over by one comparison.
     let mut limit = now;
     for (i, head) in heads.iter().enumerate() {
-        if *head <= limit {
+        if head.time <= limit {
             if let Some(next) = better_head(best, i, streams[i], &queues[i], progress, limit) {
                 best = Some(next);
                 limit = next.stamp;

@@ -16,6 +16,8 @@ mod choice;
 mod content;
 mod counts;
 mod event;
+mod head;
+mod head_list;
 mod input_state;
 mod kept_bucket;
 mod last_sent;

@@ -8,13 +8,14 @@ ghost use Rattle.mux.specs.History.{opened, queue, slots, emitted};
 ghost use Rattle.mux.specs.Totals.{IsTotals, IsCounts};
 ghost use Rattle.mux.specs.Headline.{IsSound, IsLevelOf};
 ghost use Rattle.mux.specs.Peaks.{IsPeak};
-ghost use Rattle.mux.specs.Keeping.{state_of, queue_of, head_time, no_peak};
+ghost use Rattle.mux.specs.Keeping.{state_of, queue_of, no_peak};
 
 mod offering;
 mod sending;
 
 use crate::counts::Counts;
 use crate::event::Event;
+use crate::head_list::HeadList;
 use crate::input_state::InputState;
 use crate::output::Output;
 use crate::peak::Peak;
@@ -46,9 +47,8 @@ pub struct Mux {
     /// Whether a full queue of an input was noted since the last slot.
     is_noted: bool,
     queues: Vec<PidQueue>,
-    /// The time of each queue's head, side by side, so that a slot passes over most queues by one comparison; `u64::MAX`
-    /// where nothing waits.
-    heads: Vec<u64>,
+    /// The head of each queue, side by side, so that a slot finds the one that goes first without the queues.
+    heads: HeadList,
     peaks: Vec<Peak>,
     progress: Progress,
     turn: TableTurn,
@@ -71,7 +71,7 @@ impl Model for Mux {
         m.inputs.items m.queues.items m.progress.buckets m.progress.clock m.turn m.output m.counts
         × KeepsPeaks m.plan m.past m.peaks.items
         × KeepsNoted m.is_noted m.inputs.items
-        × KeepsHeads m.heads.items m.queues.items };
+        × KeepsHeads m.heads m.queues.items m.plan.request.streams };
 }
 
 /// What is kept of so many inputs before the first packet.
@@ -108,17 +108,6 @@ fn new_queues(
     Ok(queues)
 }
 
-/// The time of each queue's head.
-fn new_heads(alloc: Global, queues: &[PidQueue]) -> Result<Vec<u64>, AllocError>
-    ensures { IfOk result (λ v. v.items ≡ map head_time queues.now) }
-{
-    let mut heads = Vec::with_capacity(alloc, queues.len())?;
-    for queue in queues {
-        heads.push(queue.head_time())?;
-    }
-    Ok(heads)
-}
-
 /// The peak of a stream that took nothing, a stream.
 fn new_peaks(alloc: Global, streams: &[Stream]) -> Result<Vec<Peak>, AllocError>
     ensures { IfOk result (λ v. v.items ≡ map no_peak streams.now) }
@@ -146,15 +135,17 @@ impl Mux {
         let queues = new_queues(alloc, plan.streams(), plan.request().queue())?;
         let peaks = new_peaks(alloc, plan.streams())?;
         let progress = Progress::new(alloc, plan.rate(), plan.streams())?;
+        let output = Output::new(alloc)?;
+        let heads = HeadList::new(alloc, plan.streams(), queues.as_slice())?;
         Ok(Mux {
             plan,
             limit: slots,
             past: Past::new(),
-            output: Output::new(alloc)?,
+            output,
             inputs,
             is_noted: false,
-            heads: new_heads(alloc, queues.as_slice())?,
             queues,
+            heads,
             peaks,
             progress,
             turn,

@@ -82,7 +82,7 @@ impl Mux {
         state.taken += 1;
         let queue = &mut self.queues[index];
         let _ = queue.offer(*item);
-        self.heads[index] = queue.head_time();
+        self.heads.set(index, queue.head_time());
         let peak = &mut self.peaks[index];
         peak.queued = peak.queued.max(queue.len() as u64);
     }

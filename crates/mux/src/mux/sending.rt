@@ -67,7 +67,7 @@ impl Mux {
         choose(
             self.plan.streams(),
             self.queues.as_slice(),
-            self.heads.as_slice(),
+            &self.heads,
             &self.progress,
             now,
         )
@@ -137,7 +137,7 @@ impl Mux {
             .push_rewritten(&item.packet, stream.output_pid, delay);
         let queue = &mut self.queues[index];
         let _ = queue.take();
-        self.heads[index] = queue.head_time();
+        self.heads.set(index, queue.head_time());
         let peak = &mut self.peaks[index];
         peak.delay = peak.delay.max(delay);
         self.past.add(Event::Slot(Content::Elementary(stream)));

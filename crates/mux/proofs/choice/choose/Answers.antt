@@ -1,41 +1,16 @@
-use Rattle.std.proofs.Common.{ℕ, ◌≡◌, ◌<◌, sym, ap, ◌∙◌, arith, subst, length, ◌+◌, Option}
-use Rattle.std.proofs.lemmas.List.{length-map}
-use Rattle.mux.specs.declared.candidate.Candidate.{Candidate}
-use Rattle.mux.specs.Keeping.{head_time}
-use Rattle.mux.proofs.Choices.{IsBestBelow, limit_some, limit_same, skips_read, passed_over, picks_read, none_eligible, first_eligible}
+use Rattle.std.proofs.Common.{refl, arith}
+use Rattle.std.proofs.lemmas.Option.{slice_get-get_or}
+use Rattle.request.specs.declared.stream.Stream.{Stream}
+use Rattle.mux.proofs.HeadTimes.{length_heads}
+use Rattle.mux.proofs.Choices.{none_due, first_goes}
 use Rattle.mux.proofs.choice.choose.Goals as goal
-use Rattle.mux.proofs.choice.choose.Goals.{then-head-limit+in-Some, then-head-limit+in_default, else-head-limit}
 
-pub loop-i-preserved : goal.loop-i-preserved
-loop-i-preserved c =
-    let P : Option Candidate → Type 0 = IsBestBelow c.args.streams.now c.args.queues.now c.args.progress.now.buckets c.args.now (c.loop-i.i + 1) in
-    let count = ap length c.requires.heads ∙ length-map c.args.queues.now head_time in
-    let l : c.loop-i.i < length c.args.queues.now = omega (arith, count) in
-    elim c.if-head-limit.branch [
-      | then-head-limit+in-Some w ↦ (
-        subst P (sym w.best-is) (picks_read c.args.streams.now c.args.queues.now c.args.progress.now.buckets c.args.now c.loop-i.i c.loop-i.best w.index-queues-i.result _ c.loop-i.limit w.in-Some.next c.loop-i.invariant.0 c.loop-i.invariant.1 l c.requires.queues w.index-queues-i.is w.in-Some.ensures.some),
-        limit_some c.args.now _ _ w.in-Some.next w.best-is w.limit-is,
-      )
-      | then-head-limit+in_default w ↦ (
-        subst P (sym w.best-is) (skips_read c.args.streams.now c.args.queues.now c.args.progress.now.buckets c.args.now c.loop-i.i c.loop-i.best w.index-queues-i.result _ c.loop-i.limit c.loop-i.invariant.0 c.loop-i.invariant.1 l c.requires.queues w.index-queues-i.is w.in_default.ensures.none),
-        limit_same c.args.now _ _ c.loop-i.best c.loop-i.limit w.best-is w.limit-is c.loop-i.invariant.1,
-      )
-      | else-head-limit w ↦ (
-        subst P (sym w.best-is) (passed_over c.args.streams.now c.args.queues.now c.args.heads.now c.args.progress.now.buckets c.args.now c.loop-i.i c.loop-i.best c.loop-i.limit c.loop-i.invariant.0 c.loop-i.invariant.1 l c.requires.queues c.requires.heads w.if-head-limit.false),
-        limit_same c.args.now _ _ c.loop-i.best c.loop-i.limit w.best-is w.limit-is c.loop-i.invariant.1,
-      )
-    ]
+pub returns-then-now-head-clause-none : goal.returns-then-now-head-clause-none
+returns-then-now-head-clause-none c = none_due c.requires.heads c.args.progress.now.buckets c.args.now c.in_ok-index.index c.in_ok-index.head c.in_ok-index.ensures.some c.if-now-head.true
 
-pub returns-clause-none : goal.returns-clause-none
-returns-clause-none c =
-    let count = ap length c.requires.heads ∙ length-map c.args.queues.now head_time in
-    let e : c.loop-i.i ≡ length c.args.streams.now = omega arith in
-    let P : ℕ → Type 0 = λ n. IsBestBelow c.args.streams.now c.args.queues.now c.args.progress.now.buckets c.args.now n c.loop-i.best in
-    none_eligible c.args.streams.now c.args.queues.now c.args.progress.now.buckets c.args.now c.loop-i.best (subst P e c.loop-i.invariant.0)
-
-pub returns-clause-some : goal.returns-clause-some
-returns-clause-some c =
-    let count = ap length c.requires.heads ∙ length-map c.args.queues.now head_time in
-    let e : c.loop-i.i ≡ length c.args.streams.now = omega arith in
-    let P : ℕ → Type 0 = λ n. IsBestBelow c.args.streams.now c.args.queues.now c.args.progress.now.buckets c.args.now n c.loop-i.best in
-    first_eligible c.args.streams.now c.args.queues.now c.args.progress.now.buckets c.args.now c.loop-i.best (subst P e c.loop-i.invariant.0)
+pub returns-then-fits-clause-some : goal.returns-then-fits-clause-some
+returns-then-fits-clause-some c =
+    let nobody : Stream = record { input = 0; pid = 0; output_pid = 0; leak = 0 } in
+    let within = c.in_ok-index.ensures.some.within in
+    let here = slice_get-get_or c.args.streams.now c.in_ok-index.index nobody (omega (arith, length_heads c.requires.heads)) in
+    first_goes c.requires.heads c.args.progress.now.buckets c.args.now c.in_ok-index.index c.in_ok-index.head c.in_ok-index.ensures.some c.if-now-head.false c.if-head-lt18446744073709551615.true c.bucket.result c.bucket.ensures (c.if-fits.ensures.room.0 refl) _ here

@@ -11,7 +11,7 @@ use Rattle.mux.proofs.Counting.{taken_within}
 use Rattle.mux.proofs.Steps.{length_states, length_queues, state_at, queue_at, taking}
 use Rattle.mux.proofs.Lists.{on_ok}
 use Rattle.mux.proofs.Noted.{noted_same}
-use Rattle.mux.proofs.HeadTimes.{length_heads, heads_renewed}
+use Rattle.mux.proofs.HeadTimes.{length_heads, heads_set}
 use Rattle.mux.proofs.Peaks.{length_peaks, peaks_taking}
 use Rattle.mux.specs.declared.event.Event.{Event}
 use Rattle.mux.specs.declared.event.Event.TheVariants.{Took}
@@ -49,13 +49,13 @@ index_mut-queue-requires c =
     let l = slice_get_within c.self.inside.plan.request.streams c.args.index c.args.stream at in
     omega (arith, c.self.inside.queues.ok.0)
 
-pub index_mut-requires : goal.index_mut-requires
-index_mut-requires c =
+pub set-requires : goal.set-requires
+set-requires c =
     let n = length_queues c.self.invariant.0.agrees in
     let m = length_heads c.self.invariant.3 in
     let at : slice_get c.self.inside.plan.request.streams c.args.index ≡ Some c.args.stream = ap (λ (h : History). slice_get h.run.plan.request.streams c.args.index) c.self.view_is ∙ c.requires.index in
     let l = slice_get_within c.self.inside.plan.request.streams c.args.index c.args.stream at in
-    omega (arith, c.self.inside.heads.ok.0)
+    omega arith
 
 pub invariant_of-self : goal.invariant_of-self
 invariant_of-self c =
@@ -75,7 +75,7 @@ invariant_of-self c =
       peaks_taking c.self.invariant.1 _ c.args.stream.input c.args.item.now c.args.index c.args.stream c.index_mut-peak.result.now c.index_mut-queue.result.now c.offer.new.self
           c.max-peak.result k.plan k.lawful c.add.ensures c.index_mut-peak.ensures.value at q w taker most,
       noted_same c.self.invariant.2 c.args.stream.input c.index_mut-state.result.now _ (omega (arith, length_states k, may.input)) c.index_mut-state.ensures.value refl,
-      heads_renewed c.self.invariant.3 c.args.index _ c.offer.new.self c.head_time.ensures,
+      heads_set c.self.invariant.3 c.args.index _ c.offer.new.self c.set.new.self c.head_time.ensures c.set.ensures,
     )
 
 pub returns : goal.returns

@@ -19,7 +19,7 @@ use Rattle.tspkt.specs.declared.stamped.Stamped.{Stamped}
 use Rattle.std.proofs.lemmas.Option.{same_Some}
 use Rattle.mux.proofs.Heads.{some_of, copied_is, goes_next}
 use Rattle.mux.proofs.Noted.{noted_cleared, noted_same}
-use Rattle.mux.proofs.HeadTimes.{length_heads, heads_renewed}
+use Rattle.mux.proofs.HeadTimes.{length_heads, heads_set}
 use Rattle.mux.proofs.Peaks.{length_peaks, peaks_sending}
 use Rattle.mux.proofs.mux.Mux.send_head.Goals as goal
 
@@ -37,13 +37,13 @@ index_mut-queue-requires c =
     let l = slice_get_within c.self.inside.plan.request.streams c.args.index c.args.stream at in
     omega (arith, c.self.inside.queues.ok.0)
 
-pub index_mut-requires : goal.index_mut-requires
-index_mut-requires c =
+pub set-requires : goal.set-requires
+set-requires c =
     let n = length_queues c.self.invariant.0.agrees in
     let m = length_heads c.self.invariant.3 in
     let at : slice_get c.self.inside.plan.request.streams c.args.index ≡ Some c.args.stream = ap (λ (h : History). slice_get h.run.plan.request.streams c.args.index) c.self.view_is ∙ c.requires.index in
     let l = slice_get_within c.self.inside.plan.request.streams c.args.index c.args.stream at in
-    omega (arith, c.self.inside.heads.ok.0)
+    omega arith
 
 pub index_mut-peak-requires : goal.index_mut-peak-requires
 index_mut-peak-requires c =
@@ -52,8 +52,8 @@ index_mut-peak-requires c =
     let l = slice_get_within c.self.inside.plan.request.streams c.args.index c.args.stream at in
     omega (arith, c.self.inside.peaks.ok.0)
 
-pub index_mut-requires-2 : goal.index_mut-requires-2
-index_mut-requires-2 c =
+pub index_mut-requires : goal.index_mut-requires
+index_mut-requires c =
     let n = length_states c.self.invariant.0.agrees in
     let at : slice_get c.self.inside.plan.request.streams c.args.index ≡ Some c.args.stream = ap (λ (h : History). slice_get h.run.plan.request.streams c.args.index) c.self.view_is ∙ c.requires.index in
     let l = (stream_in c.self.inside.plan c.args.index c.args.stream c.self.invariant.0.agrees.plan at).input in
@@ -65,7 +65,7 @@ overflow_add-index_mut c =
     let at : slice_get c.self.inside.plan.request.streams c.args.index ≡ Some c.args.stream = ap (λ (h : History). slice_get h.run.plan.request.streams c.args.index) c.self.view_is ∙ c.requires.index in
     let k = c.self.invariant.0.agrees in
     let l = (stream_in c.self.inside.plan c.args.index c.args.stream k.plan at).input in
-    let is = cleared_at k c.clear_full.new.inputs.items c.clear_full.ensures.inputs c.args.stream.input c.index_mut-2.result.now l c.index_mut-2.ensures.value in
+    let is = cleared_at k c.clear_full.new.inputs.items c.clear_full.ensures.inputs c.args.stream.input c.index_mut.result.now l c.index_mut.ensures.value in
     let h = c.self.inside.past in
     let s = ap (λ (x : InputState). x.sent) is in
     let within = k.within in
@@ -129,16 +129,16 @@ invariant_of-self c =
     let q = queue_at c.self.invariant.0.agrees c.args.index c.args.stream c.index.result.now at c.index.ensures in
     let p = sent_packet_is c.self.invariant.0.agrees c.args.index c.args.stream c.index.result.now c.unwrap-item.result.now c.args.now at c.index.ensures head t in
     let packet = c.push_rewritten.ensures ∙ ap (λ x. c.self.inside.output ++ x ∷ []) p in
-    let kept = sending_head c.self.invariant.0 c.args.index c.args.stream c.index_mut-2.result.now c.index_mut-queue.result.now c.take.new.self _ c.clear_full.new.inputs.items _ _ _ _ c.add.ensures c.clear_full.ensures.inputs
-    c.index_mut-2.ensures.value l at c.index_mut-queue.ensures.value c.take.ensures.rest c.send.ensures.buckets c.send.ensures.clock c.advance.ensures
+    let kept = sending_head c.self.invariant.0 c.args.index c.args.stream c.index_mut.result.now c.index_mut-queue.result.now c.take.new.self _ c.clear_full.new.inputs.items _ _ _ _ c.add.ensures c.clear_full.ensures.inputs
+    c.index_mut.ensures.value l at c.index_mut-queue.ensures.value c.take.ensures.rest c.send.ensures.buckets c.send.ensures.clock c.advance.ensures
     packet (subst S (sym c.self.view_is) c.requires.within) may in
     let k = c.self.invariant.0.agrees in
     let count = ap length c.clear_full.ensures.inputs ∙ length-map c.self.inside.inputs.items without_full ∙ length_states k in
-    let noted = noted_same (noted_cleared _ c.self.inside.inputs.items _ c.clear_full.ensures.inputs) c.args.stream.input c.index_mut-2.result.now _ (omega (arith, count, l)) c.index_mut-2.ensures.value refl in (
+    let noted = noted_same (noted_cleared _ c.self.inside.inputs.items _ c.clear_full.ensures.inputs) c.args.stream.input c.index_mut.result.now _ (omega (arith, count, l)) c.index_mut.ensures.value refl in (
       kept,
       peaks_sending c.self.invariant.1 _ c.unwrap-item.result.now c.args.index c.args.stream c.index_mut-peak.result.now c.index.result.now c.args.now c.max-peak.result k.plan c.add.ensures c.index_mut-peak.ensures.value at q head t c.max-peak.ensures,
       noted,
-      heads_renewed c.self.invariant.3 c.args.index _ c.take.new.self c.head_time.ensures,
+      heads_set c.self.invariant.3 c.args.index _ c.take.new.self c.set.new.self c.head_time.ensures c.set.ensures,
     )
 
 pub returns : goal.returns
