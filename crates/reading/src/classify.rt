@@ -7,10 +7,11 @@ ghost use Rattle.reading.specs.Takeable.{taken_of, counted_of, number_of};
 ghost use Rattle.reading.specs.Counting.{with_counts};
 ghost use Rattle.reading.specs.Items.{IsPlaced};
 
+use crate::held::Held;
 use crate::origin::Origin;
 use crate::report::Report;
 use plan::Plan;
-use tspkt::{Item, Stamped};
+use tspkt::Item;
 
 /// Counts an item of an input in its report, and holds the packet that the plan names, with its time. It answers the number of
 /// the packet's stream, where there is one.
@@ -18,7 +19,7 @@ pub(crate) fn classify(
     plan: &Plan,
     origin: &mut Origin,
     item: &Item,
-    held: &mut Option<Stamped>,
+    held: &mut Held,
     report: &mut Report,
 ) -> Option<usize>
     requires placed { IsPlaced item.now }
@@ -46,7 +47,7 @@ fn classify_packet(
     origin: &mut Origin,
     position: u64,
     bytes: &[u8; 188],
-    held: &mut Option<Stamped>,
+    held: &mut Held,
     report: &mut Report,
 ) -> Option<usize>
     requires placed { position ≤ MAX_LIMIT }
@@ -67,11 +68,7 @@ fn classify_packet(
         report.unmapped = report.unmapped.saturating_add(1);
         return None;
     };
-    let stamp = origin.stamp(position);
-    let Ok(packet) = tspkt::Packet::read(bytes) else {
-        unreachable!()
-    };
-    *held = Some(Stamped { packet, stamp });
+    held.hold(bytes, origin.stamp(position));
     Some(mapped.number)
 }
 

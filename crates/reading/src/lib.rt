@@ -6,6 +6,7 @@
 #![tactic(auto)]
 
 mod classify;
+mod held;
 mod input_limit;
 mod item_reader;
 mod look;

@@ -1,6 +1,7 @@
 //! The packets of an input that a plan names, each with its time.
 
 use crate::classify::{classify, stream_of};
+use crate::held::Held;
 use crate::look::Look;
 use crate::origin::Origin;
 use crate::report::Report;
@@ -18,7 +19,7 @@ pub struct PacketReader<R> {
     origin: Origin,
     stream: StreamReader<R>,
     /// The packet that it gives next, where it was found.
-    held: Option<Stamped>,
+    held: Held,
     report: Report,
 }
 
@@ -57,7 +58,7 @@ impl<R: Source> PacketReader<R> {
         PacketReader {
             origin: Origin::new(number, input),
             stream: StreamReader::new(alloc, input.format, source, limit),
-            held: None,
+            held: Held::none(),
             report: Report::new(),
         }
     }
@@ -109,7 +110,7 @@ impl<R: Source> PacketReader<R> {
         ensures stopped { self.new.report.stopped ≡ self.old.report.stopped }
         ensures left { left_to_read self.new.stream.items ≡ left_to_read self.old.stream.items }
     {
-        if let Some(item) = &self.held {
+        if let Some(item) = self.held.as_ref() {
             let number = stream_of(plan, &self.origin, &item.packet);
             return Look::Packet(number.unwrap_or(plan.streams().len()));
         }
@@ -195,7 +196,7 @@ impl<R: Source> PacketReader<R> {
             → HasRead R.remaining plan self.new bytes (given ++ option_to_list self.old.held) }
         ensures stays { self.new ≡ record self.old { held = None } }
     {
-        self.held = None;
+        self.held.clear();
     }
 
     /// Leaves the input, since the run ends before it, unless it was left for another cause.

@@ -1,18 +1,22 @@
-use Rattle.std.proofs.Common.{[], None, sym, ap, subst, ◌∙◌}
+use Rattle.std.proofs.Common.{[], Option, None, sym, ap, subst, ◌∙◌}
+use Rattle.tspkt.specs.declared.stamped.Stamped.{Stamped}
 use Rattle.std.proofs.lemmas.Option.{none-some}
 use Rattle.reading.specs.declared.report.Report.{Report}
 use Rattle.reading.specs.declared.stop.Stop.TheVariants.{ReadFailed}
 use Rattle.reading.specs.Takeable.{OriginValue, stride_at}
+use Rattle.reading.specs.PacketReading.{HasLooked}
 use Rattle.reading.specs.StreamReading.{HasPassed}
 use Rattle.reading.proofs.PacketLaws.{fresh_looked}
 use Rattle.reading.proofs.packet_reader.PacketReader.new.Goals as goal
 
 pub returns-clause-read : goal.returns-clause-read
 returns-clause-read g c = λ plan.
+    let M = g.R.Source.remaining in
     let stream = c.new-2.result in
-    let P : OriginValue → Type 0 = λ o. HasPassed g.R.Source.remaining (stride_at o) stream [] None [] in (
+    let P : OriginValue → Type 0 = λ o. HasPassed M (stride_at o) stream [] None [] in
+    let Q : Option Stamped → Type 0 = λ held. HasLooked M plan c.new.result stream held c.new-3.result [] [] [] in (
       [],
-      fresh_looked g.R.Source.remaining plan c.new.result stream c.new-3.result c.new-3.ensures (subst P (sym c.new.ensures) c.new-2.ensures.passed),
+      subst Q (sym c.none.ensures) (fresh_looked M plan c.new.result stream c.new-3.result c.new-3.ensures (subst P (sym c.new.ensures) c.new-2.ensures.passed)),
     )
 
 pub returns-clause-failures : goal.returns-clause-failures
