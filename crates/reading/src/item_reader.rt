@@ -12,17 +12,20 @@ pub(crate) struct ItemReader {
     items: Vec<Item>,
     /// How many of the items were taken.
     taken: usize,
+    /// How many of the items were told: those behind them are left from before, and the next are put over them.
+    told: usize,
 }
 
 impl Model for ItemReader {
-    ghost use Rattle.std.specs.Prelude.{◌≤◌, drop, vec_len};
+    ghost use Rattle.std.specs.Prelude.{◌≤◌, drop, take, vec_len};
     ghost use Rattle.reading.specs.Items.{ItemsValue, AreItems};
 
     ghost Value = { ItemsValue };
 
-    ghost view = { λ r. record { limit = r.limit; framer = r.framer; ahead = drop r.taken r.items.items } };
+    ghost view = { λ r. record { limit = r.limit; framer = r.framer; ahead = drop r.taken (take r.told r.items.items) } };
 
-    ghost invariant = { λ r. (r.taken ≤ vec_len r.items) × AreItems r.limit r.framer (drop r.taken r.items.items) };
+    ghost invariant = { λ r. (r.taken ≤ r.told) × (r.told ≤ vec_len r.items)
+        × AreItems r.limit r.framer (drop r.taken (take r.told r.items.items)) };
 }
 
 impl ItemReader {
@@ -41,6 +44,7 @@ impl ItemReader {
             framer: Some(Framer::with_size(format, limit)),
             items: Vec::new(alloc),
             taken: 0,
+            told: 0,
         }
     }
 
@@ -57,7 +61,7 @@ impl ItemReader {
         ensures placed { IfSome result (λ item. IsPlaced item.now) }
         ensures within { self.now.limit ≤ MAX_LIMIT }
     {
-        self.items.get(self.taken)
+        self.items[..self.told].get(self.taken)
     }
 
     /// Takes the next item.
@@ -76,12 +80,12 @@ impl ItemReader {
         ensures too_much { result ≡ Err FeedFault.TooMuch → IsFull self.old.limit self.old.framer piece.now }
         ensures full { IsFull self.old.limit self.old.framer piece.now → result ≡ Err FeedFault.TooMuch }
     {
-        self.items.clear();
         self.taken = 0;
+        self.told = 0;
         let Some(mut framer) = self.framer.take() else {
             return Ok(());
         };
-        framer.feed(piece, &mut self.items)?;
+        self.told = framer.refill(piece, &mut self.items)?;
         self.framer = Some(framer);
         Ok(())
     }
@@ -94,10 +98,13 @@ impl ItemReader {
     {
         self.items.clear();
         self.taken = 0;
+        self.told = 0;
         let Some(framer) = self.framer.take() else {
             return Ok(());
         };
-        match framer.finish(&mut self.items) {
+        let finished = framer.finish(&mut self.items);
+        self.told = self.items.len();
+        match finished {
             Ok(()) => Ok(()),
             Err((_, e)) => Err(e),
         }
@@ -108,7 +115,7 @@ impl ItemReader {
         ensures { self.new ≡ given_up self.old }
     {
         self.framer = None;
-        self.items.clear();
         self.taken = 0;
+        self.told = 0;
     }
 }

@@ -1,5 +1,5 @@
 -- Nothing is decided of the bytes that wait for more: what follows them says which item comes next.
-use Rattle.std.proofs.Common.{◌≡◌, ℕ, zero, suc, ◌+◌, ◌-◌, ◌*◌, ◌<◌, ◌≤◌, List, [], ◌∷◌, ◌++◌, length, take, replicate, get_or, refl, sym, ◌∙◌, ap, arith, Bool, true, false, if◌then◌else◌, ⊎_elim, inl, inr, ltb, leb, ◌&&◌, ◌||◌, ◌==◌}
+use Rattle.std.proofs.Common.{◌≡◌, ℕ, zero, suc, ◌+◌, ◌-◌, ◌*◌, ◌<◌, ◌≤◌, List, [], ◌∷◌, ◌++◌, length, take, replicate, get_or, refl, sym, ◌∙◌, ap, arith, Bool, true, false, if◌then◌else◌, ⊎_elim, inl, inr, ltb, ◌&&◌, ◌==◌}
 use Rattle.std.proofs.lemmas.List.{length-append, length-replicate, append-nil, get_or_past, get_or_append_left, get_or-append_right, get_or-replicate}
 use Rattle.std.proofs.lemmas.Bool.{cases_lt}
 use Rattle.std.specs.Prelude.{Result, Ok, Err, OnOk}

@@ -1,10 +1,10 @@
 -- One step of framing.
-use Rattle.std.proofs.Common.{◌≡◌, ℕ, zero, suc, ◌+◌, ◌-◌, ◌*◌, ◌<◌, ◌≤◌, List, [], ◌∷◌, ◌++◌, length, take, drop, get_or, refl, sym, ◌∙◌, ap, arith, Bool, true, false, if◌then◌else◌, ⊎_elim, ltb, leb, ◌&&◌, ◌||◌, ◌==◌}
-use Rattle.std.proofs.lemmas.List.{get_or_past, drop_all, append_assoc, length-drop, length-append, take-append-le, drop-append-le, drop-drop, get_or-drop, get_or_append_left, append-nil}
+use Rattle.std.proofs.Common.{◌≡◌, ℕ, zero, suc, ◌+◌, ◌-◌, ◌*◌, ◌<◌, ◌≤◌, List, [], ◌∷◌, ◌++◌, length, take, drop, get_or, refl, sym, ◌∙◌, ap, subst, arith, Bool, true, false, if◌then◌else◌, ⊎_elim, ltb, leb, ◌&&◌, ◌||◌, ◌==◌}
+use Rattle.std.proofs.lemmas.List.{get_or_past, drop_all, append_assoc, length-drop, length-append, take-append-le, drop-append-le, drop-drop, get_or-drop, get_or_append_left, append-nil, take-take, take_all, length-take-le}
 use Rattle.std.proofs.lemmas.Bool.{cases_lt}
 use Rattle.std.proofs.lemmas.Bool.Decides.{nat_tests}
 use Rattle.std.specs.Prelude.{Result, Ok, Err, OnErr}
-use Rattle.tspkt.specs.Framed.{framed, framed_from, is_sync, acquires_sync, keeps_sync, lost, packets_of, FramerState, still_to_tell, WantsRoom, IsFramedSoFar}
+use Rattle.tspkt.specs.Framed.{framed, framed_from, is_sync, acquires_sync, keeps_sync, lost, packets_of, FramerState, still_to_tell, TakesPiece, WantsRoom, IsFramedSoFar}
 use Rattle.tspkt.specs.Stepping.{told_of_last, told_at_end, IsWaiting, TellsSame, FindsNoRoom}
 use Rattle.tspkt.specs.declared.item.Item.{Item}
 use Rattle.tspkt.specs.declared.item.Item.TheVariants.{Packet, Bad, SyncLoss, Lost}
@@ -284,6 +284,42 @@ wants_room f w piece out places is none =
           ));
       full = none.full;
     }
+
+-- a front of what stays stays
+pub front_kept : {X : Type 0} (n m : ℕ) (xs ys : List X) → n ≤ m → take m xs ≡ take m ys → take n xs ≡ take n ys
+front_kept n m xs ys h e = sym (take-take n m xs h) ∙ ap (take n) e ∙ take-take n m ys h
+
+-- what was told before stays in front of what is told
+pub told_before : {X : Type 0} (n m : ℕ) (xs ys : List X) → n ≤ m → n ≤ length ys → take n xs ≡ take n ys → take (length (take n ys)) (take m xs) ≡ take n ys
+told_before n m xs ys h l e = ap (λ (k : ℕ). take k (take m xs)) (length-take-le n ys l) ∙ take-take n m xs h ∙ e
+
+-- the steps of a framer that takes a piece, and keeps what waits
+pub takes_piece : (f old g : FramerState) (w piece : List ℕ) (out told : List Item) (mode : Mode) (done : ℕ) → f ≡ old → w ≡ f.kept ++ piece → TellsSame f.stride f.position w out f.mode 0 told mode done → take (length out) told ≡ out
+    → g ≡ record { stride = f.stride; limit = f.limit; position = f.position + done; mode = mode; kept = drop done w } → TakesPiece old piece out g told
+takes_piece f old g w piece out told mode done same is goes stay now =
+    let zero_on : f.position + 0 ≡ f.position = omega arith in
+    let after : FramerState = record { stride = f.stride; limit = f.limit; position = f.position + done; mode = mode; kept = drop done w } in
+    let taken : TakesPiece f piece out after told = record {
+      told_stay = stay;
+      same_items = λ more.
+          goes.same more
+          ∙ ap (λ (n : ℕ). out ++ framed_from f.stride f.mode n (w ++ more)) zero_on
+          ∙ ap (λ (l : List ℕ). out ++ framed_from f.stride f.mode f.position (l ++ more)) is
+          ∙ ap (λ (l : List ℕ). out ++ framed_from f.stride f.mode f.position l) (append_assoc f.kept piece more);
+      seen_is = omega (arith, goes.within, length-drop done w, ap length is, length-append f.kept piece);
+      stride_is = refl;
+      limit_is = refl;
+    } in
+    let P : FramerState → Type 0 = λ v. TakesPiece f piece out v told in
+    let Q : FramerState → Type 0 = λ v. TakesPiece v piece out g told in
+    subst Q same (subst P (sym now) taken)
+
+-- the bytes that were copied to the front are those that wait
+pub kept_bytes : (w copied room rest : List ℕ) (done left : ℕ) → done ≤ length w → left ≡ length w - done → left ≤ length room → copied ≡ take (length (take left room)) (drop done w) → take left (copied ++ rest) ≡ drop done w
+kept_bytes w copied room rest done left within is fits copy =
+    let size : length (drop done w) ≡ left = omega (arith, length-drop done w) in
+    let whole : copied ≡ drop done w = copy ∙ take_all (length (take left room)) (drop done w) (omega (arith, length-take-le left room fits)) in
+    take-append-le left copied rest (omega (arith, ap length whole)) ∙ ap (take left) whole ∙ take_all left (drop done w) (omega arith)
 
 pub on_err_always : {T E P : Type 0} (result : Result T E) → P → OnErr result P
 on_err_always (Ok x) h = tt

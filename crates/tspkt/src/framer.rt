@@ -55,7 +55,7 @@ impl Model for Framer {
 }
 
 impl Framer {
-    ghost use Rattle.std.specs.Prelude.{◌≡◌, List, ℕ, [], ◌+◌, ◌*◌, ◌<◌, ◌≤◌, ◌↔◌, ◌++◌, length, vec_len, vec_capacity, OnOk, OnErr, IfErr, Err};
+    ghost use Rattle.std.specs.Prelude.{◌≡◌, List, ℕ, [], ◌+◌, ◌*◌, ◌<◌, ◌≤◌, ◌↔◌, ◌++◌, length, take, vec_len, vec_capacity, OnOk, OnErr, IfOk, IfErr, Err};
     ghost use Rattle.tspkt.specs.Stepping.{IsFramer};
     ghost use Rattle.tspkt.specs.PacketFormat.{stride_of};
     ghost use Rattle.tspkt.specs.Framed.{new_framer, seen, still_to_tell, packets_of, framed, HasToldAll, TakesPiece, WantsRoom, IsFramedSoFar};
@@ -130,21 +130,61 @@ impl Framer {
         ensures err { OnErr result ((self.new ≡ self.old) × (out.new.items ≡ out.old.items)) }
         ensures capacity { vec_capacity out.old ≤ vec_capacity out.new }
     {
-        self.take_piece(piece, out)
+        let before = out.len();
+        let mut told = before;
+        let taken = self.take_piece(piece, out, &mut told);
+        if taken.is_err() {
+            out.truncate(before);
+        }
+        taken
     }
 
-    /// Takes the next piece, and keeps what waits for more.
-    fn take_piece(&mut self, piece: &[u8], out: &mut Vec<Item>) -> Result<(), FeedFault>
-        ensures ok { OnOk result (TakesPiece self.old piece.now out.old.items self.new out.new.items) }
+    /// The same, but what is told is put over the items of `out`, from the first on, and then behind them. It answers how many
+    /// items these are: the others are left from before. Where a packet stood the bytes of the next are copied once, into its
+    /// place. `TooMuch` and `Memory` come as from `feed`; then the framer is as it was, and `out` has what was put there.
+    #[tactic(auto, using(crate::proofs::FramingLaws::no_packet_kept))]
+    pub fn refill(&mut self, piece: &[u8], out: &mut Vec<Item>) -> Result<usize, FeedFault>
+        ensures ok { IfOk result (λ told. TakesPiece self.old piece.now [] self.new (take told out.new.items)) }
+        ensures within { IfOk result (λ told. told ≤ vec_len out.new) }
+        ensures prompt { OnOk result (packets_of (still_to_tell self.new []) ≡ []) }
+        ensures told_all { OnOk result (HasToldAll self.new) }
+        ensures kept { OnOk result (length self.new.kept ≤ 4 * self.new.stride) }
+        ensures too_much { (result ≡ Err FeedFault.TooMuch) ↔ (self.old.limit < seen self.old + length piece.now) }
+        ensures room { result ≡ Err FeedFault.Memory
+            → vec_capacity out.old < length self.old.kept + length piece.now }
+        ensures full { result ≡ Err FeedFault.Memory → WantsRoom self.old piece.now [] (vec_capacity out.old) }
+        ensures piece { result ≡ Err FeedFault.Memory → 0 < length piece.now }
+        ensures long { result ≡ Err FeedFault.Memory → 188 ≤ length self.old.kept + length piece.now }
+        ensures err { OnErr result (self.new ≡ self.old) }
+        ensures capacity { vec_capacity out.old ≤ vec_capacity out.new }
+    {
+        let mut told = 0;
+        self.take_piece(piece, out, &mut told)?;
+        Ok(told)
+    }
+
+    /// Takes the next piece, and keeps what waits for more. The first `told` items of `out` stay, and what is told is put over
+    /// the others and then behind them.
+    fn take_piece(
+        &mut self,
+        piece: &[u8],
+        out: &mut Vec<Item>,
+        told: &mut usize,
+    ) -> Result<(), FeedFault>
+        requires { told.old ≤ vec_len out.old }
+        ensures ok { OnOk result (TakesPiece self.old piece.now (take told.old out.old.items) self.new (take told.new out.new.items)) }
         ensures waits { OnOk result (IsFramer self.new.stride self.new.limit self.new.position self.new.mode self.new.kept) }
         ensures too_much { (result ≡ Err FeedFault.TooMuch) ↔ (self.old.limit < seen self.old + length piece.now) }
         ensures room { result ≡ Err FeedFault.Memory
-            → vec_capacity out.old < vec_len out.old + length self.old.kept + length piece.now }
+            → vec_capacity out.old < told.old + length self.old.kept + length piece.now }
         ensures full { result ≡ Err FeedFault.Memory
-            → WantsRoom self.old piece.now out.old.items (vec_capacity out.old) }
+            → WantsRoom self.old piece.now (take told.old out.old.items) (vec_capacity out.old) }
         ensures piece { result ≡ Err FeedFault.Memory → 0 < length piece.now }
         ensures long { result ≡ Err FeedFault.Memory → 188 ≤ length self.old.kept + length piece.now }
-        ensures err { OnErr result ((self.new ≡ self.old) × (out.new.items ≡ out.old.items)) }
+        ensures err { OnErr result (self.new ≡ self.old) }
+        ensures kept { take told.old out.new.items ≡ take told.old out.old.items }
+        ensures within { told.new ≤ vec_len out.new }
+        ensures ends { told.old ≡ vec_len out.old → OnOk result (told.new ≡ vec_len out.new) }
         ensures capacity { vec_capacity out.old ≤ vec_capacity out.new }
     {
         if piece.len() as u64 > self.limit - self.position - self.count as u64 {
@@ -153,10 +193,10 @@ impl Framer {
         if piece.is_empty() {
             return Ok(());
         }
-        let before = out.len();
+        let before = *told;
         let kept = self.kept;
         let window = Window::new(&kept[..self.count], piece);
-        match advance(self.stride, self.position, &window, self.mode, out) {
+        match advance(self.stride, self.position, &window, self.mode, out, told) {
             Ok((done, mode)) => {
                 let left = window.len() - done;
                 window.copy(done, &mut self.kept[..left]);
@@ -166,7 +206,7 @@ impl Framer {
                 Ok(())
             }
             Err(_) => {
-                out.truncate(before);
+                *told = before;
                 Err(FeedFault::Memory)
             }
         }

@@ -88,7 +88,8 @@ impl Packet {
         self.bytes = *bytes;
     }
 
-    /// Becomes what `rewrite` makes of a packet. That one's bytes are copied once.
+    /// Becomes what `rewrite` makes of a packet: it goes on another PID, below 0x2000, and later by a delay in ticks of 27 MHz. Its
+    /// bytes are copied once.
     pub fn set_rewritten(&mut self, packet: &Packet, pid: u16, delay: u64)
         requires { pid < 2 ^ 13 }
         ensures { self.new ≡ rewritten packet.now pid delay }

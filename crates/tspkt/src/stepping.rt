@@ -1,7 +1,8 @@
 //! The steps of framing.
 
-ghost use Rattle.std.specs.Prelude.{◌≡◌, ◌+◌, ◌-◌, ◌<◌, ◌≤◌, ◌^◌, ◌++◌, length, take, drop, vec_len, vec_capacity, IfOk, OnOk, OnErr, IfSome, Ok, None};
+ghost use Rattle.std.specs.Prelude.{◌≡◌, ◌+◌, ◌-◌, ◌<◌, ◌≤◌, ◌^◌, ◌++◌, length, take, drop, vec_len, vec_capacity, IfOk, OnOk, OnErr, IfSome, Ok, None, ℕ, List, [], ◌∷◌};
 ghost use Rattle.tspkt.specs.Framed.{lost};
+ghost use Rattle.tspkt.specs.declared.item.Item.TheVariants.{Packet};
 ghost use Rattle.tspkt.specs.Stepping.{told_of_last, told_at_end, TellsSame, FindsNoRoom, IsWaiting};
 
 use crate::item::Item;
@@ -9,17 +10,95 @@ use crate::mode::Mode;
 use crate::window::Window;
 use std::alloc::AllocError;
 
-/// Tells a loss from one place to another, where there is one.
-fn tell_lost(from: u64, place: u64, out: &mut Vec<Item>) -> Result<(), AllocError>
-    ensures ok { OnOk result (out.new.items ≡ out.old.items ++ lost from place) }
-    ensures err { OnErr result (out.new.items ≡ out.old.items) }
-    ensures few { vec_len out.new ≤ vec_len out.old + 1 }
+/// Puts an item behind the first `told` ones.
+fn tell(item: Item, out: &mut Vec<Item>, told: &mut usize) -> Result<(), AllocError>
+    requires { told.old ≤ vec_len out.old }
+    ensures ok { OnOk result (take told.new out.new.items ≡ take told.old out.old.items ++ item ∷ []) }
+    ensures err { OnErr result (told.new ≡ told.old) }
+    ensures kept { take told.old out.new.items ≡ take told.old out.old.items }
+    ensures rises { told.old ≤ told.new }
+    ensures few { told.new ≤ told.old + 1 }
+    ensures within { told.new ≤ vec_len out.new }
+    ensures ends { told.old ≡ vec_len out.old → told.new ≡ vec_len out.new }
     ensures capacity { vec_capacity out.old ≤ vec_capacity out.new }
-    ensures room { OnErr result (vec_capacity out.old ≤ vec_len out.old) }
+    ensures full { OnErr result (vec_capacity out.old ≤ told.old) }
+{
+    if *told < out.len() {
+        out[*told] = item;
+    } else {
+        out.push(item)?;
+    }
+    *told += 1;
+    Ok(())
+}
+
+/// Makes an item the packet of 188 bytes from `at` on. They are copied once: an item that is made elsewhere is copied as it goes
+/// to its place.
+#[inline(always)]
+fn become_packet(item: &mut Item, place: u64, window: &Window, at: usize)
+    requires fits { length window.now < 2 ^ 64 }
+    requires inside { at + 188 ≤ length window.now }
+    ensures { item.new ≡ Packet place (take 188 (drop at window.now)) }
+{
+    if let Item::Packet(from, _) = item {
+        *from = place;
+    } else {
+        *item = Item::Packet(place, [0; 188]);
+    }
+    if let Item::Packet(_, bytes) = item {
+        window.copy_packet(at, bytes);
+    }
+}
+
+/// Tells the packet of 188 bytes from `at` on.
+#[inline(always)]
+fn tell_packet(
+    place: u64,
+    window: &Window,
+    at: usize,
+    out: &mut Vec<Item>,
+    told: &mut usize,
+) -> Result<(), AllocError>
+    requires fits { length window.now < 2 ^ 64 }
+    requires inside { at + 188 ≤ length window.now }
+    requires told { told.old ≤ vec_len out.old }
+    ensures ok { OnOk result (take told.new out.new.items
+        ≡ take told.old out.old.items ++ Packet place (take 188 (drop at window.now)) ∷ []) }
+    ensures err { OnErr result (told.new ≡ told.old) }
+    ensures kept { take told.old out.new.items ≡ take told.old out.old.items }
+    ensures rises { told.old ≤ told.new }
+    ensures few { told.new ≤ told.old + 1 }
+    ensures within { told.new ≤ vec_len out.new }
+    ensures ends { told.old ≡ vec_len out.old → told.new ≡ vec_len out.new }
+    ensures capacity { vec_capacity out.old ≤ vec_capacity out.new }
+    ensures full { OnErr result (vec_capacity out.old ≤ told.old) }
+{
+    if *told < out.len() {
+        become_packet(&mut out[*told], place, window, at);
+    } else {
+        out.push(Item::Packet(place, [0; 188]))?;
+        become_packet(&mut out[*told], place, window, at);
+    }
+    *told += 1;
+    Ok(())
+}
+
+/// Tells a loss from one place to another, where there is one.
+fn tell_loss(from: u64, place: u64, out: &mut Vec<Item>, told: &mut usize) -> Result<(), AllocError>
+    requires { told.old ≤ vec_len out.old }
+    ensures ok { OnOk result (take told.new out.new.items ≡ take told.old out.old.items ++ lost from place) }
+    ensures err { OnErr result (told.new ≡ told.old) }
+    ensures kept { take told.old out.new.items ≡ take told.old out.old.items }
+    ensures rises { told.old ≤ told.new }
+    ensures few { told.new ≤ told.old + 1 }
+    ensures within { told.new ≤ vec_len out.new }
+    ensures ends { told.old ≡ vec_len out.old → told.new ≡ vec_len out.new }
+    ensures capacity { vec_capacity out.old ≤ vec_capacity out.new }
+    ensures full { OnErr result (vec_capacity out.old ≤ told.old) }
     ensures left { OnErr result (from < place) }
 {
     if from < place {
-        out.push(Item::Lost(place - from))?;
+        tell(Item::Lost(place - from), out, told)?;
     }
     Ok(())
 }
@@ -32,20 +111,25 @@ fn step_hunting(
     at: usize,
     from: u64,
     out: &mut Vec<Item>,
+    told: &mut usize,
 ) -> Result<Option<(usize, Mode)>, AllocError>
     requires long { 188 ≤ stride }
     requires small { stride ≤ 204 }
     requires inside { at ≤ length window.now }
     requires fits { base + length window.now < 2 ^ 64 }
+    requires told { told.old ≤ vec_len out.old }
     ensures waits { result ≡ Ok None
-        → IsWaiting stride (Mode.Hunting from) (drop at window.now) × (out.new.items ≡ out.old.items) }
+        → IsWaiting stride (Mode.Hunting from) (drop at window.now) × (told.new ≡ told.old) }
     ensures goes { IfOk result (λ r. IfSome r (λ next. (at < next.0)
-        × TellsSame stride base window.now out.old.items (Mode.Hunting from) at out.new.items next.1 next.0)) }
-    ensures kept { take (length out.old.items) out.new.items ≡ out.old.items }
-    ensures few { IfOk result (λ r. IfSome r (λ next. vec_len out.new + at ≤ vec_len out.old + next.0)) }
+        × TellsSame stride base window.now (take told.old out.old.items) (Mode.Hunting from) at (take told.new out.new.items) next.1 next.0)) }
+    ensures kept { take told.old out.new.items ≡ take told.old out.old.items }
+    ensures rises { told.old ≤ told.new }
+    ensures few { IfOk result (λ r. IfSome r (λ next. told.new + at ≤ told.old + next.0)) }
+    ensures within { told.new ≤ vec_len out.new }
+    ensures ends { told.old ≡ vec_len out.old → told.new ≡ vec_len out.new }
     ensures capacity { vec_capacity out.old ≤ vec_capacity out.new }
-    ensures room { OnErr result (vec_capacity out.old + at < vec_len out.old + length window.now) }
-    ensures full { OnErr result (FindsNoRoom stride base window.now out.old.items (Mode.Hunting from) at (vec_capacity out.old)) }
+    ensures room { OnErr result (vec_capacity out.old + at < told.old + length window.now) }
+    ensures full { OnErr result (FindsNoRoom stride base window.now (take told.old out.old.items) (Mode.Hunting from) at (vec_capacity out.old)) }
     ensures whole { OnErr result (at + 188 ≤ length window.now) }
 {
     if window.len() - at <= 4 * stride {
@@ -55,9 +139,8 @@ fn step_hunting(
         return Ok(Some((at + 1, Mode::Hunting(from))));
     }
     let place = base + at as u64;
-    let bytes = window.packet(at);
-    tell_lost(from, place, out)?;
-    out.push(Item::Packet(place, bytes))?;
+    tell_loss(from, place, out, told)?;
+    tell_packet(place, window, at, out, told)?;
     Ok(Some((at + 188, Mode::Synced(stride - 188))))
 }
 
@@ -69,20 +152,25 @@ fn step_synced(
     at: usize,
     skip: usize,
     out: &mut Vec<Item>,
+    told: &mut usize,
 ) -> Result<Option<(usize, Mode)>, AllocError>
     requires long { 188 ≤ stride }
     requires small { stride ≤ 204 }
     requires inside { at ≤ length window.now }
     requires fits { base + length window.now < 2 ^ 64 }
+    requires told { told.old ≤ vec_len out.old }
     ensures waits { result ≡ Ok None
-        → IsWaiting stride (Mode.Synced skip) (drop at window.now) × (out.new.items ≡ out.old.items) }
+        → IsWaiting stride (Mode.Synced skip) (drop at window.now) × (told.new ≡ told.old) }
     ensures goes { IfOk result (λ r. IfSome r (λ next. (at < next.0)
-        × TellsSame stride base window.now out.old.items (Mode.Synced skip) at out.new.items next.1 next.0)) }
-    ensures kept { take (length out.old.items) out.new.items ≡ out.old.items }
-    ensures few { IfOk result (λ r. IfSome r (λ next. vec_len out.new + at ≤ vec_len out.old + next.0)) }
+        × TellsSame stride base window.now (take told.old out.old.items) (Mode.Synced skip) at (take told.new out.new.items) next.1 next.0)) }
+    ensures kept { take told.old out.new.items ≡ take told.old out.old.items }
+    ensures rises { told.old ≤ told.new }
+    ensures few { IfOk result (λ r. IfSome r (λ next. told.new + at ≤ told.old + next.0)) }
+    ensures within { told.new ≤ vec_len out.new }
+    ensures ends { told.old ≡ vec_len out.old → told.new ≡ vec_len out.new }
     ensures capacity { vec_capacity out.old ≤ vec_capacity out.new }
-    ensures room { OnErr result (vec_capacity out.old + at < vec_len out.old + length window.now) }
-    ensures full { OnErr result (FindsNoRoom stride base window.now out.old.items (Mode.Synced skip) at (vec_capacity out.old)) }
+    ensures room { OnErr result (vec_capacity out.old + at < told.old + length window.now) }
+    ensures full { OnErr result (FindsNoRoom stride base window.now (take told.old out.old.items) (Mode.Synced skip) at (vec_capacity out.old)) }
     ensures whole { OnErr result (at + 188 ≤ length window.now) }
 {
     let left = window.len() - at;
@@ -98,17 +186,17 @@ fn step_synced(
     }
     let place = base + at as u64;
     if window.is_sync(at) {
-        out.push(Item::Packet(place, window.packet(at)))?;
+        tell_packet(place, window, at, out, told)?;
         return Ok(Some((at + 188, Mode::Synced(stride - 188))));
     }
     if left <= stride {
         return Ok(None);
     }
     if window.is_sync(at + stride) {
-        out.push(Item::Bad(place))?;
+        tell(Item::Bad(place), out, told)?;
         return Ok(Some((at + stride, Mode::Synced(0))));
     }
-    out.push(Item::SyncLoss(place))?;
+    tell(Item::SyncLoss(place), out, told)?;
     Ok(Some((at + 1, Mode::Hunting(place))))
 }
 
@@ -120,54 +208,80 @@ fn step(
     at: usize,
     mode: Mode,
     out: &mut Vec<Item>,
+    told: &mut usize,
 ) -> Result<Option<(usize, Mode)>, AllocError>
     requires long { 188 ≤ stride }
     requires small { stride ≤ 204 }
     requires inside { at ≤ length window.now }
     requires fits { base + length window.now < 2 ^ 64 }
-    ensures waits { result ≡ Ok None → IsWaiting stride mode (drop at window.now) × (out.new.items ≡ out.old.items) }
+    requires told { told.old ≤ vec_len out.old }
+    ensures waits { result ≡ Ok None → IsWaiting stride mode (drop at window.now) × (told.new ≡ told.old) }
     ensures goes { IfOk result (λ r. IfSome r (λ next. (at < next.0)
-        × TellsSame stride base window.now out.old.items mode at out.new.items next.1 next.0)) }
-    ensures kept { take (length out.old.items) out.new.items ≡ out.old.items }
-    ensures few { IfOk result (λ r. IfSome r (λ next. vec_len out.new + at ≤ vec_len out.old + next.0)) }
+        × TellsSame stride base window.now (take told.old out.old.items) mode at (take told.new out.new.items) next.1 next.0)) }
+    ensures kept { take told.old out.new.items ≡ take told.old out.old.items }
+    ensures rises { told.old ≤ told.new }
+    ensures few { IfOk result (λ r. IfSome r (λ next. told.new + at ≤ told.old + next.0)) }
+    ensures within { told.new ≤ vec_len out.new }
+    ensures ends { told.old ≡ vec_len out.old → told.new ≡ vec_len out.new }
     ensures capacity { vec_capacity out.old ≤ vec_capacity out.new }
-    ensures room { OnErr result (vec_capacity out.old + at < vec_len out.old + length window.now) }
-    ensures full { OnErr result (FindsNoRoom stride base window.now out.old.items mode at (vec_capacity out.old)) }
+    ensures room { OnErr result (vec_capacity out.old + at < told.old + length window.now) }
+    ensures full { OnErr result (FindsNoRoom stride base window.now (take told.old out.old.items) mode at (vec_capacity out.old)) }
     ensures whole { OnErr result (at + 188 ≤ length window.now) }
 {
     match mode {
-        Mode::Hunting(from) => step_hunting(stride, base, window, at, from, out),
-        Mode::Synced(skip) => step_synced(stride, base, window, at, skip, out),
+        Mode::Hunting(from) => step_hunting(stride, base, window, at, from, out, told),
+        Mode::Synced(skip) => step_synced(stride, base, window, at, skip, out, told),
     }
 }
 
-/// All steps that the bytes allow: how many bytes are done with, and the mode after them.
+/// All steps that the bytes allow: how many bytes are done with, and the mode after them. The first `told` items of `out` stay,
+/// and what is told is put over the others and then behind them.
 pub fn advance(
     stride: usize,
     base: u64,
     window: &Window,
     mode: Mode,
     out: &mut Vec<Item>,
+    told: &mut usize,
 ) -> Result<(usize, Mode), AllocError>
     requires long { 188 ≤ stride }
     requires small { stride ≤ 204 }
     requires fits { base + length window.now < 2 ^ 64 }
+    requires told { told.old ≤ vec_len out.old }
     ensures goes { IfOk result (λ next.
-        TellsSame stride base window.now out.old.items mode 0 out.new.items next.1 next.0) }
+        TellsSame stride base window.now (take told.old out.old.items) mode 0 (take told.new out.new.items) next.1 next.0) }
     ensures waits { IfOk result (λ next. IsWaiting stride next.1 (drop next.0 window.now)) }
-    ensures kept { take (length out.old.items) out.new.items ≡ out.old.items }
-    ensures room { OnErr result (vec_capacity out.old < vec_len out.old + length window.now) }
-    ensures full { OnErr result (FindsNoRoom stride base window.now out.old.items mode 0 (vec_capacity out.old)) }
+    ensures kept { take told.old out.new.items ≡ take told.old out.old.items }
+    ensures rises { told.old ≤ told.new }
+    ensures within { told.new ≤ vec_len out.new }
+    ensures ends { told.old ≡ vec_len out.old → told.new ≡ vec_len out.new }
+    ensures room { OnErr result (vec_capacity out.old < told.old + length window.now) }
+    ensures full { OnErr result (FindsNoRoom stride base window.now (take told.old out.old.items) mode 0 (vec_capacity out.old)) }
     ensures whole { OnErr result (188 ≤ length window.now) }
     ensures capacity { vec_capacity out.old ≤ vec_capacity out.new }
 {
     let mut at = 0;
     let mut mode = mode;
-    'steps: while let Some((next, after)) = step(stride, base, window, at, mode, out)? {
+    'steps: while let Some((next, after)) = step(stride, base, window, at, mode, out, told)? {
         at = next;
         mode = after;
     }
     Ok((at, mode))
+}
+
+/// Tells a loss from one place to another, where there is one.
+fn tell_lost(from: u64, place: u64, out: &mut Vec<Item>) -> Result<(), AllocError>
+    ensures ok { OnOk result (out.new.items ≡ out.old.items ++ lost from place) }
+    ensures err { OnErr result (out.new.items ≡ out.old.items) }
+    ensures few { vec_len out.new ≤ vec_len out.old + 1 }
+    ensures capacity { vec_capacity out.old ≤ vec_capacity out.new }
+    ensures room { OnErr result (vec_capacity out.old ≤ vec_len out.old) }
+    ensures left { OnErr result (from < place) }
+{
+    if from < place {
+        out.push(Item::Lost(place - from))?;
+    }
+    Ok(())
 }
 
 /// Tells what is left in sync at the end.

@@ -88,14 +88,22 @@ impl<'a> Window<'a> {
         }
     }
 
-    /// The 188 bytes from `at` on.
-    pub fn packet(&self, at: usize) -> [u8; 188]
+    /// Copies the 188 bytes from `at` on.
+    #[inline(always)]
+    pub fn copy_packet(&self, at: usize, out: &mut [u8; 188])
         requires fits { length self.now < 2 ^ 64 }
         requires inside { at + 188 ≤ length self.now }
-        ensures { result ≡ take 188 (drop at self.now) }
+        ensures { out.new ≡ take 188 (drop at self.now) }
     {
-        let mut bytes = [0; 188];
-        self.copy(at, &mut bytes);
-        bytes
+        let count = self.kept.len();
+        // Nearly each packet lies whole in the piece.
+        if at >= count {
+            let Some(bytes) = self.piece[at - count..].first_chunk() else {
+                unreachable!()
+            };
+            *out = *bytes;
+        } else {
+            self.copy(at, out);
+        }
     }
 }

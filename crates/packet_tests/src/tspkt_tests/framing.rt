@@ -123,6 +123,36 @@ fn in_pieces(alloc: Global, row: &Row, size: usize) -> Result<String, Fail> {
     text(alloc, &items)
 }
 
+/// What a framer tells that is refilled by a row's stream in pieces of this size.
+fn refilled(alloc: Global, row: &Row, size: usize) -> Result<String, Fail> {
+    let bytes = stream(alloc, row)?;
+    let mut framer = Framer::new();
+    let mut items = Vec::new(alloc);
+    let mut told = String::new(alloc);
+    for piece in bytes.chunks(size.max(1)) {
+        let count = framer.refill(piece, &mut items)?;
+        told.push_str(text(alloc, &items[..count])?.as_str())?;
+    }
+    items.clear();
+    if !finish(framer, &mut items) {
+        return Err(Fail::from("not finished"));
+    }
+    told.push_str(text(alloc, &items)?.as_str())?;
+    Ok(told)
+}
+
+#[test]
+fn streams_over_items_from_before(rt: HostRuntime) -> Result<(), Fail> {
+    let alloc = rt.alloc();
+    for row in &ROWS {
+        for size in [1, 188, 600, 5_000] {
+            let told = refilled(alloc, row, size)?;
+            assert_eq!(rt; told.as_str(), row.items, "in pieces of {size}");
+        }
+    }
+    Ok(())
+}
+
 #[test]
 fn streams_whole_and_in_pieces(rt: HostRuntime) -> Result<(), Fail> {
     let alloc = rt.alloc();

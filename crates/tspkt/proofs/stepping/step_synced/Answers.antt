@@ -1,5 +1,5 @@
-use Rattle.std.proofs.Common.{arith, ◌≡◌, ◌+◌, List, [], ◌∷◌, ◌++◌, sym, refl, ap, ◌∙◌}
-use Rattle.std.proofs.lemmas.List.{length-append}
+use Rattle.std.proofs.Common.{arith, ◌≡◌, ◌+◌, List, [], ◌∷◌, ◌++◌, take, drop, sym, refl, ap, ◌∙◌}
+use Rattle.std.proofs.lemmas.List.{length-append, length-take-le}
 use Rattle.std.specs.Vec.{vec_capacity}
 use Rattle.tspkt.specs.declared.item.Item.{Item}
 use Rattle.tspkt.specs.declared.item.Item.TheVariants.{Packet, Bad, SyncLoss}
@@ -14,41 +14,41 @@ returns-then-skip-gt0-clause-goes c =
 pub returns-then-is_sync-clause-goes : goal.returns-then-is_sync-clause-goes
 returns-then-is_sync-clause-goes c =
     let m : Synced c.args.skip ≡ Synced 0 = ap Synced (omega arith) in
-    (omega arith, rw m (goes_packet _ _ _ _ _ _ _ c.requires.long (omega arith) (sym c.is_sync.ensures ∙ c.if-is_sync.true) c.packet.ensures c.in_ok-push.ensures.items))
+    (omega arith, rw m (goes_packet _ _ _ _ _ _ _ c.requires.long (omega arith) (sym c.is_sync.ensures ∙ c.if-is_sync.true) refl c.in_ok-tell_packet.ensures.ok))
 
 pub returns-then-is_sync-2-clause-goes : goal.returns-then-is_sync-2-clause-goes
 returns-then-is_sync-2-clause-goes c =
     let m : Synced c.args.skip ≡ Synced 0 = ap Synced (omega arith) in
-    (omega arith, rw m (goes_bad _ _ _ _ _ _ c.requires.long (omega arith) (sym c.is_sync.ensures ∙ c.if-is_sync.false) (sym c.is_sync-2.ensures ∙ c.if-is_sync-2.true) c.in_ok-push-2.ensures.items))
+    (omega arith, rw m (goes_bad _ _ _ _ _ _ c.requires.long (omega arith) (sym c.is_sync.ensures ∙ c.if-is_sync.false) (sym c.is_sync-2.ensures ∙ c.if-is_sync-2.true) c.in_ok-tell.ensures.ok))
 
 pub returns-clause-goes : goal.returns-clause-goes
 returns-clause-goes c =
     let m : Synced c.args.skip ≡ Synced 0 = ap Synced (omega arith) in
-    (omega arith, rw m (goes_loss _ _ _ _ _ _ c.requires.long (omega arith) (sym c.is_sync.ensures ∙ c.if-is_sync.false) (sym c.is_sync-2.ensures ∙ c.if-is_sync-2.false) c.in_ok-push-3.ensures.items))
+    (omega arith, rw m (goes_loss _ _ _ _ _ _ c.requires.long (omega arith) (sym c.is_sync.ensures ∙ c.if-is_sync.false) (sym c.is_sync-2.ensures ∙ c.if-is_sync-2.false) c.in_ok-tell-2.ensures.ok))
 
-pub returns-in_err-push-clause-full : goal.returns-in_err-push-clause-full
-returns-in_err-push-clause-full c =
+pub returns-in_err-tell_packet-clause-full : goal.returns-in_err-tell_packet-clause-full
+returns-in_err-tell_packet-clause-full c =
     let m : Synced c.args.skip ≡ Synced 0 = ap Synced (omega arith) in
-    let out = c.args.out.now.items in
-    let last : List Item = Packet (c.args.base + c.args.at) c.packet.result ∷ [] in
-    let goes = goes_packet c.args.stride c.args.base c.args.window.now out (out ++ last) c.args.at _ c.requires.long (omega arith) (sym c.is_sync.ensures ∙ c.if-is_sync.true) c.packet.ensures refl in
+    let out = take c.args.told.now c.args.out.now.items in
+    let last : List Item = Packet (c.args.base + c.args.at) (take 188 (drop c.args.at c.args.window.now)) ∷ [] in
+    let goes = goes_packet c.args.stride c.args.base c.args.window.now out (out ++ last) c.args.at _ c.requires.long (omega arith) (sym c.is_sync.ensures ∙ c.if-is_sync.true) refl refl in
     on_err_always c.from_residual.result
-    (rw m (no_room _ _ _ out (out ++ last) _ _ _ _ (vec_capacity c.args.out.now) goes (omega (arith, c.in_err-push.ensures.full, length-append out last))))
+    (rw m (no_room _ _ _ out (out ++ last) _ _ _ _ (vec_capacity c.args.out.now) goes (omega (arith, c.in_err-tell_packet.ensures.full, length-append out last, length-take-le c.args.told.now c.args.out.now.items))))
 
-pub returns-in_err-push-2-clause-full : goal.returns-in_err-push-2-clause-full
-returns-in_err-push-2-clause-full c =
+pub returns-in_err-tell-clause-full : goal.returns-in_err-tell-clause-full
+returns-in_err-tell-clause-full c =
     let m : Synced c.args.skip ≡ Synced 0 = ap Synced (omega arith) in
-    let out = c.args.out.now.items in
+    let out = take c.args.told.now c.args.out.now.items in
     let last : List Item = Bad (c.args.base + c.args.at) ∷ [] in
     let goes = goes_bad c.args.stride c.args.base c.args.window.now out (out ++ last) c.args.at c.requires.long (omega arith) (sym c.is_sync.ensures ∙ c.if-is_sync.false) (sym c.is_sync-2.ensures ∙ c.if-is_sync-2.true) refl in
-    on_err_always c.from_residual-in_err-push-2.result
-    (rw m (no_room _ _ _ out (out ++ last) _ _ _ _ (vec_capacity c.args.out.now) goes (omega (arith, c.in_err-push-2.ensures.full, length-append out last))))
+    on_err_always c.from_residual-in_err-tell.result
+    (rw m (no_room _ _ _ out (out ++ last) _ _ _ _ (vec_capacity c.args.out.now) goes (omega (arith, c.in_err-tell.ensures.full, length-append out last, length-take-le c.args.told.now c.args.out.now.items))))
 
-pub returns-in_err-push-3-clause-full : goal.returns-in_err-push-3-clause-full
-returns-in_err-push-3-clause-full c =
+pub returns-in_err-tell-2-clause-full : goal.returns-in_err-tell-2-clause-full
+returns-in_err-tell-2-clause-full c =
     let m : Synced c.args.skip ≡ Synced 0 = ap Synced (omega arith) in
-    let out = c.args.out.now.items in
+    let out = take c.args.told.now c.args.out.now.items in
     let last : List Item = SyncLoss (c.args.base + c.args.at) ∷ [] in
     let goes = goes_loss c.args.stride c.args.base c.args.window.now out (out ++ last) c.args.at c.requires.long (omega arith) (sym c.is_sync.ensures ∙ c.if-is_sync.false) (sym c.is_sync-2.ensures ∙ c.if-is_sync-2.false) refl in
-    on_err_always c.from_residual-in_err-push-3.result
-    (rw m (no_room _ _ _ out (out ++ last) _ _ _ _ (vec_capacity c.args.out.now) goes (omega (arith, c.in_err-push-3.ensures.full, length-append out last))))
+    on_err_always c.from_residual-in_err-tell-2.result
+    (rw m (no_room _ _ _ out (out ++ last) _ _ _ _ (vec_capacity c.args.out.now) goes (omega (arith, c.in_err-tell-2.ensures.full, length-append out last, length-take-le c.args.told.now c.args.out.now.items))))

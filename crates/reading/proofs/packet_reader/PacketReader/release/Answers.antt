@@ -1,4 +1,4 @@
-use Rattle.std.proofs.Common.{◌++◌, List, ℕ, Option, sym, subst}
+use Rattle.std.proofs.Common.{◌++◌, Option, sym, subst}
 use Rattle.std.specs.Option.{option_to_list}
 use Rattle.tspkt.specs.declared.stamped.Stamped.{Stamped}
 use Rattle.reading.specs.PacketReading.{HasLooked}
