@@ -1,9 +1,11 @@
 -- The last packet of a PID, and whether it is a copy, decide whether the next one is lawful.
-use Rattle.std.proofs.Common.{◌≡◌, ℕ, List, [], ◌∷◌, ◌++◌, refl, sym, ◌∙◌, ap, Option, Some, None, Bool, true, false, ◌&&◌, ◌||◌}
+use Rattle.std.proofs.Common.{◌≡◌, ◌≢◌, ℕ, List, [], ◌∷◌, ◌++◌, refl, sym, ◌∙◌, ap, Option, Some, None, Bool, true, false, ◌&&◌, ◌||◌}
 use Rattle.std.specs.Prelude.{not, ◌==◌, ◌+◌, ◌%◌}
 use Rattle.std.proofs.Math.Bool.{or_assoc}
+use Rattle.std.proofs.lemmas.Bool.{and_left, and_right, false_from_ne_true}
+use Rattle.std.proofs.lemmas.Bool.Decides.{Decides-eqb}
 use Rattle.tspkt.specs.Packet.{discontinuity_indicator_of, has_payload_of, continuity_counter_of}
-use Rattle.tspkt.specs.Counters.{is_copy, is_second_copy, follows_of, lawful_behind, lawful_of}
+use Rattle.tspkt.specs.Counters.{is_copy, is_equal_but_pcr, is_second_copy, follows_of, lawful_behind, lawful_of}
 use Rattle.analyse.specs.Faults.{last_is_lawful}
 use Rattle.analyse.specs.CounterWatching.{CounterState, last_of, steps_to, is_next_lawful, HasSeenPackets}
 
@@ -40,3 +42,11 @@ packets_more w packets next s = record {
 pub packets_first : (first : List ℕ) → HasSeenPackets (record { last = first; is_copy = false }) (first ∷ [])
 unfolding is_second_copy
 packets_first first = record { earlier = []; packets_are = refl; is_copy = refl }
+
+-- a packet whose counter is another is no copy
+pub other_counter : (last next : List ℕ) → continuity_counter_of last ≢ continuity_counter_of next → is_copy last next ≡ false
+unfolding is_copy
+other_counter last next e =
+    let t : (continuity_counter_of last == continuity_counter_of next) ≡ false = false_from_ne_true (continuity_counter_of last == continuity_counter_of next) (λ t. e ((Decides-eqb (continuity_counter_of last) (continuity_counter_of next)).0 t)) in
+    and_left ((has_payload_of last && has_payload_of next) && continuity_counter_of last == continuity_counter_of next) (is_equal_but_pcr last next)
+    (and_right (has_payload_of last && has_payload_of next) (continuity_counter_of last == continuity_counter_of next) t)

@@ -17,3 +17,4 @@ pub mod WatchedLaws
 pub mod TablesLaws
 pub mod StreamLaws
 pub mod FaultsLaws
+pub mod QuietLaws

@@ -18,7 +18,7 @@ use Rattle.analyse.proofs.PmtLaws.{no_newest}
 use Rattle.analyse.proofs.PatWatchLaws.{completes_last}
 
 -- a slot that is no packet of the PID that isn't scrambled
-unread : (pid : ℕ) (slots : List (List ℕ)) (x : List ℕ) → is_packet x ≡ true → is_on pid x ≡ false → packets_on pid (packets_in (slots ++ x ∷ [])) ≡ packets_on pid (packets_in slots)
+pub unread : (pid : ℕ) (slots : List (List ℕ)) (x : List ℕ) → is_packet x ≡ true → is_on pid x ≡ false → packets_on pid (packets_in (slots ++ x ∷ [])) ≡ packets_on pid (packets_in slots)
 unread pid slots x h off =
     ap (packets_on pid) (packets_more slots x h) ∙ filter-append (is_on pid) (packets_in slots) (x ∷ [])
     ∙ ap (λ (b : Bool). packets_on pid (packets_in slots) ++ cond b (x ∷ []) []) off ∙ append-nil (packets_on pid (packets_in slots))
@@ -27,7 +27,7 @@ none_read : (pid : ℕ) (slots : List (List ℕ)) (x : List ℕ) → is_packet x
 none_read pid slots x h = ap (packets_on pid) (packets_same slots x h)
 
 module _ (pid : ℕ) (slots : List (List ℕ)) (x : List ℕ) (same : packets_on pid (packets_in (slots ++ x ∷ [])) ≡ packets_on pid (packets_in slots)) where
-  stays : (w : PmtState) → HasSeenPmts pid w slots → HasSeenPmts pid w (slots ++ x ∷ [])
+  pub stays : (w : PmtState) → HasSeenPmts pid w slots → HasSeenPmts pid w (slots ++ x ∷ [])
   stays w s = record {
     sections = subst (λ (packets : List (List ℕ)). StandsFor w.assembly (state_behind fresh packets)) (sym same) s.sections;
     newest = rw same s.newest;
@@ -47,7 +47,7 @@ none_grows slots x pid h = no_growth pid slots x (none_read pid slots x h)
 scrambled_off : (pid : ℕ) (x : List ℕ) → transport_scrambling_control_of x ≢ 0 → is_on pid x ≡ false
 scrambled_off pid x e = grind (arith, nat_tests)
 
-other_off : (pid : ℕ) (x : List ℕ) → pid_of x ≢ pid → is_on pid x ≡ false
+pub other_off : (pid : ℕ) (x : List ℕ) → pid_of x ≢ pid → is_on pid x ≡ false
 other_off pid x e = grind (arith, nat_tests)
 
 pub scrambled_stays : (ws : List (Option PmtState)) (slots : List (List ℕ)) (x : List ℕ) → is_packet x ≡ true → transport_scrambling_control_of x ≢ 0 → HaveSeenPmts ws slots → HaveSeenPmts ws (slots ++ x ∷ [])

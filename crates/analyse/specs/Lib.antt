@@ -20,3 +20,4 @@ pub mod TablesWatching
 pub mod StreamWatching
 pub mod Analysed
 pub mod FaultNames
+pub mod Quiet

@@ -48,6 +48,7 @@ impl CounterWatch {
     }
 
     /// Whether the next packet is lawful, where it is a copy of the last one or not.
+    #[inline(always)]
     fn is_lawful(&self, next: &Packet, is_copy: bool) -> bool
         ensures { result ≡ is_next_lawful self.now next.now is_copy }
     {
@@ -62,10 +63,27 @@ impl CounterWatch {
         ensures lawful { (packets : List (List ℕ)) → HasSeenPackets self.old packets
             → result ≡ last_is_lawful (lawful_of (packets ++ next.now ∷ [])) }
     {
+        if self.last.counter() == next.counter() {
+            return self.push_same(next);
+        }
+        let lawful = self.is_lawful(next, false);
+        self.is_copy = false;
+        self.last = *next;
+        lawful
+    }
+
+    /// The same, where the packet can be a copy of the last one.
+    #[inline(never)]
+    fn push_same(&mut self, next: &Packet) -> bool
+        ensures seen { (packets : List (List ℕ)) → HasSeenPackets self.old packets
+            → HasSeenPackets self.new (packets ++ next.now ∷ []) }
+        ensures lawful { (packets : List (List ℕ)) → HasSeenPackets self.old packets
+            → result ≡ last_is_lawful (lawful_of (packets ++ next.now ∷ [])) }
+    {
         let is_copy = self.last.is_copy(next);
         let lawful = self.is_lawful(next, is_copy);
-        self.last = *next;
         self.is_copy = is_copy;
+        self.last = *next;
         lawful
     }
 }

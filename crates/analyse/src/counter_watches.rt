@@ -48,7 +48,9 @@ impl Model for CounterWatches {
 }
 
 impl CounterWatches {
-    ghost use Rattle.std.specs.Prelude.{◌≡◌, [], ◌∷◌, ◌++◌, ℕ, List, length, option_map, IfOk};
+    ghost use Rattle.analyse.specs.declared.watched_pids.TheConstants.{PID_COUNT};
+    ghost use Rattle.std.specs.Prelude.{◌≡◌, ◌<◌, [], ◌∷◌, ◌++◌, ℕ, List, length, Some, option_map, IfOk};
+    ghost use Rattle.tspkt.specs.Packet.{pid_of};
     ghost use Rattle.analyse.specs.SlotReading.{IsReadAs};
     ghost use Rattle.analyse.specs.CountersWatching.{HaveSeenPids};
     ghost use Rattle.analyse.specs.Faults.{is_counter_bad_at};
@@ -74,12 +76,25 @@ impl CounterWatches {
             → IsReadAs slot (option_map (λ p. p.now) packet.entry)
             → result ≡ is_counter_bad_at (slots ++ slot ∷ []) (length slots) }
     {
-        let Some(packet) = packet else {
-            return false;
-        };
-        if packet.pid() == NULL_PID {
+        match packet {
+            Some(packet) => self.push_of(packet.pid(), packet),
+            None => false,
+        }
+    }
+
+    /// The same of a packet of this PID.
+    #[inline(always)]
+    pub fn push_of(&mut self, pid: u16, packet: &Packet) -> bool
+        requires of_packet { pid ≡ pid_of packet.now }
+        requires fits { pid < PID_COUNT }
+        ensures seen { (slots : List (List ℕ)) (slot : List ℕ) → HaveSeenPids self.old slots
+            → IsReadAs slot (Some packet.now) → HaveSeenPids self.new (slots ++ slot ∷ []) }
+        ensures bad { (slots : List (List ℕ)) (slot : List ℕ) → HaveSeenPids self.old slots
+            → IsReadAs slot (Some packet.now) → result ≡ is_counter_bad_at (slots ++ slot ∷ []) (length slots) }
+    {
+        if pid == NULL_PID {
             return false;
         }
-        see_packet(&mut self.watches[usize::from(packet.pid())], packet)
+        see_packet(&mut self.watches[usize::from(pid)], packet)
     }
 }

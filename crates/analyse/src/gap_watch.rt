@@ -63,7 +63,8 @@ impl GapWatch {
     }
 
     /// Whether the open gap is as long as the limit.
-    fn is_told(&self, count: u64) -> bool
+    #[inline(always)]
+    pub fn is_told(&self, count: u64) -> bool
         ensures { result ≡ is_told self.now count }
     {
         match self.since {

@@ -106,8 +106,9 @@ impl Model for GapWatches {
 }
 
 impl GapWatches {
-    ghost use Rattle.std.specs.Prelude.{◌≡◌, ◌+◌, ◌++◌, ◌<◌, ◌||◌, ℕ, Bool, Some, false, option_map, slice_index_or, IfOk, OnOk};
+    ghost use Rattle.std.specs.Prelude.{◌≡◌, ◌+◌, ◌++◌, ◌<◌, ◌||◌, ℕ, Bool, List, Some, true, false, option_map, slice_index_or, IfOk, OnOk};
     ghost use Rattle.std.specs.Option.{ForSome};
+    ghost use Rattle.tspkt.specs.Packet.{pid_of};
     ghost use Rattle.analyse.specs.Faults.{told_if};
     ghost use Rattle.analyse.specs.GapWatching.{is_long};
     ghost use Rattle.analyse.specs.GapsWatching.{is_watched, since_of, ChangesTo, IsChangedAt, IsLowered, IsDue, HaveSeenNumbers, OnlyMarked, gaps_at, long_gaps};
@@ -140,12 +141,24 @@ impl GapWatches {
             → OnlyMarked self.old watched mark count (option_map (λ p. p.now) marked.entry)
             → HaveSeenNumbers self.new watched mark (count + 1) }
     {
-        let Some(packet) = marked else {
-            return;
-        };
-        let pid = usize::from(packet.pid());
-        if self.watched[pid] {
-            self.since[pid] = Some(count);
+        if let Some(packet) = marked {
+            self.pass_marked(count, packet.pid());
+        }
+    }
+
+    /// The same, where the last slot is a mark of this PID.
+    #[inline(always)]
+    pub fn pass_marked(&mut self, count: u64, pid: u16)
+        requires { pid < PID_COUNT }
+        ensures limit { self.new.limit ≡ self.old.limit }
+        ensures watched { self.new.watched ≡ self.old.watched }
+        ensures seen { (watched mark : ℕ → ℕ → Bool) (packet : List ℕ) → pid_of packet ≡ pid
+            → HaveSeenNumbers self.old watched mark count → OnlyMarked self.old watched mark count (Some packet)
+            → HaveSeenNumbers self.new watched mark (count + 1) }
+    {
+        let place = usize::from(pid);
+        if self.watched[place] {
+            self.since[place] = Some(count);
             self.due = lesser_due(self.due, count, self.limit);
         }
     }
@@ -157,6 +170,14 @@ impl GapWatches {
         ensures { result ≡ is_watched self.now pid }
     {
         self.watched[usize::from(pid)]
+    }
+
+    /// Whether no gap can fall due at the slot behind so many.
+    #[inline(always)]
+    pub fn is_early(&self, count: u64) -> bool
+        ensures { result ≡ true → count < self.now.due }
+    {
+        count < self.due
     }
 
     /// Sees a number of slots at which these PIDs are watched. A PID that wasn't watched before has a mark, and so has the

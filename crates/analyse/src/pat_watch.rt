@@ -88,11 +88,12 @@ impl Model for PatWatch {
 }
 
 impl PatWatch {
-    ghost use Rattle.std.specs.Prelude.{◌≡◌, [], ◌∷◌, ◌++◌, ℕ, List, length, false, option_map, OnOk, IfOk};
+    ghost use Rattle.std.specs.Prelude.{◌≡◌, [], ◌∷◌, ◌++◌, ℕ, List, length, true, false, option_map, OnOk, IfOk};
     ghost use Rattle.analyse.specs.SlotReading.{IsReadAs};
     ghost use Rattle.analyse.specs.PatWatching.{HasSeenPat};
     ghost use Rattle.analyse.specs.Faults.{is_pat_bad_at};
     ghost use Rattle.analyse.specs.InForce.{program_rows_behind};
+    ghost use Rattle.analyse.specs.Quiet.{LeavesPat};
 
     /// A watch that has seen no slot. The PAT has to come within so many slots.
     pub fn new(alloc: Global, limit: u64) -> PatWatch
@@ -139,5 +140,23 @@ impl PatWatch {
             bad: is_bad(missed, &self.told, packet),
             changed: programs.changed,
         })
+    }
+
+    /// Whether nothing is told at the next slot, and this packet leaves the watch as it is: it is of another PID, the last
+    /// slot was no mark, and no gap falls due. Where something was told at the last slot, that is still to be let go.
+    #[inline(always)]
+    pub fn rests(&self, count: u64, packet: &Packet) -> bool
+        ensures { result ≡ true → LeavesPat self.now count packet.now }
+    {
+        if packet.pid() == 0 {
+            return false;
+        }
+        if self.marked {
+            return false;
+        }
+        if !self.told.is_empty() {
+            return false;
+        }
+        !self.gap.is_told(count)
     }
 }

@@ -23,6 +23,7 @@ impl PmtAssembly {
     ghost use Rattle.analyse.specs.ToldPmts.{pmts_in};
     ghost use Rattle.analyse.specs.UnreadSections.{IsReadAnew, IsReadAsFirst};
     ghost use Rattle.analyse.specs.PmtAssembling.{StandsFor};
+    ghost use Rattle.analyse.specs.Quiet.{LeavesAssembly};
 
     /// Reads the next packet of the PID, and leaves in `told` what tells its PMTs. An `Err` is want of memory.
     #[inline(always)]
@@ -101,6 +102,17 @@ impl PmtAssembly {
         assembler.push(packet, told)?;
         *self = PmtAssembly::Read(assembler);
         Ok(())
+    }
+
+    /// Whether the packet tells nothing and leaves all as it is: nothing is begun, and no section begins in it.
+    #[inline(always)]
+    pub fn rests(&self, packet: &Packet) -> bool
+        ensures { result ≡ true → (s : AssemblerState) → StandsFor self.now s → LeavesAssembly self.now s packet.now }
+    {
+        match self {
+            PmtAssembly::Between => !packet.unit_start(),
+            _ => false,
+        }
     }
 
     /// No section is begun.

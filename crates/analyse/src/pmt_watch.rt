@@ -51,6 +51,7 @@ impl PmtWatch {
     ghost use Rattle.analyse.specs.SectionWatching.{is_on};
     ghost use Rattle.analyse.specs.ToldPmts.{pmt_in, pmts_in, is_pmt_in};
     ghost use Rattle.analyse.specs.PmtWatching.{new_pmt_watch, pids_kept, KeepsNewest, HasSeenPmts};
+    ghost use Rattle.analyse.specs.Quiet.{LeavesPmt};
 
     /// A watch that has seen no packet.
     pub fn new(alloc: Global) -> PmtWatch
@@ -85,6 +86,14 @@ impl PmtWatch {
         self.assembly.push(self.alloc, packet, told)?;
         let seen = self.push_all(told)?;
         Ok(seen)
+    }
+
+    /// Whether this packet, of the PID and not scrambled, tells nothing and leaves the watch as it is.
+    #[inline(always)]
+    pub fn rests(&self, packet: &Packet) -> bool
+        ensures { result ≡ true → (pid : ℕ) → is_on pid packet.now ≡ true → LeavesPmt pid self.now packet.now }
+    {
+        self.assembly.rests(packet)
     }
 
     /// Takes the PMTs among what was told.

@@ -74,11 +74,12 @@ impl Model for PmtWatches {
 }
 
 impl PmtWatches {
-    ghost use Rattle.std.specs.Prelude.{◌≡◌, ◌∷◌, ◌++◌, [], ◌+◌, ◌<◌, ◌&&◌, ℕ, List, length, Some, false, IfOk, OnOk, option_map};
+    ghost use Rattle.std.specs.Prelude.{◌≡◌, ◌∷◌, ◌++◌, [], ◌+◌, ◌<◌, ◌&&◌, ℕ, List, length, Some, true, false, IfOk, OnOk, option_map};
     ghost use Rattle.analyse.specs.SlotReading.{IsReadAs};
     ghost use Rattle.analyse.specs.Faults.{completes, pmts_of};
     ghost use Rattle.analyse.specs.GapsWatching.{is_of_packet};
     ghost use Rattle.analyse.specs.PmtWatching.{HaveSeenPmts, pids_of_program};
+    ghost use Rattle.analyse.specs.Quiet.{LeavesPmts};
 
     /// Watches that have seen no slot.
     pub fn new(alloc: Global) -> Result<PmtWatches, AllocError>
@@ -131,5 +132,20 @@ impl PmtWatches {
         let place = usize::from(packet.pid());
         let seen = see_packet(self.alloc, &mut self.watches[place], packet, &mut self.told)?;
         Ok(seen)
+    }
+
+    /// Whether this packet tells nothing and leaves the watches as they are. Where something was told before, that is still
+    /// to be let go.
+    #[inline(always)]
+    pub fn rest_at(&self, packet: &Packet) -> bool
+        ensures { result ≡ true → LeavesPmts self.now packet.now }
+    {
+        if packet.scrambling() != 0 {
+            return true;
+        }
+        match &self.watches[usize::from(packet.pid())] {
+            Some(watch) if self.told.is_empty() => watch.rests(packet),
+            _ => false,
+        }
     }
 }

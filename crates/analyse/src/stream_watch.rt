@@ -36,6 +36,7 @@ fn tell_if(
 }
 
 /// One slot more. An `Err` is a number past 64 bits.
+#[inline(always)]
 fn next_count(count: u64) -> Result<u64, AllocError>
     ensures { IfOk result (λ next. next ≡ count + 1) }
 {
@@ -81,8 +82,9 @@ impl Model for StreamWatch {
 }
 
 impl StreamWatch {
-    ghost use Rattle.std.specs.Prelude.{◌≡◌, ◌∷◌, ◌++◌, [], ℕ, List, length, IfOk, OnOk};
+    ghost use Rattle.std.specs.Prelude.{◌≡◌, ◌∷◌, ◌++◌, [], ℕ, List, length, Some, true, IfOk, OnOk};
     ghost use Rattle.analyse.specs.Faults.{faults_at};
+    ghost use Rattle.analyse.specs.Quiet.{IsQuiet};
     ghost use Rattle.analyse.specs.StreamWatching.{HaveSeenStream};
 
     /// Watches of a stream of `rate` bits a second that have seen no slot; a PID has to come within `period` slots. An
@@ -102,7 +104,72 @@ impl StreamWatch {
 
     /// Sees the next slot, which is read as this packet, or as none, and tells its faults behind those of `out`. An `Err` is
     /// want of memory, or a stream of 2^64 - 1 slots.
+    #[inline(always)]
     pub(crate) fn see(
+        &mut self,
+        slot: &[u8; 188],
+        packet: Option<&Packet>,
+        out: &mut Vec<Fault>,
+    ) -> Result<(), AllocError>
+        requires { IsReadAs slot.now (option_map (λ p. p.now) packet) }
+        ensures seen { OnOk result ((rate period : ℕ) (slots : List (List ℕ)) → HaveSeenStream rate period self.old slots
+            → HaveSeenStream rate period self.new (slots ++ slot.now ∷ [])) }
+        ensures told { OnOk result ((rate period : ℕ) (slots : List (List ℕ)) → HaveSeenStream rate period self.old slots
+            → out.new.items ≡ out.old.items ++ faults_at rate period (slots ++ slot.now ∷ []) (length slots)) }
+    {
+        match packet {
+            Some(packet) if self.is_quiet(slot, packet) => self.pass(slot, packet, out),
+            _ => self.see_any(slot, packet, out),
+        }
+    }
+
+    /// Whether the slot, read as this packet, can tell no more than its counter's fault, and changes no more than what is
+    /// known of its counter and of when its PID came last.
+    #[inline(always)]
+    fn is_quiet(&self, slot: &[u8; 188], packet: &Packet) -> bool
+        ensures { result ≡ true → IsQuiet self.now slot.now packet.now }
+    {
+        if packet.unit_start() {
+            return false;
+        }
+        if !self.sync.stands(slot) {
+            return false;
+        }
+        if !self.pat.rests(self.count, packet) {
+            return false;
+        }
+        self.tables.rest_at(self.count, packet)
+    }
+
+    /// Sees such a slot.
+    #[inline(always)]
+    fn pass(
+        &mut self,
+        slot: &[u8; 188],
+        packet: &Packet,
+        out: &mut Vec<Fault>,
+    ) -> Result<(), AllocError>
+        requires read { IsReadAs slot.now (Some packet.now) }
+        requires quiet { IsQuiet self.old slot.now packet.now }
+        ensures seen { OnOk result ((rate period : ℕ) (slots : List (List ℕ)) → HaveSeenStream rate period self.old slots
+            → HaveSeenStream rate period self.new (slots ++ slot.now ∷ [])) }
+        ensures told { OnOk result ((rate period : ℕ) (slots : List (List ℕ)) → HaveSeenStream rate period self.old slots
+            → out.new.items ≡ out.old.items ++ faults_at rate period (slots ++ slot.now ∷ []) (length slots)) }
+    {
+        let count = self.count;
+        let next = next_count(count)?;
+        let pid = packet.pid();
+        self.tables.pass(next, pid);
+        self.count = next;
+        let is_bad = self.counters.push_of(pid, packet);
+        let pid = Some(pid);
+        tell_if(is_bad, FaultKind::ContinuityCountError, count, pid, out)?;
+        Ok(())
+    }
+
+    /// Sees the next slot, whatever it is.
+    #[inline(never)]
+    fn see_any(
         &mut self,
         slot: &[u8; 188],
         packet: Option<&Packet>,

@@ -52,6 +52,7 @@ impl Model for SyncWatch {
 impl SyncWatch {
     ghost use Rattle.std.specs.Prelude.{◌≡◌, [], ◌∷◌, ◌++◌, ℕ, List, length};
     ghost use Rattle.analyse.specs.SyncWatching.{HasSeenSlots, is_lost_by, behind};
+    ghost use Rattle.analyse.specs.Quiet.{stands};
     ghost use Rattle.analyse.specs.Slots.{is_sync_lost_at, is_sync_byte_bad_at};
 
     /// A watch that has seen no slot.
@@ -79,6 +80,14 @@ impl SyncWatch {
         let lost = self.is_lost_by(bad);
         *self = self.behind(bad);
         SyncSeen { lost, bad }
+    }
+
+    /// Whether sync stands, and the slot is good: it tells nothing, and leaves the watch as it is.
+    #[inline(always)]
+    pub fn stands(&self, slot: &[u8; 188]) -> bool
+        ensures { result ≡ stands self.now slot.now }
+    {
+        slot[0] == SYNC_BYTE && self.run >= ACQUIRED_BY && self.in_sync && !self.was_bad
     }
 
     /// Whether sync is lost by a slot.

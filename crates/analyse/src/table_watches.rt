@@ -92,10 +92,12 @@ impl Model for TableWatches {
 }
 
 impl TableWatches {
-    ghost use Rattle.std.specs.Prelude.{◌≡◌, ◌+◌, ◌∷◌, ◌++◌, [], ℕ, List, length, false, IfOk, OnOk, option_map};
+    ghost use Rattle.std.specs.Prelude.{◌≡◌, ◌+◌, ◌<◌, ◌∷◌, ◌++◌, [], ℕ, List, length, Some, true, false, IfOk, OnOk, option_map};
+    ghost use Rattle.tspkt.specs.Packet.{pid_of};
     ghost use Rattle.analyse.specs.SlotReading.{IsReadAs};
     ghost use Rattle.analyse.specs.InForce.{program_rows_behind};
     ghost use Rattle.analyse.specs.TablesWatching.{HaveSeenTables, table_faults_at};
+    ghost use Rattle.analyse.specs.Quiet.{LeavesTables};
 
     /// Watches that have seen no slot. A PMT has to come within `limit` slots, a packet within `period`.
     pub fn new(alloc: Global, limit: u64, period: u64) -> Result<TableWatches, AllocError>
@@ -132,6 +134,38 @@ impl TableWatches {
         self.pmt_gaps.tell(count, also, FaultKind::PmtError2, out)?;
         self.pid_gaps.tell(count, None, FaultKind::PidError, out)?;
         Ok(())
+    }
+
+    /// Whether nothing is told at the slot behind so many, where it is this packet, and of the PMTs all stays as it is.
+    #[inline(always)]
+    pub fn rest_at(&self, count: u64, packet: &Packet) -> bool
+        ensures { result ≡ true → LeavesTables self.now count packet.now }
+    {
+        if !self.pmt_gaps.is_early(count) {
+            return false;
+        }
+        if !self.pid_gaps.is_early(count) {
+            return false;
+        }
+        match watched_only(&self.pmt_gaps, scrambled_pid(Some(packet))) {
+            Some(_) => false,
+            None => self.pmts.rest_at(packet),
+        }
+    }
+
+    /// Sees such a packet, of this PID, behind which the PAT in force has the same rows as before.
+    #[inline(always)]
+    pub fn pass(&mut self, next: u64, pid: u16)
+        requires { pid < PID_COUNT }
+        ensures limit { self.new.pmt_gaps.limit ≡ self.old.pmt_gaps.limit }
+        ensures period { self.new.pid_gaps.limit ≡ self.old.pid_gaps.limit }
+        ensures seen { (slots : List (List ℕ)) (slot packet : List ℕ) → HaveSeenTables self.old slots
+            → length slots + 1 ≡ next → IsReadAs slot (Some packet) → pid_of packet ≡ pid
+            → LeavesTables self.old (length slots) packet
+            → program_rows_behind (slots ++ slot ∷ []) ≡ program_rows_behind slots
+            → HaveSeenTables self.new (slots ++ slot ∷ []) }
+    {
+        self.pid_gaps.pass_marked(next, pid);
     }
 
     /// Sees what the next slot is read as, behind which the PAT in force has these rows of programs; `changed` is false

@@ -6,7 +6,7 @@ use Rattle.analyse.specs.StreamWatching.{StreamState, HaveSeenStream}
 use Rattle.analyse.specs.TablesWatching.{table_faults_at}
 use Rattle.analyse.specs.declared.fault_kind.FaultKind.TheVariants.{ContinuityCountError}
 use Rattle.analyse.proofs.StreamLaws.{rows_kept, counter_told, all_told}
-use Rattle.analyse.proofs.stream_watch.StreamWatch.see.Goals as goal
+use Rattle.analyse.proofs.stream_watch.StreamWatch.see_any.Goals as goal
 
 pub returns-clause-seen : goal.returns-clause-seen
 returns-clause-seen c rate period slots s =
