@@ -1,13 +1,12 @@
 -- What a run sent is handed on to its output.
-use Rattle.std.proofs.Common.{◌≡◌, ℕ, List, [], ◌∷◌, ◌++◌, true, false, Option, Some, None, take, drop, length, get_or, ◌<◌, ◌+◌, refl, ap, sym, subst, ◌∙◌, append_assoc, append-nil}
-use Rattle.std.proofs.lemmas.List.{take_more, take-append-drop, map-append}
+use Rattle.std.proofs.Common.{◌≡◌, ℕ, List, [], ◌∷◌, ◌++◌, true, false, Option, Some, None, refl, ap, sym, subst, ◌∙◌, append_assoc, append-nil}
+use Rattle.std.proofs.lemmas.Grind.{flat_map-append}
 use Rattle.std.proofs.lemmas.Bool.{false≢true}
 use Rattle.std.specs.Prelude.{Result, Ok, Err, OnOk, IfSome}
 use Rattle.std.specs.Io.KnownBytes.{Appends}
-use Rattle.tspkt.specs.declared.stamped.Stamped.{Stamped}
 use Rattle.mux.specs.History.{Run}
-use Rattle.port.specs.Rings.{RingId, PortValue, RingEndValue, FinishedValue}
-use Rattle.port.specs.Receiving.{IsLeft}
+use Rattle.relay.specs.Relays.{RelayId, SenderValue, ReceiverValue, FinishedValue}
+use Rattle.relay.specs.Receiving.{IsLeft}
 use Rattle.serial.specs.Running.{IsOver}
 use Rattle.serial.specs.Sending.{bytes_of, HasAnalysed}
 use Rattle.serial.specs.Written.{Sends, SendsBeginning}
@@ -24,22 +23,22 @@ use Rattle.threaded.proofs.DrivingLaws.{same_same}
 use Rattle.threaded.proofs.WritingLaws.{bytes_behind}
 
 -- nothing was handed on
-pub hands_nothing : (s : StationValue) (items : List Stamped) → items ≡ [] → HandsAll s s items
-hands_nothing s items none = record {
+pub hands_nothing : (s : StationValue) (blocks : List (List (List ℕ))) → blocks ≡ [] → HandsAll s s blocks
+hands_nothing s blocks none = record {
   same = record { run = refl; rings = refl; needed = λ is. is };
-  sent = sym (ap (λ (v : List Stamped). sent_of s ++ packets_in v) none ∙ append-nil (sent_of s));
+  sent = sym (ap (λ (v : List (List (List ℕ))). sent_of s ++ packets_in v) none ∙ append-nil (sent_of s));
 }
 
-pub all_some : (old new : StationValue) (items : List Stamped) → HandsAll old new items → HandsSome old new items
-all_some old new items all = record { same = all.same; rest = []; sent = all.sent ∙ sym (append-nil (sent_of old ++ packets_in items)) }
+pub all_some : (old new : StationValue) (blocks : List (List (List ℕ))) → HandsAll old new blocks → HandsSome old new blocks
+all_some old new blocks all = record { same = all.same; rest = []; sent = all.sent ∙ sym (append-nil (sent_of old ++ packets_in blocks)) }
 
 -- what went out in a turn is handed on, or a beginning of it
-handed : (old mid new : StationValue) (a b : List Stamped) (packets rest : List (List ℕ)) → sent_of mid ≡ sent_of old ++ packets_in a → sent_of new ≡ sent_of mid ++ packets → packets_in a ++ packets ≡ packets_in b ++ rest
+handed : (old mid new : StationValue) (a b : List (List (List ℕ))) (packets rest : List (List ℕ)) → sent_of mid ≡ sent_of old ++ packets_in a → sent_of new ≡ sent_of mid ++ packets → packets_in a ++ packets ≡ packets_in b ++ rest
     → sent_of new ≡ (sent_of old ++ packets_in b) ++ rest
 handed old mid new a b packets rest before out is =
     out ∙ (ap (λ v. v ++ packets) before ∙ (append_assoc (sent_of old) (packets_in a) packets ∙ (ap (λ v. sent_of old ++ v) is ∙ sym (append_assoc (sent_of old) (packets_in b) rest))))
 
-pub hands_some : (old mid new : StationValue) (a b : List Stamped) (packets rest : List (List ℕ)) → HandsAll old mid a → IsSameRun mid new → sent_of new ≡ sent_of mid ++ packets → packets_in a ++ packets ≡ packets_in b ++ rest
+pub hands_some : (old mid new : StationValue) (a b : List (List (List ℕ))) (packets rest : List (List ℕ)) → HandsAll old mid a → IsSameRun mid new → sent_of new ≡ sent_of mid ++ packets → packets_in a ++ packets ≡ packets_in b ++ rest
     → HandsSome old new b
 hands_some old mid new a b packets rest before same out is = record {
   same = same_same old mid new before.same same;
@@ -47,52 +46,43 @@ hands_some old mid new a b packets rest before same out is = record {
   sent = handed old mid new a b packets rest before.sent out is;
 }
 
-pub hands_all : (old mid new : StationValue) (a b : List Stamped) (packets rest : List (List ℕ)) → HandsAll old mid a → IsSameRun mid new → sent_of new ≡ sent_of mid ++ packets → packets_in a ++ packets ≡ packets_in b ++ rest
+pub hands_all : (old mid new : StationValue) (a b : List (List (List ℕ))) (packets rest : List (List ℕ)) → HandsAll old mid a → IsSameRun mid new → sent_of new ≡ sent_of mid ++ packets → packets_in a ++ packets ≡ packets_in b ++ rest
     → rest ≡ [] → HandsAll old new b
 hands_all old mid new a b packets rest before same out is none = record {
   same = same_same old mid new before.same same;
   sent = handed old mid new a b packets rest before.sent out is ∙ (ap (λ v. (sent_of old ++ packets_in b) ++ v) none ∙ append-nil (sent_of old ++ packets_in b));
 }
 
--- The packets of a turn, one behind the other.
+-- What came out of the relay is what went into it, or a beginning.
 
-pub one_more : (sent xs : List (List ℕ)) (k : ℕ) (x : List ℕ) → k < length xs → x ≡ get_or xs k x → (sent ++ take k xs) ++ x ∷ [] ≡ sent ++ take (k + 1) xs
-one_more sent xs k x within is =
-    append_assoc sent (take k xs) (x ∷ []) ∙ ap (λ v. sent ++ v) (sym (take_more xs k x within ∙ ap (λ v. take k xs ++ v ∷ []) (sym is)))
+packets_behind : (xs ys : List (List (List ℕ))) → packets_in (xs ++ ys) ≡ packets_in xs ++ packets_in ys
+packets_behind xs ys = flat_map-append (λ (x : List (List ℕ)). x) xs ys
 
-pub some_left : (sent xs : List (List ℕ)) (k : ℕ) → sent ++ xs ≡ (sent ++ take k xs) ++ drop k xs
-some_left sent xs k = ap (λ v. sent ++ v) (sym (take-append-drop k xs)) ∙ sym (append_assoc sent (take k xs) (drop k xs))
-
--- What came out of the ring is what went into it, or a beginning.
-
-packets_behind : (xs ys : List Stamped) → packets_in (xs ++ ys) ≡ packets_in xs ++ packets_in ys
-packets_behind xs ys = map-append (λ (x : Stamped). x.packet) xs ys
-
--- what is said of a finished port is so of what came out of its ring, and what is left in it
-at_left : (P : PortValue → Type 0) (end : RingEndValue) (finished : FinishedValue) (count : ℕ) → IfSome finished.shown P → (left : IsLeft end finished count) → P (record { ring = end.ring; sent = end.received ++ left.rest })
-at_left P end finished count shown left =
-    let O : Option PortValue → Type 0 = λ v. IfSome v P in
+-- what is said of a finished sender is so of what came out of its relay, and what is left in it
+at_left : (P : SenderValue → Type 0) (receiver : ReceiverValue) (finished : FinishedValue) (count : ℕ) → IfSome finished.shown P → (left : IsLeft receiver finished count) → P (record { relay = receiver.relay; sent = receiver.received ++ left.rest })
+at_left P receiver finished count shown left =
+    let O : Option SenderValue → Type 0 = λ v. IfSome v P in
     subst O left.shown shown
 
-pub received_some : (old new : StationValue) (ring : RingId) (finished : FinishedValue) (end : RingEndValue) (count : ℕ) → IsHandedOn old new ring finished → IsLeft end finished count → HandsSome old new end.received
-received_some old new ring finished end count handed left =
-    let some = at_left (λ shown. HandsSome old new shown.sent) end finished count handed.some left in
-    let items = packets_behind end.received left.rest in
+pub received_some : (old new : StationValue) (relay : RelayId) (finished : FinishedValue) (receiver : ReceiverValue) (count : ℕ) → IsHandedOn old new relay finished → IsLeft receiver finished count → HandsSome old new receiver.received
+received_some old new relay finished receiver count handed left =
+    let some = at_left (λ shown. HandsSome old new shown.sent) receiver finished count handed.some left in
+    let blocks = packets_behind receiver.received left.rest in
     let own = sent_of old in
-    let came = packets_in end.received in
+    let came = packets_in receiver.received in
     let lost = packets_in left.rest in
     record {
       same = some.same;
       rest = lost ++ some.rest;
-      sent = some.sent ∙ (ap (λ v. (own ++ v) ++ some.rest) items ∙ (ap (λ v. v ++ some.rest) (sym (append_assoc own came lost)) ∙ append_assoc (own ++ came) lost some.rest));
+      sent = some.sent ∙ (ap (λ v. (own ++ v) ++ some.rest) blocks ∙ (ap (λ v. v ++ some.rest) (sym (append_assoc own came lost)) ∙ append_assoc (own ++ came) lost some.rest));
     }
 
-pub received_all : (old new : StationValue) (ring : RingId) (finished : FinishedValue) (end : RingEndValue) (count : ℕ) → IsHandedOn old new ring finished → IsLeft end finished count
-    → end.is_ended ≡ true → HandsAll old new end.received × IsOver new.history.run new.history.events
-received_all old new ring finished end count handed left ended =
+pub received_all : (old new : StationValue) (relay : RelayId) (finished : FinishedValue) (receiver : ReceiverValue) (count : ℕ) → IsHandedOn old new relay finished → IsLeft receiver finished count
+    → receiver.is_ended ≡ true → HandsAll old new receiver.received × IsOver new.history.run new.history.events
+received_all old new relay finished receiver count handed left ended =
     let marked = left.marked ended in
-    let all = at_left (λ shown. HandsAll old new shown.sent) end finished count (handed.all marked.0) left in
-    let items = ap (λ v. end.received ++ v) marked.1 ∙ append-nil end.received in
+    let all = at_left (λ shown. HandsAll old new shown.sent) receiver finished count (handed.all marked.0) left in
+    let items = ap (λ v. receiver.received ++ v) marked.1 ∙ append-nil receiver.received in
     (record { same = all.same; sent = all.sent ∙ ap (λ v. sent_of old ++ packets_in v) items }, handed.over marked.0)
 
 not_nil : {X : Type 0} (x : X) (xs : List X) → x ∷ xs ≡ [] → ⊥
@@ -102,50 +92,50 @@ nothing_in : {X : Type 0} (xs ys : List X) → xs ++ ys ≡ [] → xs ≡ []
 nothing_in [] ys is = refl
 nothing_in (x ∷ xs) ys is = absurd (not_nil x (xs ++ ys) is)
 
--- a port that sent nothing
-pub received_none : (s : StationValue) (port : PortValue) (finished : FinishedValue) (end : RingEndValue) (count : ℕ) → IfSome finished.shown (λ shown. shown ≡ port) → port.sent ≡ [] → IsLeft end finished count
-    → HandsAll s s end.received
-received_none s port finished end count shown unsent left =
-    let is = at_left (λ shown. shown ≡ port) end finished count shown left in
-    hands_nothing s end.received (nothing_in end.received left.rest (ap (λ (p : PortValue). p.sent) is ∙ unsent))
+-- a sender that sent nothing
+pub received_none : (s : StationValue) (sender : SenderValue) (finished : FinishedValue) (receiver : ReceiverValue) (count : ℕ) → IfSome finished.shown (λ shown. shown ≡ sender) → sender.sent ≡ [] → IsLeft receiver finished count
+    → HandsAll s s receiver.received
+received_none s sender finished receiver count shown unsent left =
+    let is = at_left (λ shown. shown ≡ sender) receiver finished count shown left in
+    hands_nothing s receiver.received (nothing_in receiver.received left.rest (ap (λ (p : SenderValue). p.sent) is ∙ unsent))
 
 if_some_on : {X : Type 0} (P Q : X → Type 0) (o : Option X) → ((x : X) → P x → Q x) → IfSome o P → IfSome o Q
 if_some_on P Q None f h = tt
 if_some_on P Q (Some x) f h = f x h
 
--- the port sent all, and the end mark or not
-pub ends_handing : (old new : StationValue) (ring : RingId) (port : PortValue) (finished : FinishedValue) → IfSome finished.shown (λ shown. shown ≡ port) → port.ring ≡ ring → HandsAll old new port.sent → IsOver new.history.run new.history.events
-    → IsHandedOn old new ring finished
-ends_handing old new ring port finished shown same all over =
-    let is : PortValue → Type 0 = λ shown. shown ≡ port in
-    let A : PortValue → Type 0 = λ shown. HandsAll old new shown.sent in
-    let S : PortValue → Type 0 = λ shown. HandsSome old new shown.sent in
+-- the sender sent all, and the receiver mark or not
+pub ends_handing : (old new : StationValue) (relay : RelayId) (sender : SenderValue) (finished : FinishedValue) → IfSome finished.shown (λ shown. shown ≡ sender) → sender.relay ≡ relay → HandsAll old new sender.sent → IsOver new.history.run new.history.events
+    → IsHandedOn old new relay finished
+ends_handing old new relay sender finished shown same all over =
+    let is : SenderValue → Type 0 = λ shown. shown ≡ sender in
+    let A : SenderValue → Type 0 = λ shown. HandsAll old new shown.sent in
+    let S : SenderValue → Type 0 = λ shown. HandsSome old new shown.sent in
     record {
-      ring_is = if_some_on is (λ shown. shown.ring ≡ ring) finished.shown (λ x e. ap (λ (p : PortValue). p.ring) e ∙ same) shown;
-      some = if_some_on is S finished.shown (λ x e. subst S (sym e) (all_some old new port.sent all)) shown;
+      relay_is = if_some_on is (λ shown. shown.relay ≡ relay) finished.shown (λ x e. ap (λ (p : SenderValue). p.relay) e ∙ same) shown;
+      some = if_some_on is S finished.shown (λ x e. subst S (sym e) (all_some old new sender.sent all)) shown;
       all = λ ended. if_some_on is A finished.shown (λ x e. subst A (sym e) all) shown;
       over = λ ended. over;
     }
 
 -- the run was over before
-pub cuts_handing : (old new : StationValue) (ring : RingId) (port : PortValue) (finished : FinishedValue) → IfSome finished.shown (λ shown. shown ≡ port) → port.ring ≡ ring → HandsSome old new port.sent → finished.is_ended ≡ false
-    → IsHandedOn old new ring finished
-cuts_handing old new ring port finished shown same some unmarked =
-    let is : PortValue → Type 0 = λ shown. shown ≡ port in
-    let S : PortValue → Type 0 = λ shown. HandsSome old new shown.sent in
+pub cuts_handing : (old new : StationValue) (relay : RelayId) (sender : SenderValue) (finished : FinishedValue) → IfSome finished.shown (λ shown. shown ≡ sender) → sender.relay ≡ relay → HandsSome old new sender.sent → finished.is_ended ≡ false
+    → IsHandedOn old new relay finished
+cuts_handing old new relay sender finished shown same some unmarked =
+    let is : SenderValue → Type 0 = λ shown. shown ≡ sender in
+    let S : SenderValue → Type 0 = λ shown. HandsSome old new shown.sent in
     record {
-      ring_is = if_some_on is (λ shown. shown.ring ≡ ring) finished.shown (λ x e. ap (λ (p : PortValue). p.ring) e ∙ same) shown;
+      relay_is = if_some_on is (λ shown. shown.relay ≡ relay) finished.shown (λ x e. ap (λ (p : SenderValue). p.relay) e ∙ same) shown;
       some = if_some_on is S finished.shown (λ x e. subst S (sym e) some) shown;
       all = λ ended. absurd (false≢true (sym unmarked ∙ ended));
       over = λ ended. absurd (false≢true (sym unmarked ∙ ended));
     }
 
--- the port and the end are of one ring
-pub one_ring : (old new : StationValue) (ring : RingId) (finished : FinishedValue) (end : RingEndValue) → IsHandedOn old new ring finished → end.ring ≡ ring → IfSome finished.shown (λ shown. shown.ring ≡ end.ring)
-one_ring old new ring finished end handed same =
-    let S : PortValue → Type 0 = λ shown. shown.ring ≡ ring in
-    let R : PortValue → Type 0 = λ shown. shown.ring ≡ end.ring in
-    if_some_on S R finished.shown (λ x e. e ∙ sym same) handed.ring_is
+-- the sender and the receiver are of one relay
+pub one_relay : (old new : StationValue) (relay : RelayId) (finished : FinishedValue) (receiver : ReceiverValue) → IsHandedOn old new relay finished → receiver.relay ≡ relay → IfSome finished.shown (λ shown. shown.relay ≡ receiver.relay)
+one_relay old new relay finished receiver handed same =
+    let S : SenderValue → Type 0 = λ shown. shown.relay ≡ relay in
+    let R : SenderValue → Type 0 = λ shown. shown.relay ≡ receiver.relay in
+    if_some_on S R finished.shown (λ x e. e ∙ sym same) handed.relay_is
 
 -- What was handed on was written, or a beginning of it.
 
@@ -155,15 +145,15 @@ appended_on first before after given waiting more sends appended =
     let A : List ℕ → Type 0 = Appends first after in
     subst A (sym (all.2 ∙ append-nil all.0)) all.1
 
--- what a ring gave from its beginning
-pub taken_is : {W T : Type 0} (contents : W → Option (List ℕ)) (failures : W → ℕ) (old : RingEndValue) (a : Outlet W) (new : RingEndValue) (b : Outlet W) (r : Result T RunFault) (w : IsWritten contents failures old a new b r)
+-- what a relay gave from its beginning
+pub taken_is : {W T : Type 0} (contents : W → Option (List ℕ)) (failures : W → ℕ) (old : ReceiverValue) (a : Outlet W) (new : ReceiverValue) (b : Outlet W) (r : Result T RunFault) (w : IsWritten contents failures old a new b r)
     → old.received ≡ [] → new.received ≡ w.taken
 taken_is contents failures old a new b r w none = w.received ∙ ap (λ v. v ++ w.taken) none
 
 sent_bytes : (s : StationValue) (out more : List (List ℕ)) → sent_of s ≡ out ++ more → output_of s.history ≡ bytes_of out ++ bytes_of more
 sent_bytes s out more is = ap bytes_of is ∙ bytes_behind out more
 
-pub is_driven : {W T : Type 0} (contents : W → Option (List ℕ)) (failures : W → ℕ) (x y : StationValue) (old : RingEndValue) (a : Outlet W) (new : RingEndValue) (b : Outlet W) (r : Result T RunFault)
+pub is_driven : {W T : Type 0} (contents : W → Option (List ℕ)) (failures : W → ℕ) (x y : StationValue) (old : ReceiverValue) (a : Outlet W) (new : ReceiverValue) (b : Outlet W) (r : Result T RunFault)
     → IsWritten contents failures old a new b r → old.received ≡ [] → (new.is_ended ≡ true → HandsAll x y new.received × IsOver y.history.run y.history.events)
     → OnOk r (IsDriven x y a.output b.output (contents a.sink) (contents b.sink))
 is_driven contents failures x y old a new b (Ok done) w none whole =
@@ -184,12 +174,12 @@ is_driven contents failures x y old a new b (Ok done) w none whole =
     }
 is_driven contents failures x y old a new b (Err fault) w none whole = tt
 
-begun_either : {W T : Type 0} (contents : W → Option (List ℕ)) (failures : W → ℕ) (old : RingEndValue) (a : Outlet W) (new : RingEndValue) (b : Outlet W) (r : Result T RunFault) (w : IsWritten contents failures old a new b r)
+begun_either : {W T : Type 0} (contents : W → Option (List ℕ)) (failures : W → ℕ) (old : ReceiverValue) (a : Outlet W) (new : ReceiverValue) (b : Outlet W) (r : Result T RunFault) (w : IsWritten contents failures old a new b r)
     → SendsBeginning (contents a.sink) (contents b.sink) (a.output.writer ++ bytes_of (packets_in w.taken))
 begun_either contents failures old a new b (Ok done) w = all_begun (contents a.sink) (contents b.sink) (a.output.writer ++ bytes_of (packets_in w.taken)) w.written
 begun_either contents failures old a new b (Err fault) w = w.begun
 
-pub is_broken : {W T : Type 0} (contents : W → Option (List ℕ)) (failures : W → ℕ) (x y : StationValue) (old : RingEndValue) (a : Outlet W) (new : RingEndValue) (b : Outlet W) (r : Result T RunFault)
+pub is_broken : {W T : Type 0} (contents : W → Option (List ℕ)) (failures : W → ℕ) (x y : StationValue) (old : ReceiverValue) (a : Outlet W) (new : ReceiverValue) (b : Outlet W) (r : Result T RunFault)
     → IsWritten contents failures old a new b r → old.received ≡ [] → HandsSome x y new.received → BreaksOff x y a.output (contents a.sink) (contents b.sink)
 is_broken contents failures x y old a new b r w none some =
     let part = begun_either contents failures old a new b r w in

@@ -9,64 +9,65 @@ ghost use Rattle.threaded.specs.Outputs.{packets_in};
 use crate::passage::STEPS;
 use crate::turn::Turn;
 use mux::Sending;
-use port::{FinishedPort, Port};
+use relay::{BlockSender, FinishedSender};
 use station::Station;
 use std::alloc::Global;
 use std::sync::atomic::{AtomicBool, Ordering};
 use std::sync::{Arc, Wait};
 use std::time::Clock;
-use tspkt::{Packet, Stamped};
+use tspkt::Packet;
 use worker::pause;
 
-/// Lets the station go on until nothing is left to send or the run has all its slots, and sends by a port what goes out, and
-/// then the end mark. Where an input isn't ready, or the port's ring is full, the calling thread lets others go first. Where the
-/// run is over before, no mark is sent. `packets` has room for what goes out in a turn.
+/// Lets the station go on until nothing is left to send or the run has all its slots, and hands on what goes out, and then the end
+/// mark. Where an input isn't ready, or no empty block has come back, the calling thread lets others go first. Where the run is over
+/// before, no mark is sent. `packets` has room for what goes out in a turn.
 #[tactic(auto, using(crate::proofs::HandingLaws::hands_nothing, crate::proofs::HandingLaws::ends_handing, crate::proofs::HandingLaws::cuts_handing))]
 pub(crate) fn drive<T: Wait + Clock>(
     rt: &T,
     station: &mut Station,
     packets: &mut Vec<Packet>,
-    port: Port,
+    sender: BlockSender,
     is_over: &Arc<AtomicBool, Global>,
-) -> FinishedPort
-    requires unsent { port.sent ≡ [] }
+) -> FinishedSender
+    requires unsent { sender.sent ≡ [] }
     requires room { STEPS ≤ vec_capacity packets.old }
-    ensures { IsHandedOn station.old station.new port.ring result }
+    ensures { IsHandedOn station.old station.new sender.relay result }
 {
-    let mut port = port;
+    let mut sender = sender;
     for _ in rt.forever() {
-        match step(rt, station, packets, &mut port, is_over) {
+        match step(rt, station, packets, &mut sender, is_over) {
             Turn::Goes => {}
             Turn::Waits => pause(rt),
-            Turn::Over => return end(rt, port, is_over),
-            Turn::CutShort => return port.finish(),
+            Turn::Over => return end(rt, sender, is_over),
+            Turn::CutShort => return sender.finish(),
         }
     }
     unreachable!()
 }
 
-/// Lets the station go on by some steps, and sends by the port what went out. `packets` has room for it.
+/// Lets the station go on by some steps, and hands on what went out. `packets` has room for it.
 fn step<T: Wait + Clock>(
     rt: &T,
     station: &mut Station,
     packets: &mut Vec<Packet>,
-    port: &mut Port,
+    sender: &mut BlockSender,
     is_over: &Arc<AtomicBool, Global>,
 ) -> Turn
     requires { STEPS ≤ vec_capacity packets.old }
-    ensures ring { port.new.ring ≡ port.old.ring }
+    ensures relay { sender.new.relay ≡ sender.old.relay }
     ensures all { (result ≡ Turn.CutShort → ⊥) → (start : StationValue)
-        → HandsAll start station.old port.old.sent → HandsAll start station.new port.new.sent }
+        → HandsAll start station.old sender.old.sent → HandsAll start station.new sender.new.sent }
     ensures some { (start : StationValue)
-        → HandsAll start station.old port.old.sent → HandsSome start station.new port.new.sent }
+        → HandsAll start station.old sender.old.sent → HandsSome start station.new sender.new.sent }
     ensures over { result ≡ Turn.Over → IsOver station.new.history.run station.new.history.events }
     ensures room { STEPS ≤ vec_capacity packets.new }
 {
     let answer = station.advance(STEPS, packets);
-    if !send_all(rt, packets.as_slice(), port, is_over) {
+    let is_nothing_sent = packets.is_empty();
+    if !hand_on(rt, packets, sender, is_over) {
         return Turn::CutShort;
     }
-    turn_of(answer, packets.is_empty())
+    turn_of(answer, is_nothing_sent)
 }
 
 /// What a turn did whose steps ended with this answer, by what went out.
@@ -81,45 +82,42 @@ fn turn_of(answer: Sending, is_nothing_sent: bool) -> Turn
     }
 }
 
-/// Sends packets by the port, in their order. False is answered where the run was over before.
-fn send_all<T: Wait + Clock>(
+/// Hands the packets of a turn on, where there are any, and leaves an empty block. False is answered where the run was over before.
+fn hand_on<T: Wait + Clock>(
     rt: &T,
-    packets: &[Packet],
-    port: &mut Port,
+    packets: &mut Vec<Packet>,
+    sender: &mut BlockSender,
     is_over: &Arc<AtomicBool, Global>,
 ) -> bool
-    ensures ring { port.new.ring ≡ port.old.ring }
+    requires { STEPS ≤ vec_capacity packets.old }
+    ensures relay { sender.new.relay ≡ sender.old.relay }
     ensures sent { (rest : List (List ℕ))
-        × (packets_in port.old.sent ++ packets.now ≡ packets_in port.new.sent ++ rest)
+        × (packets_in sender.old.sent ++ packets.old.items ≡ packets_in sender.new.sent ++ rest)
         × (result ≡ true → rest ≡ []) }
+    ensures room { STEPS ≤ vec_capacity packets.new }
 {
-    for packet in packets {
-        if !send(rt, packet, port, is_over) {
-            return false;
-        }
+    if !packets.is_empty() && !send(rt, packets, sender, is_over) {
+        return false;
     }
     !is_over.load(Ordering::SeqCst)
 }
 
-/// Sends a packet by the port, as soon as its ring has a free place. False is answered where the run was over before.
+/// Sends a block, as soon as an empty one is there to take its place. False is answered where the run was over before.
 fn send<T: Wait + Clock>(
     rt: &T,
-    packet: &Packet,
-    port: &mut Port,
+    packets: &mut Vec<Packet>,
+    sender: &mut BlockSender,
     is_over: &Arc<AtomicBool, Global>,
 ) -> bool
-    ensures ring { port.new.ring ≡ port.old.ring }
+    requires { STEPS ≤ vec_capacity packets.old }
+    ensures relay { sender.new.relay ≡ sender.old.relay }
     ensures sent { MatchBool result
-        (packets_in port.new.sent ≡ packets_in port.old.sent ++ packet.now ∷ [])
-        (port.new ≡ port.old) }
+        (packets_in sender.new.sent ≡ packets_in sender.old.sent ++ packets.old.items)
+        (sender.new ≡ sender.old) }
+    ensures room { STEPS ≤ vec_capacity packets.new }
 {
-    // The time of a packet that goes out is its place, so none is told.
-    let item = Stamped {
-        packet: *packet,
-        stamp: 0,
-    };
     for _ in rt.forever() {
-        if port.send(&item) {
+        if sender.send(packets) {
             return true;
         }
         if is_over.load(Ordering::SeqCst) {
@@ -130,18 +128,22 @@ fn send<T: Wait + Clock>(
     unreachable!()
 }
 
-/// Ends the port with the end mark, as soon as its ring has a free place, or without it where the run was over before.
-fn end<T: Wait + Clock>(rt: &T, port: Port, is_over: &Arc<AtomicBool, Global>) -> FinishedPort
-    ensures { IfSome result.shown (λ shown. shown ≡ port) }
+/// Ends the sender with the end mark, as soon as there is a place for it, or without it where the run was over before.
+fn end<T: Wait + Clock>(
+    rt: &T,
+    sender: BlockSender,
+    is_over: &Arc<AtomicBool, Global>,
+) -> FinishedSender
+    ensures { IfSome result.shown (λ shown. shown ≡ sender) }
 {
-    let mut port = port;
+    let mut sender = sender;
     for _ in rt.forever() {
-        match port.end() {
+        match sender.end() {
             Ok(finished) => return finished,
-            Err(back) => port = back,
+            Err(back) => sender = back,
         }
         if is_over.load(Ordering::SeqCst) {
-            return port.finish();
+            return sender.finish();
         }
         pause(rt);
     }

@@ -1,9 +1,9 @@
 //! The thread of the output, from its start to its end.
 
 ghost use Rattle.std.specs.Prelude.{◌≡◌, ◌≤◌, Err, IfOk, IfErr, IfSome, OnOk, OnErr, vec_capacity};
-ghost use Rattle.port.specs.Rings.{IsNewRing};
 ghost use Rattle.reading.specs.Failures.{FailsOnce};
-ghost use Rattle.threaded.specs.declared.passage.TheConstants.{STEPS};
+ghost use Rattle.relay.specs.Relays.{IsNewRelay};
+ghost use Rattle.threaded.specs.declared.passage.TheConstants.{STEPS, BLOCKS};
 ghost use Rattle.threaded.specs.Driving.{IsDriven, BreaksOff};
 ghost use Rattle.threaded.specs.Outputs.{HasWritten};
 
@@ -12,7 +12,7 @@ use crate::outlet::Outlet;
 use crate::output_worker::OutputWorker;
 use crate::passage::Passage;
 use crate::written::Written;
-use port::{FinishedPort, Port};
+use relay::{BlockSender, FinishedSender};
 use serial::{RunFault, Sink};
 use station::Station;
 use std::alloc::Global;
@@ -38,16 +38,16 @@ impl<W: Sink + Drop> Promise<Written<W>> for OutputOf<W> {
 /// The thread of the output.
 pub(crate) type OutputHandle<W> = PromisedHandle<Written<W>, OutputOf<W>>;
 
-/// Starts the thread of the output, which takes what this port sends. Where no thread can be made the port is finished, and what
-/// the worker leaves then is answered: it ends at the end mark.
+/// Starts the thread of the output, which takes what this sender sends. Where no thread can be made the sender is finished, and
+/// what the worker leaves then is answered: it ends at the end mark.
 fn start<T: Threads + Wait + Clock + Copy + Send + Drop + 'static, W: Sink + Send + Drop + 'static>(
     rt: T,
-    port: Port,
+    sender: BlockSender,
     worker: OutputWorker<W>,
-) -> Result<(Port, OutputHandle<W>), (FinishedPort, Written<W>)>
-    ensures started { IfOk result (λ s. (s.0 ≡ port) × (s.1.promise.worker.value ≡ worker)) }
+) -> Result<(BlockSender, OutputHandle<W>), (FinishedSender, Written<W>)>
+    ensures started { IfOk result (λ s. (s.0 ≡ sender) × (s.1.promise.worker.value ≡ worker)) }
     ensures refused { IfErr result (λ e.
-        IfSome e.0.shown (λ shown. shown ≡ port) × HasWritten W.contents W.failures worker e.1) }
+        IfSome e.0.shown (λ shown. shown ≡ sender) × HasWritten W.contents W.failures worker e.1) }
 {
     let promise = OutputOf {
         worker: Snapshot::of(&worker),
@@ -59,11 +59,11 @@ fn start<T: Threads + Wait + Clock + Copy + Send + Drop + 'static, W: Sink + Sen
             ensures { HasWritten W.contents W.failures worker result }
         { worker.run(&rt) },
     ) {
-        Ok(handle) => Ok((port, handle)),
+        Ok(handle) => Ok((sender, handle)),
         Err(refused) => {
-            let finished = match port.end() {
+            let finished = match sender.end() {
                 Ok(finished) => finished,
-                Err(port) => port.finish(),
+                Err(sender) => sender.finish(),
             };
             Err((finished, (refused.value)()))
         }
@@ -82,7 +82,7 @@ pub(crate) fn send_out<
     is_over: &Arc<AtomicBool, Global>,
     outlet: Outlet<W>,
 ) -> (Outlet<W>, Result<(), RunFault>)
-    requires ring { IsNewRing 0 passage.port passage.end }
+    requires relay { IsNewRelay BLOCKS passage.sender passage.receiver }
     requires room { STEPS ≤ vec_capacity passage.packets }
     ensures driven { OnOk result.1
         (IsDriven station.old station.new outlet.output result.0.output (W.contents outlet.sink) (W.contents result.0.sink)) }
@@ -94,33 +94,33 @@ pub(crate) fn send_out<
 {
     let Passage {
         mut packets,
-        port,
-        end,
+        sender,
+        receiver,
         is_over: told,
     } = passage;
     let worker = OutputWorker {
-        end,
+        receiver,
         outlet,
         is_over: told,
     };
-    match start(rt, port, worker) {
-        Ok((port, handle)) => {
-            let mut finished = drive(&rt, station, &mut packets, port, is_over);
+    match start(rt, sender, worker) {
+        Ok((sender, handle)) => {
+            let mut finished = drive(&rt, station, &mut packets, sender, is_over);
             let Written {
-                mut end,
+                mut receiver,
                 outlet,
                 result,
             } = handle.join(&rt);
-            let _ = end.left(&mut finished);
+            let _ = receiver.left(&mut finished);
             (outlet, result)
         }
         Err((mut finished, written)) => {
             let Written {
-                mut end,
+                mut receiver,
                 outlet,
                 result,
             } = written;
-            let _ = end.left(&mut finished);
+            let _ = receiver.left(&mut finished);
             (outlet, result.and(Err(RunFault::Memory)))
         }
     }

@@ -1,13 +1,13 @@
 //! What the thread of the output leaves.
 
 use crate::outlet::Outlet;
-use port::RingEnd;
+use relay::BlockReceiver;
 use serial::RunFault;
 
-/// What the thread of the output leaves: the end of its ring, what the packets went out by, and how it ended.
+/// What the thread of the output leaves: the end of its relay, what the packets went out by, and how it ended.
 #[derive(Drop)]
 pub(crate) struct Written<W> {
-    pub end: RingEnd,
+    pub receiver: BlockReceiver,
     pub outlet: Outlet<W>,
     pub result: Result<(), RunFault>,
 }

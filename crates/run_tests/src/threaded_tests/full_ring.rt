@@ -1,4 +1,4 @@
-//! Runs whose writer fails once the ring that leads to it is full.
+//! Runs whose writer fails once no more goes to it.
 
 use crate::threaded_tests::devices::TestWriter;
 use crate::threaded_tests::gates::OpenGate;
@@ -17,7 +17,7 @@ use std::time::{Clock, Duration};
 use std::{io, thread};
 use threaded::run_threads;
 
-/// How long the writer waits before it fails, in milliseconds: the ring is full long before.
+/// How long the writer waits before it fails, in milliseconds: no block is free long before.
 const WAIT: u64 = 50;
 
 /// A writer that waits for a while before each of its failures.
@@ -41,18 +41,23 @@ impl<T: Clock> Write for SlowWriter<T> {
     }
 }
 
-/// A plan of two inputs whose run has more than 3,000 slots: the second one begins as many slots after the first.
-fn long_plan(alloc: Global) -> Result<Plan> {
-    plan_of(alloc, 64, &[0, 81_000_000])
+/// When the second input begins, in ticks of 27 MHz: the runs have more than 3,000 slots, and more than 9,000. That is more than are on
+/// their way to the output at most.
+const BEGINS: [u64; 2] = [81_000_000, 243_000_000];
+
+/// A plan of two inputs, of which the second one begins this long after the first.
+fn long_plan(alloc: Global, begins: u64) -> Result<Plan> {
+    plan_of(alloc, 64, &[0, begins])
 }
 
 /// What a slow writer that has room for so many bytes got of a run in threads, and the fault that ended the run.
 fn written_slowly<T: Threads + Wait + Clock + Copy + Send + Drop + 'static>(
     alloc: Global,
     rt: T,
+    begins: u64,
     room: usize,
 ) -> Result<(Vec<u8>, Option<RunFault>)> {
-    let plan = long_plan(alloc)?;
+    let plan = long_plan(alloc, begins)?;
     let readers = readers(alloc, false)?;
     let gates = vec![in alloc; OpenGate, OpenGate]?;
     if plan.inputs().len() != readers.len() || gates.len() != readers.len() {
@@ -72,11 +77,13 @@ fn written_slowly<T: Threads + Wait + Clock + Copy + Send + Drop + 'static>(
 #[test]
 fn a_writer_that_fails_while_its_ring_is_full_ends_the_run(rt: HostRuntime) -> Result<(), Fail> {
     let alloc = rt.alloc();
-    let (serial_bytes, _) = run_in_one(alloc, long_plan(alloc)?)?;
-    for room in [0, 100_000] {
-        let (bytes, fault) = written_slowly(alloc, rt, room)?;
-        assert!(rt; matches!(&fault, Some(RunFault::Write)));
-        assert!(rt; serial_bytes.get(..room) == Some(bytes.as_slice()));
+    for begins in BEGINS {
+        let (serial_bytes, _) = run_in_one(alloc, long_plan(alloc, begins)?)?;
+        for room in [0, 100_000] {
+            let (bytes, fault) = written_slowly(alloc, rt, begins, room)?;
+            assert!(rt; matches!(&fault, Some(RunFault::Write)));
+            assert!(rt; serial_bytes.get(..room) == Some(bytes.as_slice()));
+        }
     }
     Ok(())
 }

@@ -5,7 +5,7 @@ use Rattle.threaded.proofs.driving.drive.Given as goal
 
 abbrev pub invariant-loop : goal.invariant-loop
 invariant-loop g l = record {
-  all : HandsAll l.fn.station l.station l.port.sent;
-  ring : l.port.ring ≡ l.fn.port.ring;
+  all : HandsAll l.fn.station l.station l.sender.sent;
+  relay : l.sender.relay ≡ l.fn.sender.relay;
   room : STEPS ≤ vec_capacity l.packets;
 }

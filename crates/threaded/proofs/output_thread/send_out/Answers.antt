@@ -1,20 +1,20 @@
 use Rattle.std.proofs.Common.{ap, sym, subst, ◌∙◌}
-use Rattle.port.specs.Rings.{PortValue}
+use Rattle.relay.specs.Relays.{SenderValue}
 use Rattle.serial.proofs.SendingLaws.{on_err_always}
 use Rattle.threaded.specs.Outputs.{HasWritten}
 use Rattle.threaded.specs.declared.output_worker.OutputWorker.{OutputWorker}
-use Rattle.threaded.proofs.HandingLaws.{all_some, received_some, received_all, received_none, one_ring, is_driven, is_broken}
+use Rattle.threaded.proofs.HandingLaws.{all_some, received_some, received_all, received_none, one_relay, is_driven, is_broken}
 use Rattle.threaded.proofs.output_thread.send_out.Goals as goal
 
 pub left-requires : goal.left-requires
 left-requires g c =
     let M = g.W.Sink.contents in
     let F = g.W.Sink.failures in
-    let done = c.join-end.result in
+    let done = c.join-receiver.result in
     let H : OutputWorker _ → Type 0 = λ v. HasWritten M F v done in
-    let written = subst H c.in-Ok.ensures.started.1 c.join-end.ensures in
-    one_ring c.args.station.now c.drive-finished.new.station c.in-Ok.port.ring c.drive-finished.result done.end c.drive-finished.ensures
-    (written.ring ∙ (c.requires.ring.ring ∙ sym (ap (λ (p : PortValue). p.ring) c.in-Ok.ensures.started.0)))
+    let written = subst H c.in-Ok.ensures.started.1 c.join-receiver.ensures in
+    one_relay c.args.station.now c.drive-finished.new.station c.in-Ok.sender.relay c.drive-finished.result done.receiver c.drive-finished.ensures
+    (written.relay ∙ (c.requires.relay.relay ∙ sym (ap (λ (p : SenderValue). p.relay) c.in-Ok.ensures.started.0)))
 
 pub returns-in-Ok-clause-driven : goal.returns-in-Ok-clause-driven
 returns-in-Ok-clause-driven g c =
@@ -22,11 +22,11 @@ returns-in-Ok-clause-driven g c =
     let F = g.W.Sink.failures in
     let x = c.args.station.now in
     let y = c.drive-finished.new.station in
-    let done = c.join-end.result in
+    let done = c.join-receiver.result in
     let H : OutputWorker _ → Type 0 = λ v. HasWritten M F v done in
-    let written = subst H c.in-Ok.ensures.started.1 c.join-end.ensures in
-    is_driven M F x y c.args.passage.end c.args.outlet done.end done.outlet done.result written c.requires.ring.unreceived
-    (received_all x y c.in-Ok.port.ring c.drive-finished.result done.end c.left.result c.drive-finished.ensures c.left.ensures.left)
+    let written = subst H c.in-Ok.ensures.started.1 c.join-receiver.ensures in
+    is_driven M F x y c.args.passage.receiver c.args.outlet done.receiver done.outlet done.result written c.requires.relay.unreceived
+    (received_all x y c.in-Ok.sender.relay c.drive-finished.result done.receiver c.left.result c.drive-finished.ensures c.left.ensures.left)
 
 pub returns-in-Ok-clause-broken : goal.returns-in-Ok-clause-broken
 returns-in-Ok-clause-broken g c =
@@ -34,12 +34,12 @@ returns-in-Ok-clause-broken g c =
     let F = g.W.Sink.failures in
     let x = c.args.station.now in
     let y = c.drive-finished.new.station in
-    let done = c.join-end.result in
+    let done = c.join-receiver.result in
     let H : OutputWorker _ → Type 0 = λ v. HasWritten M F v done in
-    let written = subst H c.in-Ok.ensures.started.1 c.join-end.ensures in
+    let written = subst H c.in-Ok.ensures.started.1 c.join-receiver.ensures in
     on_err_always done.result
-    (is_broken M F x y c.args.passage.end c.args.outlet done.end done.outlet done.result written c.requires.ring.unreceived
-    (received_some x y c.in-Ok.port.ring c.drive-finished.result done.end c.left.result c.drive-finished.ensures c.left.ensures.left))
+    (is_broken M F x y c.args.passage.receiver c.args.outlet done.receiver done.outlet done.result written c.requires.relay.unreceived
+    (received_some x y c.in-Ok.sender.relay c.drive-finished.result done.receiver c.left.result c.drive-finished.ensures c.left.ensures.left))
 
 -- no thread could be made, and nothing was sent
 pub returns-clause-broken : goal.returns-clause-broken
@@ -48,5 +48,5 @@ returns-clause-broken g c =
     let done = c.in-Err.written in
     let refused = c.in-Err.ensures.refused in
     on_err_always c.and.result
-    (is_broken g.W.Sink.contents g.W.Sink.failures s s c.args.passage.end c.args.outlet done.end done.outlet done.result refused.1 c.requires.ring.unreceived
-    (all_some s s done.end.received (received_none s c.args.passage.port c.in-Err.finished done.end c.left-in-Err.result refused.0 c.requires.ring.unsent c.left-in-Err.ensures.left)))
+    (is_broken g.W.Sink.contents g.W.Sink.failures s s c.args.passage.receiver c.args.outlet done.receiver done.outlet done.result refused.1 c.requires.relay.unreceived
+    (all_some s s done.receiver.received (received_none s c.args.passage.sender c.in-Err.finished done.receiver c.left-in-Err.result refused.0 c.requires.relay.unsent c.left-in-Err.ensures.left)))

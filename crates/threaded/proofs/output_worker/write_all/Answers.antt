@@ -1,49 +1,68 @@
-use Rattle.std.proofs.Common.{Err, Option, Some, ap, sym, subst, ◌∙◌}
+use Rattle.std.proofs.Common.{◌≡◌, [], ℕ, List, Err, Option, Some, ap, sym, subst, ◌∙◌}
 use Rattle.std.proofs.lemmas.Result.{err_from_is_err_and}
-use Rattle.port.specs.declared.arrival_kind.ArrivalKind.{ArrivalKind}
-use Rattle.port.specs.Advancing.{IsAdvanced}
-use Rattle.port.proofs.LastLaws.{came_some, came_last}
+use Rattle.relay.specs.declared.message.Message.{Message}
+use Rattle.relay.specs.Receiving.{IsReceived}
+use Rattle.threaded.specs.Outputs.{IsPut}
 use Rattle.threaded.specs.declared.outlet.Outlet.{Outlet}
-use Rattle.threaded.proofs.WritingLaws.{writes_nothing, writes_packet, fails_packet, writes_flushed}
+use Rattle.threaded.proofs.WritingLaws.{comes, gave_back, writes_nothing, writes_block, fails_block, writes_flushed}
 use Rattle.threaded.proofs.output_worker.write_all.Goals as goal
 
 pub loop-init : goal.loop-init
-loop-init g c = record { writes = writes_nothing g.W.Sink.contents g.W.Sink.failures c.args.end.now c.args.outlet.now }
+loop-init g c = record { writes = writes_nothing g.W.Sink.contents g.W.Sink.failures c.args.receiver.now c.args.outlet.now }
 
-pub loop-preserved-in-Continue-1 : goal.loop-preserved-in-Continue-1
-loop-preserved-in-Continue-1 g c =
-    let P : Option ArrivalKind → Type 0 = λ v. IsAdvanced c.loop.end v c.advance.new.self in
-    let r = subst P (c.in-Some-Packet.is ∙ ap Some c.in-Some-Packet.field-0-is) c.advance.ensures.advanced in
-    let item = c.last.result.now in
-    let came = came_last c.loop.end c.advance.new.self r.1.0 item r.1.1 c.last.ensures in
-    let b : Outlet _ = record { output = c.put.new.self; sink = c.put.new.sink } in
-    let put = c.in_ok-put-in-Some-Packet.ensures in
+pub returns-in_err-put_all-in-Some-Block : goal.returns-in_err-put_all-in-Some-Block
+returns-in_err-put_all-in-Some-Block g c =
+    let C = g.W.Sink.contents in
+    let F = g.W.Sink.failures in
+    let mid = c.next-in-loop.new.self in
+    let R : Option Message → Type 0 = λ v. IsReceived c.loop.receiver v mid in
+    let r = subst R (c.in-Some-Block.is ∙ ap Some c.in-Some-Block.field-0-is) c.next-in-loop.ensures.received in
+    let block : List (List ℕ) = c.in-Some-Block.block.items in
+    let came = comes c.loop.receiver mid block r.1 in
+    let P : List (List ℕ) → Type 0 = λ v. IsPut C F c.loop.outlet v c.put_all.new.outlet c.put_all.result in
+    let put = subst P c.as_slice.ensures.value c.put_all.ensures in
+    let passed = err_from_is_err_and c.from_residual.result c.from_residual.ensures.1 in
+    fails_block C F c.args.receiver.now c.args.outlet.now c.loop.receiver c.loop.outlet block mid c.put_all.new.outlet c.put_all.result passed.0 c.from_residual.result
+    c.loop.invariant.writes came (c.in_err-put_all-in-Some-Block.was ∙ ap Err (sym passed.2)) passed.1 put
+
+pub loop-preserved-in_ok-put_all-in-Some-Block : goal.loop-preserved-in_ok-put_all-in-Some-Block
+loop-preserved-in_ok-put_all-in-Some-Block g c =
+    let C = g.W.Sink.contents in
+    let F = g.W.Sink.failures in
+    let mid = c.next-in-loop.new.self in
+    let R : Option Message → Type 0 = λ v. IsReceived c.loop.receiver v mid in
+    let r = subst R (c.in-Some-Block.is ∙ ap Some c.in-Some-Block.field-0-is) c.next-in-loop.ensures.received in
+    let block : List (List ℕ) = c.in-Some-Block.block.items in
+    let came = comes c.loop.receiver mid block r.1 in
+    let P : List (List ℕ) → Type 0 = λ v. IsPut C F c.loop.outlet v c.put_all.new.outlet c.put_all.result in
+    let put = subst P c.as_slice.ensures.value c.put_all.ensures in
+    let back = gave_back (λ back. back.items ≡ []) c.give_back.result c.loop.receiver mid c.give_back.new.self block came c.give_back.ensures in
     record {
-      writes = writes_packet g.W.Sink.contents g.W.Sink.failures c.args.end.now c.args.outlet.now c.loop.end c.loop.outlet item c.advance.new.self b
-          c.loop.invariant.writes came put.analysed put.written put.failures;
+      writes = writes_block C F c.args.receiver.now c.args.outlet.now c.loop.receiver c.loop.outlet block c.give_back.new.self c.put_all.new.outlet c.put_all.result tt
+          c.loop.invariant.writes back c.in_ok-put_all-in-Some-Block.was put;
     }
 
-pub returns-in_err-put-in-Some-Packet : goal.returns-in_err-put-in-Some-Packet
-returns-in_err-put-in-Some-Packet g c =
-    let P : Option ArrivalKind → Type 0 = λ v. IsAdvanced c.loop.end v c.advance.new.self in
-    let r = subst P (c.in-Some-Packet.is ∙ ap Some c.in-Some-Packet.field-0-is) c.advance.ensures.advanced in
-    let item = c.last.result.now in
-    let came = came_last c.loop.end c.advance.new.self r.1.0 item r.1.1 c.last.ensures in
-    let b : Outlet _ = record { output = c.put.new.self; sink = c.put.new.sink } in
-    let passed = err_from_is_err_and c.from_residual.result c.from_residual.ensures.1 in
-    fails_packet g.W.Sink.contents g.W.Sink.failures c.args.end.now c.args.outlet.now c.loop.end c.loop.outlet item c.advance.new.self b c.put.result passed.0 c.from_residual.result
-    c.loop.invariant.writes came (c.in_err-put-in-Some-Packet.was ∙ ap Err (sym passed.2)) passed.1 c.put.ensures.begun c.put.ensures.memory c.put.ensures.failed
+pub loop-preserved-in_ok-put_all-in-Some-Block-2 : goal.loop-preserved-in_ok-put_all-in-Some-Block-2
+loop-preserved-in_ok-put_all-in-Some-Block-2 g c =
+    let C = g.W.Sink.contents in
+    let F = g.W.Sink.failures in
+    let mid = c.next-in-loop.new.self in
+    let R : Option Message → Type 0 = λ v. IsReceived c.loop.receiver v mid in
+    let r = subst R (c.in-Some-Block.is ∙ ap Some c.in-Some-Block.field-0-is) c.next-in-loop.ensures.received in
+    let block : List (List ℕ) = c.in-Some-Block.block.items in
+    let came = comes c.loop.receiver mid block r.1 in
+    let P : List (List ℕ) → Type 0 = λ v. IsPut C F c.loop.outlet v c.put_all.new.outlet c.put_all.result in
+    let put = subst P c.as_slice.ensures.value c.put_all.ensures in
+    let back = gave_back (λ back. back.items ≡ []) c.give_back.result c.loop.receiver mid c.give_back.new.self block came c.give_back.ensures in
+    record {
+      writes = writes_block C F c.args.receiver.now c.args.outlet.now c.loop.receiver c.loop.outlet block c.give_back.new.self c.put_all.new.outlet c.put_all.result tt
+          c.loop.invariant.writes back c.in_ok-put_all-in-Some-Block.was put;
+    }
 
 pub returns-in-Some-End : goal.returns-in-Some-End
 returns-in-Some-End g c =
-    let P : Option ArrivalKind → Type 0 = λ v. IsAdvanced c.loop.end v c.advance.new.self in
-    let r = subst P (c.in-Some-End.is ∙ ap Some c.in-Some-End.field-0-is) c.advance.ensures.advanced in
+    let R : Option Message → Type 0 = λ v. IsReceived c.loop.receiver v c.next-in-loop.new.self in
+    let r = subst R (c.in-Some-End.is ∙ ap Some c.in-Some-End.field-0-is) c.next-in-loop.ensures.received in
     let b : Outlet _ = record { output = c.flush.new.self; sink = c.flush.new.sink } in
-    writes_flushed g.W.Sink.contents g.W.Sink.failures c.args.end.now c.args.outlet.now c.loop.end c.loop.outlet c.advance.new.self b c.flush.result
+    writes_flushed g.W.Sink.contents g.W.Sink.failures c.args.receiver.now c.args.outlet.now c.loop.receiver c.loop.outlet c.next-in-loop.new.self b c.flush.result
     c.loop.invariant.writes r.1 c.flush.ensures.stays c.flush.ensures.ok c.flush.ensures.begun c.flush.ensures.failures c.flush.ensures.failed
-
-pub last-requires-clause-came : goal.last-requires-clause-came
-last-requires-clause-came g c =
-    let P : Option ArrivalKind → Type 0 = λ v. IsAdvanced c.loop.end v c.advance.new.self in
-    let r = subst P (c.in-Some-Packet.is ∙ ap Some c.in-Some-Packet.field-0-is) c.advance.ensures.advanced in
-    came_some c.loop.end c.advance.new.self r.1.0 r.1.1
