@@ -74,7 +74,8 @@ impl PidQueue {
         self.waiting.front()
     }
 
-    /// The time of the packet that waits longest, in ticks of 27 MHz; `u64::MAX` where nothing waits.
+    /// The time of the packet that waits longest, in ticks of 27 MHz; `u64::MAX` where nothing waits, and where a packet of that time
+    /// does.
     pub fn head_time(&self) -> u64
         ensures { result ≡ first_stamp self.now.items }
     {
