@@ -12,6 +12,7 @@ use Rattle.buffers.specs.QueueValue.{QueueValue, first_stamp}
 use Rattle.buffers.specs.BucketValue.{BucketValue, HasRoom}
 use Rattle.mux.specs.Lawful.{IsNotAfter}
 use Rattle.mux.specs.declared.head.Head.{Head}
+use Rattle.mux.specs.declared.head_list.TheConstants.{UNRANKED}
 use Rattle.mux.specs.HeadList.{head_at, IsFirst}
 use Rattle.mux.specs.Keeping.{head_time, KeepsHeads}
 use Rattle.mux.specs.Choosing.{IsEligibleHead, IsFirstHead, Precedes, Leads, IsBetterHead, IsNoBetterHead}
@@ -185,12 +186,16 @@ none_due {heads} {queues} {streams} kept buckets now i h is later k st item can 
     let due = can.due in
     elim (is.first k (omega (arith, length_heads kept))) [ inl m ↦ absurd (omega arith) | inr m ↦ absurd (omega (arith, m.0)) ]
 
--- where there is no head
-pub none_there : {heads : List Head} {queues : List QueueValue} {streams : List Stream} → KeepsHeads heads queues streams → length heads ≡ 0 → (buckets : List BucketValue) (now : ℕ)
+-- where no head has a rank, none is due before the least time without one
+pub none_unranked : {heads : List Head} {queues : List QueueValue} {streams : List Stream} → KeepsHeads heads queues streams → (buckets : List BucketValue) (now : ℕ) → ((j : ℕ) → j < length heads → UNRANKED ≤ (head_at heads j).time) → now < UNRANKED
     → (k : ℕ) (st : Stream) (item : Stamped) → IsEligibleHead streams queues buckets now k st item → ⊥
-none_there {heads} {queues} {streams} kept empty buckets now k st item can =
+none_unranked {heads} {queues} {streams} kept buckets now unranked ranked k st item can =
+    let e = head_of kept k can.queue can.here in
+    let t = time_of_head can.queue.items item can.head in
     let l = slice_get_within queues k can.queue can.here in
-    absurd (omega (arith, length_heads kept))
+    let due = can.due in
+    let later = unranked k (omega (arith, length_heads kept)) in
+    absurd (omega arith)
 
 -- something waits where the time isn't the greatest
 waits : (items : List Stamped) → first_stamp items < 18446744073709551615 → (item : Stamped) × (slice_get items 0 ≡ Some item) × (item.stamp ≡ first_stamp items)

@@ -6,11 +6,12 @@ ghost use Rattle.tspkt.specs.declared.stamped.Stamped.{Stamped};
 ghost use Rattle.request.specs.declared.stream.Stream.{Stream};
 ghost use Rattle.mux.specs.declared.input_state.InputState.{InputState};
 ghost use Rattle.mux.specs.Keeping.{ready_at, without_full, KeepsNoted, KeepsHeads, head_time};
+ghost use Rattle.mux.specs.HeadList.{head_at};
 ghost use Rattle.mux.specs.Choosing.{Leads, Follows, IsBetterHead, IsNoBetterHead, IsEligibleHead, IsFirstHead};
 
 use crate::candidate::Candidate;
 use crate::head::Head;
-use crate::head_list::HeadList;
+use crate::head_list::{HeadList, UNRANKED};
 use crate::input_state::InputState;
 use crate::progress::Progress;
 use buffers::PidQueue;
@@ -117,12 +118,13 @@ pub(crate) fn choose(
         → IsEligibleHead streams.now queues.now progress.now.buckets now k st item → ⊥) }
     ensures some { IfSome result (IsFirstHead streams.now queues.now progress.now.buckets now) }
 {
-    let (index, head) = heads.first()?;
+    let Some((index, head)) = heads.first() else {
+        return choose_of_unranked(streams, queues, heads.all(), progress, now);
+    };
     if now < head.time {
         return None;
     }
-    // A head may have the time `u64::MAX` too, as an empty queue has.
-    if head.time < u64::MAX && progress.bucket(index).fits() {
+    if progress.bucket(index).fits() {
         return Some(Candidate {
             index,
             stream: streams[index],
@@ -132,7 +134,29 @@ pub(crate) fn choose(
     choose_of_all(streams, queues, heads.all(), progress, now)
 }
 
-/// The same, by a walk over all heads: the buffer of the one that goes first may have no room.
+/// The same, where no head has a rank, as those of empty queues have none.
+fn choose_of_unranked(
+    streams: &[Stream],
+    queues: &[PidQueue],
+    heads: &[Head],
+    progress: &Progress,
+    now: u64,
+) -> Option<Candidate>
+    requires queues { length streams.now ≡ length queues.now }
+    requires heads { KeepsHeads heads.now queues.now streams.now }
+    requires unranked { (j : ℕ) → j < length heads.now → UNRANKED ≤ (head_at heads.now j).time }
+    requires buckets { length streams.now ≡ length progress.now.buckets }
+    ensures none { IfNone result ((k : ℕ) (st : Stream) (item : Stamped)
+        → IsEligibleHead streams.now queues.now progress.now.buckets now k st item → ⊥) }
+    ensures some { IfSome result (IsFirstHead streams.now queues.now progress.now.buckets now) }
+{
+    if now < UNRANKED {
+        return None;
+    }
+    choose_of_all(streams, queues, heads, progress, now)
+}
+
+/// The same, by a walk over all heads: the buffer of the one that goes first has no room, or no head has a rank.
 #[inline(never)]
 fn choose_of_all(
     streams: &[Stream],

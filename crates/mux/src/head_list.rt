@@ -1,10 +1,10 @@
 //! The heads of all queues, and which of them goes first.
 
-ghost use Rattle.std.specs.Prelude.{◌≡◌, ◌*◌, ◌+◌, ◌<◌, ◌≤◌, ℕ, true, false, length, map, IfOk};
+ghost use Rattle.std.specs.Prelude.{◌≡◌, ◌*◌, ◌+◌, ◌<◌, ◌≤◌, ◌^◌, length, map, IfOk};
 ghost use Rattle.mux.specs.Keeping.{head_time};
-ghost use Rattle.mux.specs.HeadList.{IsNotBehind, IsFirstOf, head_at};
-ghost use Rattle.request.specs.declared.stream.Stream.{Stream as StreamOf};
+ghost use Rattle.mux.specs.HeadList.{IsRank, KeepsRanks, IsLeast};
 
+use crate::first_head::FirstHead;
 use crate::head::Head;
 use buffers::PidQueue;
 use request::Stream;
@@ -14,54 +14,68 @@ use std::marker::Model;
 /// How many heads a block has.
 const BLOCK: usize = 8;
 
-/// Whether a head goes before another. Which of them does is as good as random, so it is told without a branch.
+/// The least time without a rank: 2^48 - 1 ticks of 27 MHz, some 120 days. Each time below it makes one number of 64 bits with a
+/// PID, which isn't the greatest.
+pub(crate) const UNRANKED: u64 = 281_474_976_710_655;
+
+/// The rank of a head, its time and then its PID as one number: it is less where the head goes before. A head without a rank has
+/// the greatest number in its place.
 #[inline(always)]
-fn goes_before(a: Head, b: Head) -> bool
-    ensures yes { result ≡ true → IsNotBehind a b }
-    ensures no { result ≡ false → IsNotBehind b a }
+fn rank_of(head: Head) -> u64
+    ensures { IsRank head result }
 {
-    (a.time < b.time) | ((a.time == b.time) & (a.pid < b.pid))
+    if head.time < UNRANKED {
+        head.time * 65_536 + u64::from(head.pid)
+    } else {
+        u64::MAX
+    }
 }
 
-/// The place of the head that goes first of those of a block.
+/// The head of the least rank of a block. Its place is as good as random: it is chosen by values and not by branches, which a
+/// processor would foretell wrongly.
 #[inline(always)]
-fn first_of(heads: &[Head], block: usize) -> usize
-    requires { 8 * block < length heads.now }
-    ensures { IsFirstOf heads.now block result }
+fn first_of(ranks: &[u64], block: usize) -> FirstHead
+    requires { 8 * block + 8 ≤ length ranks.now }
+    ensures { IsLeast ranks.now block result }
 {
     let from = BLOCK * block;
-    let count = BLOCK.min(heads.len() - from);
-    let mut first = from;
-    let mut best = heads[from];
-    for i in from + 1..from + count {
-        let next = heads[i];
-        if goes_before(next, best) {
-            first = i;
-            best = next;
+    let mut first = FirstHead {
+        rank: ranks[from],
+        place: from,
+    };
+    for i in 1..BLOCK {
+        let rank = ranks[from + i];
+        if rank < first.rank {
+            first = FirstHead {
+                rank,
+                place: from + i,
+            };
         }
     }
     first
 }
 
-/// The heads of the streams' queues, in the plan's order. Of each eight the place of the one that goes first lies beside them: so
-/// a slot looks at each eighth head, and a head that changes at those of its block.
+/// The heads of the streams' queues, in the plan's order. Their ranks lie beside them, in blocks of eight, and of each block the
+/// first: so a slot looks at the firsts, and a head that changes at its block.
 #[derive(Drop)]
 pub(crate) struct HeadList {
     heads: Vec<Head>,
-    /// For each block of eight heads the place of the one that goes first.
-    firsts: Vec<usize>,
+    /// The ranks of the heads, and then the greatest number up to the end of the last block.
+    ranks: Vec<u64>,
+    /// The first head of each block.
+    firsts: Vec<FirstHead>,
 }
 
 impl Model for HeadList {
     ghost use Rattle.std.specs.Prelude.{List};
     ghost use Rattle.mux.specs.declared.head.Head.{Head as HeadOf};
-    ghost use Rattle.mux.specs.HeadList.{KeepsFirsts};
+    ghost use Rattle.mux.specs.HeadList.{KeepsRanks, KeepsFirsts};
 
     ghost Value = { List HeadOf };
 
     ghost view = { λ h. h.heads.items };
 
-    ghost invariant = { λ h. KeepsFirsts h.heads.items h.firsts.items };
+    ghost invariant = { λ h. KeepsRanks h.heads.items h.ranks.items × KeepsFirsts h.ranks.items h.firsts.items };
 }
 
 /// The heads of these streams' queues.
@@ -80,8 +94,26 @@ fn heads_of(alloc: Global, streams: &[Stream], queues: &[PidQueue]) -> Result<Ve
     Ok(heads)
 }
 
+/// The ranks of these heads, in so many blocks.
+fn ranks_of(alloc: Global, heads: &[Head], blocks: usize) -> Result<Vec<u64>, AllocError>
+    requires covers { length heads.now ≤ 8 * blocks }
+    requires fits { 8 * blocks < 2 ^ 64 }
+    ensures ranks { IfOk result (λ v. KeepsRanks heads.now v.items) }
+    ensures size { IfOk result (λ v. length v.items ≡ 8 * blocks) }
+{
+    let mut ranks = Vec::with_capacity(alloc, BLOCK * blocks)?;
+    for i in 0..BLOCK * blocks {
+        let rank = match heads.get(i) {
+            Some(head) => rank_of(*head),
+            None => u64::MAX,
+        };
+        ranks.push(rank)?;
+    }
+    Ok(ranks)
+}
+
 impl HeadList {
-    ghost use Rattle.std.specs.Prelude.{◌≡◌, ◌<◌, ℕ, length, map, slice_set, IfOk, IfSome, IfNone};
+    ghost use Rattle.std.specs.Prelude.{◌≡◌, ◌<◌, ◌≤◌, ℕ, length, map, slice_set, IfOk, IfSome, IfNone};
     ghost use Rattle.mux.specs.Keeping.{head_time};
     ghost use Rattle.mux.specs.HeadList.{IsFirst, head_at, with_time};
 
@@ -97,11 +129,16 @@ impl HeadList {
     {
         let heads = heads_of(alloc, streams, queues)?;
         let blocks = heads.len().div_ceil(BLOCK);
+        let ranks = ranks_of(alloc, &heads, blocks)?;
         let mut firsts = Vec::with_capacity(alloc, blocks)?;
         for block in 0..blocks {
-            firsts.push(first_of(&heads, block))?;
+            firsts.push(first_of(&ranks, block))?;
         }
-        Ok(HeadList { heads, firsts })
+        Ok(HeadList {
+            heads,
+            ranks,
+            firsts,
+        })
     }
 
     /// The heads, side by side.
@@ -111,26 +148,28 @@ impl HeadList {
         &self.heads
     }
 
-    /// The head that goes first of all, and its place.
+    /// The head that goes first of all, and its place; none where no head has a rank.
     #[inline(always)]
     pub fn first(&self) -> Option<(usize, Head)>
         ensures some { IfSome result (λ f. IsFirst self.now f.0 f.1) }
-        ensures none { IfNone result (length self.now ≡ 0) }
+        ensures ranked { IfSome result (λ f. f.1.time < UNRANKED) }
+        ensures none { IfNone result ((j : ℕ) → j < length self.now → UNRANKED ≤ (head_at self.now j).time) }
     {
-        if self.firsts.is_empty() {
-            return None;
-        }
-        let mut first = self.firsts[0];
-        let mut best = self.heads[first];
-        for block in 1..self.firsts.len() {
-            let place = self.firsts[block];
-            let next = self.heads[place];
-            if goes_before(next, best) {
-                first = place;
-                best = next;
+        // Its block is chosen by values, as its place in the block is.
+        let mut rank = u64::MAX;
+        let mut least = 0;
+        for block in 0..self.firsts.len() {
+            let next = self.firsts[block].rank;
+            if next < rank {
+                rank = next;
+                least = block;
             }
         }
-        Some((first, best))
+        if rank == u64::MAX {
+            return None;
+        }
+        let place = self.firsts[least].place;
+        Some((place, self.heads[place]))
     }
 
     /// The head at a place has this time from now on.
@@ -139,18 +178,19 @@ impl HeadList {
         requires { index < length self.old }
         ensures { self.new ≡ slice_set self.old index (with_time time (head_at self.old index)) }
     {
-        let block = index / BLOCK;
-        let first = self.firsts[block];
-        let before = self.heads[first];
-        let next = Head {
+        let head = Head {
             time,
             pid: self.heads[index].pid,
         };
-        self.heads[index] = next;
-        if !goes_before(before, next) {
-            self.firsts[block] = index;
-        } else if first == index {
-            self.firsts[block] = first_of(&self.heads, block);
+        let rank = rank_of(head);
+        self.heads[index] = head;
+        self.ranks[index] = rank;
+        let block = index / BLOCK;
+        let first = self.firsts[block];
+        if rank < first.rank {
+            self.firsts[block] = FirstHead { rank, place: index };
+        } else if first.place == index {
+            self.firsts[block] = first_of(&self.ranks, block);
         }
     }
 }

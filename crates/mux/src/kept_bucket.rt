@@ -23,14 +23,15 @@ impl KeptBucket {
         self.bucket.after(slot - self.slot)
     }
 
-    /// This slot carries a packet of the stream, which fits.
-    pub fn send(&mut self, slot: u64)
+    /// This slot carries a packet of the stream, which fits the buffer as it is before it.
+    pub fn send(&mut self, slot: u64, bucket: Bucket)
         requires order { self.old.slot ≤ slot }
         requires within { slot < MAX_SLOTS }
-        requires room { HasRoom (bucket_at slot self.old) }
+        requires bucket { bucket ≡ bucket_at slot self.old }
+        requires room { HasRoom bucket }
         ensures { self.new ≡ sent_at slot self.old }
     {
-        let mut bucket = self.at(slot);
+        let mut bucket = bucket;
         bucket.send();
         self.bucket = bucket;
         self.slot = slot + 1;

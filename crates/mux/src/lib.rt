@@ -16,6 +16,7 @@ mod choice;
 mod content;
 mod counts;
 mod event;
+mod first_head;
 mod head;
 mod head_list;
 mod input_state;

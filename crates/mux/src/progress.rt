@@ -97,16 +97,16 @@ impl Progress {
         self.clock.advance();
     }
 
-    /// The next slot carries a packet of the stream of this index, whose buffer has room for it.
-    pub fn send(&mut self, index: usize)
+    /// The next slot carries a packet of the stream of this index, whose buffer is this one and has room for it.
+    pub fn send(&mut self, index: usize, bucket: Bucket)
         requires within { self.old.clock.slot < MAX_SLOTS }
-        requires index { index < length self.old.buckets }
-        requires room { (b : BucketValue) → slice_get self.old.buckets index ≡ Some b → HasRoom b }
+        requires bucket { slice_get self.old.buckets index ≡ Some bucket }
+        requires room { HasRoom bucket }
         ensures clock { self.new.clock ≡ advanced self.old.clock }
         ensures buckets { MovedOn (Some index) self.old.buckets self.new.buckets }
     {
         let slot = self.clock.slot();
-        self.kept[index].send(slot);
+        self.kept[index].send(slot, bucket);
         self.clock.advance();
     }
 }

@@ -72,9 +72,13 @@ impl SlotClock {
         self.slot += 1;
         self.time += self.step;
         self.rest += self.step_rest;
-        if self.rate <= self.rest {
-            self.rest -= self.rate;
-            self.time += 1;
-        }
+        // Whether the rests make a tick is as good as random: it is counted by values, and not by a branch.
+        let is_tick = self.rate <= self.rest;
+        self.time += u64::from(is_tick);
+        self.rest = if is_tick {
+            self.rest - self.rate
+        } else {
+            self.rest
+        };
     }
 }

@@ -131,6 +131,8 @@ impl Mux {
         requires may { MaySend self.old.run.plan self.old.events (Content.Elementary stream) }
         ensures { self.new ≡ with_event self.old (Event.Slot (Content.Elementary stream)) }
     {
+        // Here, before anything is written, the compiler takes what the choice made of it.
+        let bucket = self.progress.bucket(index);
         let item = self.queues[index].head().unwrap();
         let delay = now - item.stamp;
         self.output
@@ -142,7 +144,7 @@ impl Mux {
         peak.delay = peak.delay.max(delay);
         self.past.add(Event::Slot(Content::Elementary(stream)));
         clear_full(&mut self.inputs, &mut self.is_noted);
-        self.progress.send(index);
+        self.progress.send(index, bucket);
         self.inputs[stream.input].sent += 1;
         self.turn.advance();
         self.counts.elementary += 1;

@@ -101,20 +101,20 @@ overflow_sub-delay c =
     let due = next.due in
     omega arith
 
-pub send-requires-clause-index : goal.send-requires-clause-index
-send-requires-clause-index c =
+pub bucket-bucket-requires : goal.bucket-bucket-requires
+bucket-bucket-requires c =
     let at : slice_get c.self.inside.plan.request.streams c.args.index ≡ Some c.args.stream = ap (λ (h : History). slice_get h.run.plan.request.streams c.args.index) c.self.view_is ∙ c.requires.index in
     let l = slice_get_within c.self.inside.plan.request.streams c.args.index c.args.stream at in
     let count = c.self.invariant.0.buckets_are.count in
     omega arith
 
 pub send-requires-clause-room : goal.send-requires-clause-room
-send-requires-clause-room c b there =
+send-requires-clause-room c =
     let at : slice_get c.self.inside.plan.request.streams c.args.index ≡ Some c.args.stream = ap (λ (h : History). slice_get h.run.plan.request.streams c.args.index) c.self.view_is ∙ c.requires.index in
     let R : History → Type 0 = λ h. MaySend h.run.plan h.events (Elementary c.args.stream) in
     let may = subst R (sym c.self.view_is) c.requires.may in
     let k = c.self.invariant.0.agrees in
-    chosen_has_room c.self.inside.plan _ c.self.inside.progress.buckets c.args.index c.args.stream k.plan k.lawful c.self.invariant.0.buckets_are at may.content c.args.index b (eq-eqb c.args.index c.args.index refl) there
+    chosen_has_room c.self.inside.plan _ c.self.inside.progress.buckets c.args.index c.args.stream k.plan k.lawful c.self.invariant.0.buckets_are at may.content c.args.index c.bucket-bucket.result (eq-eqb c.args.index c.args.index refl) c.bucket-bucket.ensures
 
 pub invariant_of-self : goal.invariant_of-self
 invariant_of-self c =
