@@ -9,6 +9,7 @@ ghost use Rattle.station.specs.Advancing.{Advances, IsStep, IsStuck};
 use crate::inlet::Inlet;
 use crate::moving::take_next;
 use mux::{Mux, Sending};
+use std::slice;
 use tspkt::Packet;
 
 /// Takes the packet of an open input that comes next, or holds it back, or closes the input at its end mark. False is answered
@@ -47,7 +48,8 @@ fn step(mux: &mut Mux, inlets: &mut Vec<Inlet>, sent: &mut Vec<Packet>) -> Optio
     match mux.send_next() {
         Sending::Sent => {
             let packet = mux.last().unwrap();
-            let Ok(()) = sent.push(*packet) else {
+            // So it is copied once, and by `push` twice.
+            let Ok(()) = sent.extend_from_slice(slice::from_ref(packet)) else {
                 unreachable!()
             };
             None
