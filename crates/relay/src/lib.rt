@@ -2,7 +2,7 @@
 //!
 //! A block goes through a ring by value, so its packets aren't copied on their way, and comes back empty by a second ring. What
 //! goes in comes out in the order in which it went in, each block once, and nothing comes behind the end mark. All memory is asked
-//! for when the two are made. Neither locks or waits.
+//! for when the two are made. Neither locks nor waits.
 #![tactic(auto)]
 
 mod block_receiver;

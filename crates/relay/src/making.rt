@@ -13,7 +13,7 @@ use rtrb::{Producer, RingBuffer};
 use std::alloc::{AllocError, Global};
 use tspkt::Packet;
 
-/// Makes so many empty blocks, which stand then where those stand that came back.
+/// Makes so many empty blocks, which the sender finds as it will find those that come back.
 fn fill(
     alloc: Global,
     blocks: usize,
@@ -28,12 +28,12 @@ fn fill(
     Ok(())
 }
 
-/// A relay with so many empty blocks, beside the one that its sender is given first. Those are the most that can be on their way.
+/// A relay with so many empty blocks: the most that can be on their way, since whoever sends the first brings a block of its own.
 /// `Err` is want of memory.
 pub fn relay(alloc: Global, blocks: usize) -> Result<(BlockSender, BlockReceiver), AllocError>
     ensures { IfOk result (λ r. IsNewRelay blocks r.0 r.1) }
 {
-    // A place more for the end mark, and for the block that the sender is given first.
+    // A place more for the end mark, and for the block that the first call of `send` brings.
     let places = blocks.saturating_add(1);
     let (producer, consumer) = RingBuffer::with_protocol::<Global, NothingAfterEnd>(alloc, places)?;
     let (mut empties, returned) = RingBuffer::with_protocol::<Global, EmptyBlocks>(alloc, places)?;

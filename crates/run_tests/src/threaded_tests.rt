@@ -8,6 +8,7 @@ mod limits;
 mod meeting;
 mod runs;
 mod shared_station;
+mod slow_writer;
 mod stops;
 mod turn_gates;
 mod turns;

@@ -17,7 +17,7 @@ use std::time::{Clock, Duration};
 use std::{io, thread};
 use threaded::run_threads;
 
-/// How long the writer waits before it fails, in milliseconds: no block is free long before.
+/// How long the writer waits before it fails, in milliseconds: the longer runs have no free block long before.
 const WAIT: u64 = 50;
 
 /// A writer that waits for a while before each of its failures.
@@ -41,8 +41,8 @@ impl<T: Clock> Write for SlowWriter<T> {
     }
 }
 
-/// When the second input begins, in ticks of 27 MHz: the runs have more than 3,000 slots, and more than 9,000. That is more than are on
-/// their way to the output at most.
+/// When the second input begins, in ticks of 27 MHz: the runs have more than 3,000 slots, which is fewer than may be on their way to
+/// the output, and more than 9,000, which is more.
 const BEGINS: [u64; 2] = [81_000_000, 243_000_000];
 
 /// A plan of two inputs, of which the second one begins this long after the first.

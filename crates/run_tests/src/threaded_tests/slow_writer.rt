@@ -1,0 +1,107 @@
+//! Runs that wait for their writer, and end well: each writes what the run in one thread writes.
+
+use crate::threaded_tests::devices::TestWriter;
+use crate::threaded_tests::runs::{readers, run_one};
+use crate::threaded_tests::turn_gates::RandomGate;
+use anyhow::{Result, bail};
+use example::plan_with_rings;
+use plan::Plan;
+use reading::InputLimit;
+use serial::WriteSink;
+use std::alloc::Global;
+use std::io::Write;
+use std::process::Abort;
+use std::sync::Wait;
+use std::test::Fail;
+use std::thread::Threads;
+use std::time::{Clock, Duration};
+use std::{io, thread};
+use threaded::run_threads;
+
+/// When the second input begins, in ticks of 27 MHz: a run has more than 9,000 slots, several times as many as are on their way to
+/// the output at most.
+const BEGINS: u64 = 243_000_000;
+
+/// How many slots a run has at most.
+const SLOTS: u64 = 10_000;
+
+/// How many runs go through rings of one size.
+const RUNS: u64 = 20;
+
+/// A writer that sleeps at each fourth write, for longer than the run takes to fill all that may be on its way.
+#[derive(Drop)]
+struct SleepyWriter<T> {
+    clock: T,
+    writer: TestWriter,
+    writes: u32,
+}
+
+impl<T: Clock> Write for SleepyWriter<T> {
+    fn write(&mut self, buf: &[u8]) -> io::Result<usize> {
+        self.writes = self.writes.wrapping_add(1);
+        if self.writes % 4 == 0 {
+            thread::sleep(&self.clock, Duration::from_millis(2));
+        }
+        self.writer.write(buf)
+    }
+
+    fn flush(&mut self) -> io::Result<()> {
+        Ok(())
+    }
+}
+
+/// The bytes that such a writer got of a run of two inputs with random gates, which ends well.
+fn written<T: Threads + Wait + Clock + Abort + Copy + Send + Drop + 'static>(
+    alloc: Global,
+    rt: T,
+    plan: &Plan,
+    run: u64,
+) -> Result<Vec<u8>> {
+    let plan = plan.copy(alloc)?;
+    let readers = readers(alloc, false)?;
+    let gates = vec![in alloc; RandomGate::new(run, 0), RandomGate::new(run, 1)]?;
+    if plan.inputs().len() != readers.len() || gates.len() != readers.len() {
+        bail!("the plan has another number of inputs");
+    }
+    let writer = TestWriter {
+        bytes: Vec::new(alloc),
+        room: usize::MAX,
+    };
+    let sink = WriteSink::new(SleepyWriter {
+        clock: rt,
+        writer,
+        writes: 0,
+    });
+    let limit = InputLimit::OfFormat;
+    let (sink, result) = run_threads(alloc, rt, plan, SLOTS, limit, readers, gates, sink);
+    let _ = result?;
+    Ok(sink.into_inner().writer.bytes)
+}
+
+/// Many runs over a plan write these bytes.
+fn write_all<T: Threads + Wait + Clock + Abort + Copy + Send + Drop + 'static>(
+    alloc: Global,
+    rt: T,
+    plan: &Plan,
+    serial_bytes: &[u8],
+) -> Result<()> {
+    for run in 0..RUNS {
+        let bytes = written(alloc, rt, plan, run)?;
+        assert!(rt; bytes.as_slice() == serial_bytes, "run {run}");
+    }
+    Ok(())
+}
+
+/// Blocks are used again and again in these runs, and the thread that ticks waits for one.
+#[test]
+fn each_run_that_waits_for_its_writer_writes_the_same(rt: HostRuntime) -> Result<(), Fail> {
+    let alloc = rt.alloc();
+    for room in [1, 64] {
+        let plan = plan_with_rings(alloc, room, room, &[0, BEGINS])?;
+        let readers = readers(alloc, false)?;
+        let (serial_bytes, _) = run_one(alloc, plan.copy(alloc)?, SLOTS, readers)?;
+        assert!(rt; serial_bytes.len() > 9_000 * 188);
+        write_all(alloc, rt, &plan, &serial_bytes)?;
+    }
+    Ok(())
+}
