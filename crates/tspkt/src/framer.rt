@@ -146,6 +146,11 @@ impl Framer {
     pub fn refill(&mut self, piece: &[u8], out: &mut Vec<Item>) -> Result<usize, FeedFault>
         ensures ok { IfOk result (λ told. TakesPiece self.old piece.now [] self.new (take told out.new.items)) }
         ensures within { IfOk result (λ told. told ≤ vec_len out.new) }
+
+        // The list gets no shorter, and no longer than what is told.
+        ensures stays { vec_len out.old ≤ vec_len out.new }
+        ensures grows { IfOk result (λ told. vec_len out.old < vec_len out.new → told ≡ vec_len out.new) }
+
         ensures prompt { OnOk result (packets_of (still_to_tell self.new []) ≡ []) }
         ensures told_all { OnOk result (HasToldAll self.new) }
         ensures kept { OnOk result (length self.new.kept ≤ 4 * self.new.stride) }
@@ -185,6 +190,8 @@ impl Framer {
         ensures kept { take told.old out.new.items ≡ take told.old out.old.items }
         ensures within { told.new ≤ vec_len out.new }
         ensures ends { told.old ≡ vec_len out.old → OnOk result (told.new ≡ vec_len out.new) }
+        ensures stays { vec_len out.old ≤ vec_len out.new }
+        ensures grows { OnOk result (vec_len out.old < vec_len out.new → told.new ≡ vec_len out.new) }
         ensures capacity { vec_capacity out.old ≤ vec_capacity out.new }
     {
         if piece.len() as u64 > self.limit - self.position - self.count as u64 {

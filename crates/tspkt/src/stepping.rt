@@ -20,6 +20,8 @@ fn tell(item: Item, out: &mut Vec<Item>, told: &mut usize) -> Result<(), AllocEr
     ensures few { told.new ≤ told.old + 1 }
     ensures within { told.new ≤ vec_len out.new }
     ensures ends { told.old ≡ vec_len out.old → told.new ≡ vec_len out.new }
+    ensures stays { vec_len out.old ≤ vec_len out.new }
+    ensures grows { vec_len out.old < vec_len out.new → told.new ≡ vec_len out.new }
     ensures capacity { vec_capacity out.old ≤ vec_capacity out.new }
     ensures full { OnErr result (vec_capacity out.old ≤ told.old) }
 {
@@ -70,6 +72,8 @@ fn tell_packet(
     ensures few { told.new ≤ told.old + 1 }
     ensures within { told.new ≤ vec_len out.new }
     ensures ends { told.old ≡ vec_len out.old → told.new ≡ vec_len out.new }
+    ensures stays { vec_len out.old ≤ vec_len out.new }
+    ensures grows { vec_len out.old < vec_len out.new → told.new ≡ vec_len out.new }
     ensures capacity { vec_capacity out.old ≤ vec_capacity out.new }
     ensures full { OnErr result (vec_capacity out.old ≤ told.old) }
 {
@@ -93,6 +97,8 @@ fn tell_loss(from: u64, place: u64, out: &mut Vec<Item>, told: &mut usize) -> Re
     ensures few { told.new ≤ told.old + 1 }
     ensures within { told.new ≤ vec_len out.new }
     ensures ends { told.old ≡ vec_len out.old → told.new ≡ vec_len out.new }
+    ensures stays { vec_len out.old ≤ vec_len out.new }
+    ensures grows { vec_len out.old < vec_len out.new → told.new ≡ vec_len out.new }
     ensures capacity { vec_capacity out.old ≤ vec_capacity out.new }
     ensures full { OnErr result (vec_capacity out.old ≤ told.old) }
     ensures left { OnErr result (from < place) }
@@ -127,6 +133,8 @@ fn step_hunting(
     ensures few { IfOk result (λ r. IfSome r (λ next. told.new + at ≤ told.old + next.0)) }
     ensures within { told.new ≤ vec_len out.new }
     ensures ends { told.old ≡ vec_len out.old → told.new ≡ vec_len out.new }
+    ensures stays { vec_len out.old ≤ vec_len out.new }
+    ensures grows { vec_len out.old < vec_len out.new → told.new ≡ vec_len out.new }
     ensures capacity { vec_capacity out.old ≤ vec_capacity out.new }
     ensures room { OnErr result (vec_capacity out.old + at < told.old + length window.now) }
     ensures full { OnErr result (FindsNoRoom stride base window.now (take told.old out.old.items) (Mode.Hunting from) at (vec_capacity out.old)) }
@@ -168,6 +176,8 @@ fn step_synced(
     ensures few { IfOk result (λ r. IfSome r (λ next. told.new + at ≤ told.old + next.0)) }
     ensures within { told.new ≤ vec_len out.new }
     ensures ends { told.old ≡ vec_len out.old → told.new ≡ vec_len out.new }
+    ensures stays { vec_len out.old ≤ vec_len out.new }
+    ensures grows { vec_len out.old < vec_len out.new → told.new ≡ vec_len out.new }
     ensures capacity { vec_capacity out.old ≤ vec_capacity out.new }
     ensures room { OnErr result (vec_capacity out.old + at < told.old + length window.now) }
     ensures full { OnErr result (FindsNoRoom stride base window.now (take told.old out.old.items) (Mode.Synced skip) at (vec_capacity out.old)) }
@@ -223,6 +233,8 @@ fn step(
     ensures few { IfOk result (λ r. IfSome r (λ next. told.new + at ≤ told.old + next.0)) }
     ensures within { told.new ≤ vec_len out.new }
     ensures ends { told.old ≡ vec_len out.old → told.new ≡ vec_len out.new }
+    ensures stays { vec_len out.old ≤ vec_len out.new }
+    ensures grows { vec_len out.old < vec_len out.new → told.new ≡ vec_len out.new }
     ensures capacity { vec_capacity out.old ≤ vec_capacity out.new }
     ensures room { OnErr result (vec_capacity out.old + at < told.old + length window.now) }
     ensures full { OnErr result (FindsNoRoom stride base window.now (take told.old out.old.items) mode at (vec_capacity out.old)) }
@@ -255,6 +267,8 @@ pub fn advance(
     ensures rises { told.old ≤ told.new }
     ensures within { told.new ≤ vec_len out.new }
     ensures ends { told.old ≡ vec_len out.old → told.new ≡ vec_len out.new }
+    ensures stays { vec_len out.old ≤ vec_len out.new }
+    ensures grows { vec_len out.old < vec_len out.new → told.new ≡ vec_len out.new }
     ensures room { OnErr result (vec_capacity out.old < told.old + length window.now) }
     ensures full { OnErr result (FindsNoRoom stride base window.now (take told.old out.old.items) mode 0 (vec_capacity out.old)) }
     ensures whole { OnErr result (188 ≤ length window.now) }

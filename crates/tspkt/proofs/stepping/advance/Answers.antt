@@ -26,5 +26,7 @@ steps-preserved c =
       few = search rules;
       within = c.step.ensures.within;
       ends = λ e. c.step.ensures.ends (c.steps.invariant.ends e);
+      stays = omega (arith, c.steps.invariant.stays, c.step.ensures.stays);
+      grows = search rules;
       capacity = omega (arith, c.steps.invariant.capacity, c.step.ensures.capacity);
     }

@@ -1,4 +1,4 @@
-use Rattle.std.proofs.Common.{◌≡◌, ◌+◌, ◌-◌, ◌≤◌, length, take}
+use Rattle.std.proofs.Common.{◌≡◌, ◌+◌, ◌-◌, ◌<◌, ◌≤◌, length, take}
 use Rattle.std.specs.Vec.{vec_len, vec_capacity}
 use Rattle.tspkt.specs.Stepping.{TellsSame}
 use Rattle.tspkt.proofs.stepping.advance.Given as goal
@@ -11,6 +11,8 @@ invariant-steps l = record {
   few : l.told ≤ l.fn.told + l.at;
   within : l.told ≤ vec_len l.out;
   ends : l.fn.told ≡ vec_len l.fn.out → l.told ≡ vec_len l.out;
+  stays : vec_len l.fn.out ≤ vec_len l.out;
+  grows : vec_len l.fn.out < vec_len l.out → l.told ≡ vec_len l.out;
   capacity : vec_capacity l.fn.out ≤ vec_capacity l.out;
 }
 
