@@ -4,3 +4,4 @@ pub mod Receiving
 pub mod Advancing
 pub mod Stops
 pub mod Chunks
+pub mod Carried

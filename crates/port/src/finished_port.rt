@@ -5,7 +5,7 @@ ghost use Rattle.rtrb.specs.Ring.{sent};
 ghost use Rattle.port.specs.Arrivals.{packets_of, EndsMarked};
 ghost use Rattle.port.specs.Rings.{ring_id};
 
-use crate::arrival::Arrival;
+use crate::carried::Carried;
 use crate::nothing_after_end::NothingAfterEnd;
 use rtrb::Producer;
 use std::alloc::Global;
@@ -16,7 +16,7 @@ use std::marker::Model;
 #[derive(Drop)]
 pub struct FinishedPort {
     pub(crate) input: usize,
-    pub(crate) producer: Producer<Arrival, Global, NothingAfterEnd>,
+    pub(crate) producer: Producer<Carried, Global, NothingAfterEnd>,
     pub(crate) is_ended: bool,
 }
 

@@ -6,6 +6,7 @@
 
 mod arrival;
 mod arrival_kind;
+mod carried;
 mod finished_port;
 mod gate;
 mod nothing_after_end;

@@ -2,7 +2,7 @@
 
 ghost use Rattle.std.specs.Prelude.{◌≡◌, ◌++◌, ◌∷◌, [], true, false, IfSome, MatchBool, MatchResult};
 
-use crate::arrival::Arrival;
+use crate::carried::Carried;
 use crate::finished_port::FinishedPort;
 use crate::nothing_after_end::NothingAfterEnd;
 use rtrb::Producer;
@@ -15,7 +15,7 @@ use tspkt::Stamped;
 #[derive(Drop)]
 pub struct Port {
     pub(crate) input: usize,
-    pub(crate) producer: Producer<Arrival, Global, NothingAfterEnd>,
+    pub(crate) producer: Producer<Carried, Global, NothingAfterEnd>,
 }
 
 impl Model for Port {
@@ -58,7 +58,7 @@ impl Port {
         if producer.is_full() {
             return false;
         }
-        producer.push_reserved(Arrival::Packet(*item));
+        producer.push_reserved(Carried::packet(item));
         true
     }
 
@@ -73,7 +73,7 @@ impl Port {
             input,
             mut producer,
         } = self;
-        match producer.push(Arrival::End) {
+        match producer.push(Carried::end()) {
             Ok(()) => Ok(FinishedPort {
                 input,
                 producer,

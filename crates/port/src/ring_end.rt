@@ -59,7 +59,7 @@ impl RingEnd {
         if !reader.advance() {
             return None;
         }
-        if let Arrival::Packet(_) = reader.last() {
+        if let Some(_) = reader.last().as_packet() {
             return Some(ArrivalKind::Packet);
         }
         *is_ended = true;
@@ -72,9 +72,9 @@ impl RingEnd {
         requires unmarked { self.now.is_ended ≡ false }
         ensures { IsLast self.now result.now }
     {
-        match self.reader.last() {
-            Arrival::Packet(item) => item,
-            Arrival::End => unreachable!(),
+        match self.reader.last().as_packet() {
+            Some(item) => item,
+            None => unreachable!(),
         }
     }
 

@@ -4,7 +4,7 @@ ghost use Rattle.std.specs.Prelude.{◌≡◌, []};
 ghost use Rattle.rtrb.specs.Ring.{received};
 ghost use Rattle.port.specs.Rings.{ring_id};
 
-use crate::arrival::Arrival;
+use crate::carried::Carried;
 use crate::nothing_after_end::NothingAfterEnd;
 use rtrb::{Consumer, Producer};
 use std::alloc::Global;
@@ -18,9 +18,9 @@ const CHUNK: usize = 16;
 #[derive(Drop)]
 pub(crate) struct RingReader {
     input: usize,
-    consumer: Consumer<Arrival, Global, NothingAfterEnd>,
+    consumer: Consumer<Carried, Global, NothingAfterEnd>,
     /// What came out of the ring last.
-    chunk: [Arrival; CHUNK],
+    chunk: [Carried; CHUNK],
     /// How many arrivals that is.
     count: usize,
     /// How many of these were handed on.
@@ -53,14 +53,14 @@ impl RingReader {
     ghost use Rattle.port.specs.Rings.{ring_id};
 
     /// The end of an input's ring, out of which nothing came.
-    pub fn new(input: usize, consumer: Consumer<Arrival, Global, NothingAfterEnd>) -> RingReader
+    pub fn new(input: usize, consumer: Consumer<Carried, Global, NothingAfterEnd>) -> RingReader
         requires { received consumer ≡ [] }
         ensures { result ≡ record { ring = ring_id consumer.end input; handed = [] } }
     {
         RingReader {
             input,
             consumer,
-            chunk: [Arrival::End; CHUNK],
+            chunk: [Carried::end(); CHUNK],
             count: 0,
             passed: 0,
         }
@@ -89,7 +89,7 @@ impl RingReader {
     }
 
     /// What was handed on last.
-    pub fn last(&self) -> &Arrival
+    pub fn last(&self) -> &Carried
         requires { 0 < length self.now.handed }
         ensures { (before : List AnyArrival) × (self.now.handed ≡ before ++ result.now ∷ []) }
     {
@@ -97,7 +97,7 @@ impl RingReader {
     }
 
     /// How many arrivals of those that were sent weren't handed on, beside the end that sends.
-    pub fn left(&mut self, producer: &mut Producer<Arrival, Global, NothingAfterEnd>) -> usize
+    pub fn left(&mut self, producer: &mut Producer<Carried, Global, NothingAfterEnd>) -> usize
         requires { ring_id producer.old.end self.old.ring.input ≡ self.old.ring }
         ensures reader { self.new ≡ self.old }
         ensures ring { ring_id producer.new.end self.old.ring.input ≡ self.old.ring }
