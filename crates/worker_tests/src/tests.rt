@@ -1,0 +1,68 @@
+//! A worker at a full ring, beside a gate that holds the ring's other end: each packet and the end mark wait for a place.
+
+mod emptying_gate;
+mod full_gate;
+mod given_bytes;
+mod starting;
+
+use crate::tests::emptying_gate::EmptyingGate;
+use crate::tests::full_gate::FullGate;
+use crate::tests::starting::{ring, run};
+use anyhow::Result;
+use port::Arrival;
+use reading::Stop;
+use std::test::Fail;
+
+/// The ring has one place. Packet 0 finds it free, and each of the 199 others and the end mark find it full so many times: once, so
+/// that they wait for the first moment, or two or three times, so that they wait for longer ones too.
+#[test]
+fn each_packet_and_the_mark_wait_for_the_only_place(rt: HostRuntime) -> Result<(), Fail> {
+    for rounds in 1..4 {
+        let (port, end) = ring(rt.alloc(), 1)?;
+        let gate = EmptyingGate::new(end, rounds);
+        let (report, finished, mut gate) = run(&rt, rt.alloc(), port, gate, 200)?;
+        assert_eq!(rt; report.framed, 200);
+        assert_eq!(rt; report.stopped, None);
+        assert!(rt; finished.is_ended());
+        assert_eq!(rt; (gate.taken, gate.out_of_order), (200, 0));
+        assert_eq!(rt; gate.full, 200 * rounds);
+        assert!(rt; matches!(gate.end.next(), Some(Arrival::End)));
+    }
+    Ok(())
+}
+
+/// The gate says no at the full ring: the packet that waits isn't sent, nor is the end mark.
+#[test]
+fn a_gate_stops_a_packet_that_waits(rt: HostRuntime) -> Result<(), Fail> {
+    for most in 0..4 {
+        for _ in 0..10 {
+            let (port, mut end) = ring(rt.alloc(), 1)?;
+            let (report, finished, gate) = run(&rt, rt.alloc(), port, FullGate::new(most), 5)?;
+            assert_eq!(rt; report.stopped, Some(Stop::Gate));
+            assert!(rt; !finished.is_ended());
+            assert_eq!(rt; (gate.full, gate.stops), (most + 1, 1));
+            assert!(rt; matches!(end.next(), Some(Arrival::Packet(_))));
+            assert!(rt; end.next().is_none());
+        }
+    }
+    Ok(())
+}
+
+/// All five packets find a place, and the end mark none.
+#[test]
+fn a_gate_stops_an_end_mark_that_waits(rt: HostRuntime) -> Result<(), Fail> {
+    for most in 0..4 {
+        for _ in 0..10 {
+            let (port, mut end) = ring(rt.alloc(), 5)?;
+            let (report, finished, gate) = run(&rt, rt.alloc(), port, FullGate::new(most), 5)?;
+            assert_eq!(rt; report.stopped, Some(Stop::Gate));
+            assert!(rt; !finished.is_ended());
+            assert_eq!(rt; (gate.full, gate.stops), (most + 1, 1));
+            for _ in 0..5 {
+                assert!(rt; matches!(end.next(), Some(Arrival::Packet(_))));
+            }
+            assert!(rt; end.next().is_none());
+        }
+    }
+    Ok(())
+}

@@ -1,0 +1,49 @@
+//! Workers over packets in memory.
+
+ghost use Rattle.std.specs.Prelude.{◌≡◌, [], IfOk};
+
+use crate::tests::given_bytes::GivenBytes;
+use anyhow::{Result, bail};
+use example::{packets, plan_of};
+use port::{FinishedPort, Gate, Port, RingEnd, ports};
+use reading::{InputLimit, ReadSource, Report};
+use std::alloc::Global;
+use std::sync::Wait;
+use std::time::Clock;
+use worker::Worker;
+
+/// The two ends of a ring with room for so many packets, through which nothing went.
+pub fn ring(alloc: Global, capacity: usize) -> Result<(Port, RingEnd)>
+    ensures { IfOk result (λ r. r.0.sent ≡ []) }
+{
+    let (mut ports, mut ends) = ports(alloc, 1, capacity)?;
+    match (ports.pop(), ends.pop()) {
+        (Some(port), Some(end)) => Ok((port, end)),
+        _ => bail!("no ring"),
+    }
+}
+
+/// Runs a worker of the example's first input over so many packets with the counters 0, 1, 2 and so on.
+pub fn run<T: Wait + Clock, G: Gate + Drop>(
+    rt: &T,
+    alloc: Global,
+    port: Port,
+    gate: G,
+    count: u8,
+) -> Result<(Report, FinishedPort, G)>
+    requires { port.sent ≡ [] }
+{
+    let plan = plan_of(alloc, 64, &[0])?;
+    if plan.inputs().is_empty() {
+        bail!("no input");
+    }
+    let mut counters = Vec::new(alloc);
+    for counter in 0..count {
+        counters.push(counter)?;
+    }
+    let bytes = packets(alloc, &counters)?;
+    let source = ReadSource::new(GivenBytes { bytes, at: 0 });
+    let worker = Worker::new(alloc, source, gate, port, plan, 0, InputLimit::OfFormat);
+    let (report, finished, _, gate) = worker.run(rt);
+    Ok((report, finished, gate))
+}
