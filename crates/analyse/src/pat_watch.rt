@@ -72,8 +72,8 @@ pub struct PatSeen {
 /// with another table_id comes, and no packet is scrambled.
 #[derive(Drop)]
 pub struct PatWatch {
+    alloc: Global,
     sections: SectionWatch,
-    told: Vec<Told>,
     gap: GapWatch,
     marked: bool,
     programs: ProgramRows,
@@ -101,8 +101,8 @@ impl PatWatch {
         ensures seen { HasSeenPat result [] }
     {
         PatWatch {
+            alloc,
             sections: SectionWatch::new(0x0000),
-            told: Vec::new(alloc),
             gap: GapWatch::new(limit),
             marked: true,
             programs: ProgramRows::new(alloc),
@@ -133,17 +133,19 @@ impl PatWatch {
             → self.new.programs.rows ≡ self.old.programs.rows) }
     {
         let missed = self.gap.push(count, true, self.marked);
-        self.sections.see(packet, &mut self.told)?;
-        let programs = self.programs.push(&self.told)?;
+        // Let go with this slot.
+        let mut told = Vec::new(self.alloc);
+        self.sections.see(packet, &mut told)?;
+        let programs = self.programs.push(&told)?;
         self.marked = programs.came;
         Ok(PatSeen {
-            bad: is_bad(missed, &self.told, packet),
+            bad: is_bad(missed, &told, packet),
             changed: programs.changed,
         })
     }
 
     /// Whether nothing is told at the next slot, and this packet leaves the watch as it is: it is of another PID, the last
-    /// slot was no mark, and no gap falls due. Where something was told at the last slot, that is still to be let go.
+    /// slot was no mark, and no gap falls due.
     #[inline(always)]
     pub fn rests(&self, count: u64, packet: &Packet) -> bool
         ensures { result ≡ true → LeavesPat self.now count packet.now }
@@ -152,9 +154,6 @@ impl PatWatch {
             return false;
         }
         if self.marked {
-            return false;
-        }
-        if !self.told.is_empty() {
             return false;
         }
         !self.gap.is_told(count)

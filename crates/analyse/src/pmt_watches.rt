@@ -58,7 +58,6 @@ fn see_packet(
 pub struct PmtWatches {
     alloc: Global,
     watches: Vec<Option<Box<PmtWatch>>>,
-    told: Vec<Told>,
 }
 
 impl Model for PmtWatches {
@@ -89,11 +88,7 @@ impl PmtWatches {
         for _ in 0..PID_COUNT {
             watches.push_reserved(None);
         }
-        Ok(PmtWatches {
-            alloc,
-            watches,
-            told: Vec::new(alloc),
-        })
+        Ok(PmtWatches { alloc, watches })
     }
 
     /// The elementary PIDs of the newest current PMT of a program on a PID, in the order of its rows.
@@ -130,12 +125,13 @@ impl PmtWatches {
             return Ok(nothing);
         }
         let place = usize::from(packet.pid());
-        let seen = see_packet(self.alloc, &mut self.watches[place], packet, &mut self.told)?;
+        // Let go with this packet.
+        let mut told = Vec::new(self.alloc);
+        let seen = see_packet(self.alloc, &mut self.watches[place], packet, &mut told)?;
         Ok(seen)
     }
 
-    /// Whether this packet tells nothing and leaves the watches as they are. Where something was told before, that is still
-    /// to be let go.
+    /// Whether this packet tells nothing and leaves the watches as they are.
     #[inline(always)]
     pub fn rest_at(&self, packet: &Packet) -> bool
         ensures { result ≡ true → LeavesPmts self.now packet.now }
@@ -144,7 +140,7 @@ impl PmtWatches {
             return true;
         }
         match &self.watches[usize::from(packet.pid())] {
-            Some(watch) if self.told.is_empty() => watch.rests(packet),
+            Some(watch) => watch.rests(packet),
             _ => false,
         }
     }
