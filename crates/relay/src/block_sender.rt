@@ -6,7 +6,7 @@ use crate::empty_blocks::EmptyBlocks;
 use crate::finished_sender::FinishedSender;
 use crate::message::Message;
 use crate::nothing_after_end::NothingAfterEnd;
-use crate::room::ROOM;
+use crate::room::{KEPT, ROOM};
 use rtrb::{Consumer, Producer};
 use std::alloc::Global;
 use std::marker::Model;
@@ -60,6 +60,24 @@ impl BlockSender {
         let full = mem::replace(block, empty);
         producer.push_reserved(Message::Block(full));
         true
+    }
+
+    /// Sends a block as `send` does, but leaves the last `KEPT` empty ones to `send`: false is answered too where no more are seen
+    /// that came back, and then nothing changed. Where only full blocks are sent by `send`, and no empty one is left, the last `KEPT`
+    /// that were sent are full.
+    #[tactic(auto, using(crate::proofs::RelayLaws::same_id))]
+    pub fn offer(&mut self, block: &mut Vec<Packet>) -> bool
+        requires { ROOM ≤ vec_capacity block.old }
+        ensures relay { self.new.relay ≡ self.old.relay }
+        ensures sent { MatchBool result
+            ((self.new ≡ record self.old { sent = self.old.sent ++ block.old.items ∷ [] }) × (block.new.items ≡ []))
+            ((self.new ≡ self.old) × (block.new.items ≡ block.old.items)) }
+        ensures room { ROOM ≤ vec_capacity block.new }
+    {
+        if self.empties.slots() <= KEPT {
+            return false;
+        }
+        self.send(block)
     }
 
     /// Sends the end mark, and nothing after it. Where no free place is seen in the ring the sender comes back, unchanged.

@@ -21,4 +21,4 @@ pub use block_sender::BlockSender;
 pub use finished_sender::FinishedSender;
 pub use making::relay;
 pub use message::Message;
-pub use room::ROOM;
+pub use room::{KEPT, ROOM};

@@ -1,7 +1,7 @@
 ghost use Rattle.std.specs.Prelude.{◌≡◌, ◌≤◌, vec_capacity, IfOk};
 
 use crate::making::relay;
-use crate::room::ROOM;
+use crate::room::{KEPT, ROOM};
 use crate::{BlockReceiver, BlockSender, Message};
 use std::alloc::{AllocError, Global};
 use std::test::Fail;
@@ -97,5 +97,34 @@ fn a_sender_without_an_empty_block_keeps_its_own(rt: HostRuntime) -> Result<(), 
     assert_eq!(rt; receiver.left(&mut finished), 0);
     assert!(rt; receiver.next().is_none());
     assert!(rt; !receiver.is_ended());
+    Ok(())
+}
+
+/// Offers a block of one packet.
+fn offer_one(sender: &mut BlockSender, block: &mut Vec<Packet>) -> Result<bool, AllocError>
+    requires { ROOM ≤ vec_capacity block.old }
+    ensures relay { sender.new.relay ≡ sender.old.relay }
+    ensures room { ROOM ≤ vec_capacity block.new }
+{
+    block.clear();
+    block.push(null())?;
+    Ok(sender.offer(block))
+}
+
+#[test]
+fn the_last_empty_blocks_are_left_to_those_that_are_sent(rt: HostRuntime) -> Result<(), Fail> {
+    let alloc = rt.alloc();
+    let (mut sender, mut receiver) = relay(alloc, KEPT + 1)?;
+    let mut block = block_of_one(alloc)?;
+    assert!(rt; offer_one(&mut sender, &mut block)?);
+    // As many are left as are kept: a block that is offered gets none of them, and one that is sent does.
+    assert!(rt; !offer_one(&mut sender, &mut block)?);
+    assert_eq!(rt; block.len(), 1);
+    assert!(rt; sender.send(&mut block));
+    assert_eq!(rt; next_size(&mut receiver), Some(1));
+    assert!(rt; !offer_one(&mut sender, &mut block)?);
+    assert_eq!(rt; next_size(&mut receiver), Some(1));
+    assert!(rt; offer_one(&mut sender, &mut block)?);
+    assert_eq!(rt; next_size(&mut receiver), Some(1));
     Ok(())
 }

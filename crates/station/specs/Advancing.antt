@@ -50,3 +50,9 @@ pub record Advances (most : ℕ) (old : StationValue) (answer : Sending) (new : 
   pub within : count ≤ most
   pub steps : Steps count old new packets
   pub ends : ((answer ≡ sending.Sent) × (count ≡ most)) ⊎ IsStuck answer new
+
+-- The same, and the packets that went out stand behind those before.
+pub record AdvancesBehind (most : ℕ) (old : StationValue) (before : List (List ℕ)) (answer : Sending) (new : StationValue) (after : List (List ℕ)) : Type 0 where
+  pub packets : List (List ℕ)
+  pub behind : after ≡ before ++ packets
+  pub advances : Advances most old answer new packets

@@ -4,7 +4,7 @@ ghost use Rattle.std.specs.Prelude.{◌≡◌, ◌≢◌, ◌⊎◌, ◌+◌, �
 ghost use Rattle.mux.specs.History.{History, is_closed};
 ghost use Rattle.station.specs.Stations.{IsLawfulInlet, IsLawfulStation, LeavesOthers, rings_of};
 ghost use Rattle.station.specs.Moving.{TakesNext, EndsTaking};
-ghost use Rattle.station.specs.Advancing.{Advances, IsStep, IsStuck};
+ghost use Rattle.station.specs.Advancing.{AdvancesBehind, IsStep, IsStuck};
 
 use crate::inlet::Inlet;
 use crate::moving::take_next;
@@ -66,22 +66,21 @@ fn step(mux: &mut Mux, inlets: &mut Vec<Inlet>, sent: &mut Vec<Packet>) -> Optio
 }
 
 /// Goes on by at most so many steps, and answers why no further, `Sent` where all of them were done. The packets that went out
-/// stand in `sent`.
-pub(crate) fn advance(
+/// go behind those in `sent`.
+pub(crate) fn advance_behind(
     mux: &mut Mux,
     inlets: &mut Vec<Inlet>,
     most: usize,
     sent: &mut Vec<Packet>,
 ) -> Sending
     requires lawful { IsLawfulStation mux.old inlets.old.items }
-    requires room { most ≤ vec_capacity sent.old }
-    ensures advances { Advances most (record { history = mux.old; inputs = inlets.old.items }) result
+    requires room { vec_len sent.old + most ≤ vec_capacity sent.old }
+    ensures advances { AdvancesBehind most (record { history = mux.old; inputs = inlets.old.items }) sent.old.items result
         (record { history = mux.new; inputs = inlets.new.items }) sent.new.items }
     ensures unrefused { result ≢ Sending.Memory }
     ensures lawful { IsLawfulStation mux.new inlets.new.items }
-    ensures room { vec_capacity sent.old ≤ vec_capacity sent.new }
+    ensures room { (vec_len sent.new ≤ vec_len sent.old + most) × (vec_capacity sent.old ≤ vec_capacity sent.new) }
 {
-    sent.clear();
     for _count in 0..most {
         if let Some(answer) = step(mux, inlets, sent) {
             return answer;

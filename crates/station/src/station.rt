@@ -1,6 +1,6 @@
 //! The station: its state, and its ticks.
 
-ghost use Rattle.std.specs.Prelude.{◌≡◌, ◌≢◌, ◌<◌, ◌≤◌, ◌^◌, ◌-◌, ◌++◌, Some, length, map, vec_capacity, IfOk, IfSome, option_copied};
+ghost use Rattle.std.specs.Prelude.{◌≡◌, ◌≢◌, ◌<◌, ◌≤◌, ◌^◌, ◌+◌, ◌-◌, ◌++◌, ℕ, List, Some, length, map, vec_len, vec_capacity, IfOk, IfSome, option_copied};
 ghost use Rattle.std.specs.List.{slice_get};
 ghost use Rattle.request.specs.declared.stream.Stream.{Stream};
 ghost use Rattle.mux.specs.History.{slots, emitted, is_closed};
@@ -9,11 +9,11 @@ ghost use Rattle.mux.specs.Totals.{IsTotals, IsCounts};
 ghost use Rattle.mux.specs.Headline.{IsSound};
 ghost use Rattle.station.specs.Stations.{IsLawfulStation, rings_of};
 ghost use Rattle.station.specs.Ticking.{Ticks, MovesAll};
-ghost use Rattle.station.specs.Advancing.{Advances};
+ghost use Rattle.station.specs.Advancing.{Advances, AdvancesBehind};
 ghost use Rattle.station.specs.Opening.{IsOpened, new_inlet};
 ghost use Rattle.station.specs.Settling.{IsSettled};
 
-use crate::advancing::advance;
+use crate::advancing::advance_behind;
 use crate::inlet::Inlet;
 use crate::moving::move_in;
 use crate::settled::Settled;
@@ -119,8 +119,23 @@ impl Station {
         ensures run { self.new.history.run ≡ self.old.history.run }
         ensures room { vec_capacity sent.old ≤ vec_capacity sent.new }
     {
-        let answer = advance(&mut self.mux, &mut self.inlets, most, sent);
-        answer
+        sent.clear();
+        self.advance_behind(most, sent)
+    }
+
+    /// Goes on as `advance` does, and puts the packets of the slots behind those that `sent` has. It needs room for both.
+    pub fn advance_behind(&mut self, most: usize, sent: &mut Vec<Packet>) -> Sending
+        requires { vec_len sent.old + most ≤ vec_capacity sent.old }
+        ensures advances { AdvancesBehind most self.old sent.old.items result self.new sent.new.items }
+        ensures unrefused { result ≢ Sending.Memory }
+        ensures emitted { (packets : List (List ℕ)) → sent.new.items ≡ sent.old.items ++ packets
+            → emitted self.new.history.run.plan self.new.history.events
+            ≡ emitted self.old.history.run.plan self.old.history.events ++ packets }
+        ensures rings { rings_of self.new.inputs ≡ rings_of self.old.inputs }
+        ensures run { self.new.history.run ≡ self.old.history.run }
+        ensures room { (vec_len sent.new ≤ vec_len sent.old + most) × (vec_capacity sent.old ≤ vec_capacity sent.new) }
+    {
+        advance_behind(&mut self.mux, &mut self.inlets, most, sent)
     }
 
     /// How many slots were sent. What every station keeps is known with it.

@@ -16,7 +16,7 @@ use Rattle.serial.proofs.RunningLaws.{sends_on}
 use Rattle.serial.proofs.OutcomeLaws.{all_begun}
 use Rattle.station.specs.Stations.{StationValue}
 use Rattle.threaded.specs.Driving.{output_of, IsSameRun, BreaksOff, IsDriven}
-use Rattle.threaded.specs.Handing.{sent_of, HandsAll, HandsSome, IsHandedOn}
+use Rattle.threaded.specs.Handing.{sent_of, HandsAll, HandsSome, HandsAllBut, IsHandedOn}
 use Rattle.threaded.specs.Outputs.{packets_in, IsWritten}
 use Rattle.threaded.specs.declared.outlet.Outlet.{Outlet}
 use Rattle.threaded.proofs.DrivingLaws.{same_same}
@@ -29,28 +29,46 @@ hands_nothing s blocks none = record {
   sent = sym (ap (λ (v : List (List (List ℕ))). sent_of s ++ packets_in v) none ∙ append-nil (sent_of s));
 }
 
+-- and the block in hand is empty
+pub begins_handing : (s : StationValue) (blocks : List (List (List ℕ))) (block : List (List ℕ)) → blocks ≡ [] → block ≡ [] → HandsAllBut s s blocks block
+begins_handing s blocks block none empty =
+    let all = hands_nothing s blocks none in
+    record {
+      same = all.same;
+      sent = all.sent ∙ (sym (append-nil (sent_of s ++ packets_in blocks)) ∙ ap (λ v. (sent_of s ++ packets_in blocks) ++ v) (sym empty));
+    }
+
 pub all_some : (old new : StationValue) (blocks : List (List (List ℕ))) → HandsAll old new blocks → HandsSome old new blocks
 all_some old new blocks all = record { same = all.same; rest = []; sent = all.sent ∙ sym (append-nil (sent_of old ++ packets_in blocks)) }
 
--- what went out in a turn is handed on, or a beginning of it
-handed : (old mid new : StationValue) (a b : List (List (List ℕ))) (packets rest : List (List ℕ)) → sent_of mid ≡ sent_of old ++ packets_in a → sent_of new ≡ sent_of mid ++ packets → packets_in a ++ packets ≡ packets_in b ++ rest
-    → sent_of new ≡ (sent_of old ++ packets_in b) ++ rest
-handed old mid new a b packets rest before out is =
-    out ∙ (ap (λ v. v ++ packets) before ∙ (append_assoc (sent_of old) (packets_in a) packets ∙ (ap (λ v. sent_of old ++ v) is ∙ sym (append_assoc (sent_of old) (packets_in b) rest))))
-
-pub hands_some : (old mid new : StationValue) (a b : List (List (List ℕ))) (packets rest : List (List ℕ)) → HandsAll old mid a → IsSameRun mid new → sent_of new ≡ sent_of mid ++ packets → packets_in a ++ packets ≡ packets_in b ++ rest
-    → HandsSome old new b
-hands_some old mid new a b packets rest before same out is = record {
-  same = same_same old mid new before.same same;
-  rest = rest;
-  sent = handed old mid new a b packets rest before.sent out is;
+-- nothing is left in the block in hand
+pub all_handed : (old new : StationValue) (blocks : List (List (List ℕ))) (block : List (List ℕ)) → HandsAllBut old new blocks block → block ≡ [] → HandsAll old new blocks
+all_handed old new blocks block but empty = record {
+  same = but.same;
+  sent = but.sent ∙ (ap (λ v. (sent_of old ++ packets_in blocks) ++ v) empty ∙ append-nil (sent_of old ++ packets_in blocks));
 }
 
-pub hands_all : (old mid new : StationValue) (a b : List (List (List ℕ))) (packets rest : List (List ℕ)) → HandsAll old mid a → IsSameRun mid new → sent_of new ≡ sent_of mid ++ packets → packets_in a ++ packets ≡ packets_in b ++ rest
-    → rest ≡ [] → HandsAll old new b
-hands_all old mid new a b packets rest before same out is none = record {
-  same = same_same old mid new before.same same;
-  sent = handed old mid new a b packets rest before.sent out is ∙ (ap (λ v. (sent_of old ++ packets_in b) ++ v) none ∙ append-nil (sent_of old ++ packets_in b));
+-- What went out in a turn stands behind what the block in hand had; of this the first is handed on.
+handed : (old mid new : StationValue) (a b : List (List (List ℕ))) (before packets block rest : List (List ℕ)) → sent_of mid ≡ (sent_of old ++ packets_in a) ++ before → sent_of new ≡ sent_of mid ++ packets
+    → block ≡ before ++ packets → packets_in a ++ block ≡ packets_in b ++ rest → sent_of new ≡ (sent_of old ++ packets_in b) ++ rest
+handed old mid new a b before packets block rest had out behind is =
+    let own = sent_of old in
+    out ∙ (ap (λ v. v ++ packets) had ∙ (append_assoc (own ++ packets_in a) before packets ∙ (ap (λ v. (own ++ packets_in a) ++ v) (sym behind)
+    ∙ (append_assoc own (packets_in a) block ∙ (ap (λ v. own ++ v) is ∙ sym (append_assoc own (packets_in b) rest))))))
+
+pub hands_some : (old mid new : StationValue) (a b : List (List (List ℕ))) (before packets block rest : List (List ℕ)) → HandsAllBut old mid a before → IsSameRun mid new → sent_of new ≡ sent_of mid ++ packets
+    → block ≡ before ++ packets → packets_in a ++ block ≡ packets_in b ++ rest → HandsSome old new b
+hands_some old mid new a b before packets block rest had same out behind is = record {
+  same = same_same old mid new had.same same;
+  rest = rest;
+  sent = handed old mid new a b before packets block rest had.sent out behind is;
+}
+
+pub hands_all_but : (old mid new : StationValue) (a b : List (List (List ℕ))) (before packets block rest left : List (List ℕ)) → HandsAllBut old mid a before → IsSameRun mid new → sent_of new ≡ sent_of mid ++ packets
+    → block ≡ before ++ packets → packets_in a ++ block ≡ packets_in b ++ rest → rest ≡ left → HandsAllBut old new b left
+hands_all_but old mid new a b before packets block rest left had same out behind is left_is = record {
+  same = same_same old mid new had.same same;
+  sent = handed old mid new a b before packets block rest had.sent out behind is ∙ ap (λ v. (sent_of old ++ packets_in b) ++ v) left_is;
 }
 
 -- What came out of the relay is what went into it, or a beginning.
@@ -103,7 +121,7 @@ if_some_on : {X : Type 0} (P Q : X → Type 0) (o : Option X) → ((x : X) → P
 if_some_on P Q None f h = tt
 if_some_on P Q (Some x) f h = f x h
 
--- the sender sent all, and the receiver mark or not
+-- the sender sent all, and the end mark or not
 pub ends_handing : (old new : StationValue) (relay : RelayId) (sender : SenderValue) (finished : FinishedValue) → IfSome finished.shown (λ shown. shown ≡ sender) → sender.relay ≡ relay → HandsAll old new sender.sent → IsOver new.history.run new.history.events
     → IsHandedOn old new relay finished
 ends_handing old new relay sender finished shown same all over =

@@ -22,6 +22,11 @@ pub record HandsSome (old new : StationValue) (blocks : List (List (List ℕ))) 
   pub rest : List (List ℕ)
   pub sent : sent_of new ≡ (sent_of old ++ packets_in blocks) ++ rest
 
+-- The run went on, these blocks have the first of the packets that it sent meanwhile, and the block in hand has the others.
+pub record HandsAllBut (old new : StationValue) (blocks : List (List (List ℕ))) (block : List (List ℕ)) : Type 0 where
+  pub same : IsSameRun old new
+  pub sent : sent_of new ≡ (sent_of old ++ packets_in blocks) ++ block
+
 -- The run went on, and the sender of this relay sent the first of the packets that it sent meanwhile. Where the sender sent the end
 -- mark it sent all of them, and the run went on to its end.
 pub record IsHandedOn (old new : StationValue) (relay : RelayId) (finished : FinishedValue) : Type 0 where

@@ -3,7 +3,7 @@
 ghost use Rattle.std.specs.Prelude.{◌≡◌, ◌⊎◌, ◌≤◌, ◌++◌, ◌∷◌, [], ℕ, List, true, IfSome, MatchBool, vec_capacity};
 ghost use Rattle.serial.specs.Running.{IsOver};
 ghost use Rattle.station.specs.Stations.{StationValue};
-ghost use Rattle.threaded.specs.Handing.{HandsAll, HandsSome, IsHandedOn};
+ghost use Rattle.threaded.specs.Handing.{HandsAllBut, HandsSome, IsHandedOn};
 ghost use Rattle.threaded.specs.Outputs.{packets_in};
 
 use crate::passage::STEPS;
@@ -20,8 +20,8 @@ use worker::pause;
 
 /// Lets the station go on until nothing is left to send or the run has all its slots, and hands on what goes out, and then the end
 /// mark. Where an input isn't ready, or no empty block has come back, the calling thread lets others go first. Where the run is over
-/// before, no mark is sent. `packets` has room for what goes out in a turn.
-#[tactic(auto, using(crate::proofs::HandingLaws::hands_nothing, crate::proofs::HandingLaws::ends_handing, crate::proofs::HandingLaws::cuts_handing))]
+/// before, no mark is sent. `packets` is empty, and has room for what goes out in a turn.
+#[tactic(auto, using(crate::proofs::HandingLaws::begins_handing, crate::proofs::HandingLaws::all_handed, crate::proofs::HandingLaws::ends_handing, crate::proofs::HandingLaws::cuts_handing))]
 pub(crate) fn drive<T: Wait + Clock>(
     rt: &T,
     station: &mut Station,
@@ -30,6 +30,7 @@ pub(crate) fn drive<T: Wait + Clock>(
     is_over: &Arc<AtomicBool, Global>,
 ) -> FinishedSender
     requires unsent { sender.sent ≡ [] }
+    requires empty { packets.old.items ≡ [] }
     requires room { STEPS ≤ vec_capacity packets.old }
     ensures { IsHandedOn station.old station.new sender.relay result }
 {
@@ -45,7 +46,7 @@ pub(crate) fn drive<T: Wait + Clock>(
     unreachable!()
 }
 
-/// Lets the station go on by some steps, and hands on what went out. `packets` has room for it.
+/// Lets the station go on by as many steps as the block in hand has places left, and hands on what went out.
 fn step<T: Wait + Clock>(
     rt: &T,
     station: &mut Station,
@@ -56,18 +57,22 @@ fn step<T: Wait + Clock>(
     requires { STEPS ≤ vec_capacity packets.old }
     ensures relay { sender.new.relay ≡ sender.old.relay }
     ensures all { (result ≡ Turn.CutShort → ⊥) → (start : StationValue)
-        → HandsAll start station.old sender.old.sent → HandsAll start station.new sender.new.sent }
+        → HandsAllBut start station.old sender.old.sent packets.old.items
+        → HandsAllBut start station.new sender.new.sent packets.new.items }
     ensures some { (start : StationValue)
-        → HandsAll start station.old sender.old.sent → HandsSome start station.new sender.new.sent }
-    ensures over { result ≡ Turn.Over → IsOver station.new.history.run station.new.history.events }
+        → HandsAllBut start station.old sender.old.sent packets.old.items → HandsSome start station.new sender.new.sent }
+    ensures over { result ≡ Turn.Over
+        → IsOver station.new.history.run station.new.history.events × (packets.new.items ≡ []) }
     ensures room { STEPS ≤ vec_capacity packets.new }
 {
-    let answer = station.advance(STEPS, packets);
-    let is_nothing_sent = packets.is_empty();
-    if !hand_on(rt, packets, sender, is_over) {
+    let before = packets.len();
+    let answer = station.advance_behind(STEPS.saturating_sub(before), packets);
+    let is_nothing_sent = packets.len() == before;
+    let turn = turn_of(answer, is_nothing_sent);
+    if !hand_on(rt, packets, sender, is_over, is_last(turn)) {
         return Turn::CutShort;
     }
-    turn_of(answer, is_nothing_sent)
+    turn
 }
 
 /// What a turn did whose steps ended with this answer, by what went out.
@@ -82,22 +87,40 @@ fn turn_of(answer: Sending, is_nothing_sent: bool) -> Turn
     }
 }
 
-/// Hands the packets of a turn on, where there are any, and leaves an empty block. False is answered where the run was over before.
+/// Whether nothing comes behind a turn.
+fn is_last(turn: Turn) -> bool
+    ensures { MatchBool result (turn ≡ Turn.Over) (turn ≡ Turn.Over → ⊥) }
+{
+    matches!(turn, Turn::Over)
+}
+
+/// Hands the block in hand on, where it has packets: as soon as an empty one is there, if it is full or the last one, and else only
+/// where more than the last few blocks are empty. So the run never waits for its output before that has as many full blocks to write,
+/// however little each turn sends; and nothing stays in hand for longer than a sleep while the output has nothing to do. False is
+/// answered where the run was over before.
 fn hand_on<T: Wait + Clock>(
     rt: &T,
     packets: &mut Vec<Packet>,
     sender: &mut BlockSender,
     is_over: &Arc<AtomicBool, Global>,
+    is_last: bool,
 ) -> bool
     requires { STEPS ≤ vec_capacity packets.old }
     ensures relay { sender.new.relay ≡ sender.old.relay }
     ensures sent { (rest : List (List ℕ))
         × (packets_in sender.old.sent ++ packets.old.items ≡ packets_in sender.new.sent ++ rest)
-        × (result ≡ true → rest ≡ []) }
+        × (result ≡ true → rest ≡ packets.new.items) }
+    ensures last { result ≡ true → is_last ≡ true → packets.new.items ≡ [] }
     ensures room { STEPS ≤ vec_capacity packets.new }
 {
-    if !packets.is_empty() && !send(rt, packets, sender, is_over) {
-        return false;
+    if !packets.is_empty() {
+        if is_last || packets.len() >= STEPS {
+            if !send(rt, packets, sender, is_over) {
+                return false;
+            }
+        } else {
+            sender.offer(packets);
+        }
     }
     !is_over.load(Ordering::SeqCst)
 }
@@ -112,7 +135,7 @@ fn send<T: Wait + Clock>(
     requires { STEPS ≤ vec_capacity packets.old }
     ensures relay { sender.new.relay ≡ sender.old.relay }
     ensures sent { MatchBool result
-        (packets_in sender.new.sent ≡ packets_in sender.old.sent ++ packets.old.items)
+        ((packets_in sender.new.sent ≡ packets_in sender.old.sent ++ packets.old.items) × (packets.new.items ≡ []))
         (sender.new ≡ sender.old) }
     ensures room { STEPS ≤ vec_capacity packets.new }
 {

@@ -1,6 +1,6 @@
 //! The thread of the output, from its start to its end.
 
-ghost use Rattle.std.specs.Prelude.{◌≡◌, ◌≤◌, Err, IfOk, IfErr, IfSome, OnOk, OnErr, vec_capacity};
+ghost use Rattle.std.specs.Prelude.{◌≡◌, ◌≤◌, [], Err, IfOk, IfErr, IfSome, OnOk, OnErr, vec_capacity};
 ghost use Rattle.reading.specs.Failures.{FailsOnce};
 ghost use Rattle.relay.specs.Relays.{IsNewRelay};
 ghost use Rattle.threaded.specs.declared.passage.TheConstants.{STEPS, BLOCKS};
@@ -83,6 +83,7 @@ pub(crate) fn send_out<
     outlet: Outlet<W>,
 ) -> (Outlet<W>, Result<(), RunFault>)
     requires relay { IsNewRelay BLOCKS passage.sender passage.receiver }
+    requires empty { passage.packets.items ≡ [] }
     requires room { STEPS ≤ vec_capacity passage.packets }
     ensures driven { OnOk result.1
         (IsDriven station.old station.new outlet.output result.0.output (W.contents outlet.sink) (W.contents result.0.sink)) }

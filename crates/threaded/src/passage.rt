@@ -1,6 +1,6 @@
 //! How a run's packets come to the thread of its output.
 
-ghost use Rattle.std.specs.Prelude.{◌≡◌, ◌≤◌, IfOk, vec_capacity};
+ghost use Rattle.std.specs.Prelude.{◌≡◌, ◌≤◌, [], IfOk, vec_capacity};
 ghost use Rattle.relay.specs.Relays.{IsNewRelay};
 
 use relay::{BlockReceiver, BlockSender, ROOM, relay};
@@ -9,15 +9,15 @@ use std::sync::Arc;
 use std::sync::atomic::AtomicBool;
 use tspkt::Packet;
 
-/// How many steps a station goes on by at once, at most: each sends a slot, or takes what comes next of an input. A block has room
-/// for what goes out in so many.
+/// How many packets a block has when it is full, and how many steps a station goes on by at once, at most: each sends a slot, or
+/// takes what comes next of an input.
 pub(crate) const STEPS: usize = ROOM;
 
 /// How many blocks are on their way to the output, at most.
 const BLOCKS: usize = 15;
 
-/// How a run's packets come to the thread of its output: the block that those of a turn go into, the two ends of a relay, and what
-/// the thread says by that the run is over.
+/// How a run's packets come to the thread of its output: the block in hand, which those of a turn go into, the two ends of a relay,
+/// and what the thread says by that the run is over.
 #[derive(Drop)]
 pub(crate) struct Passage {
     pub packets: Vec<Packet>,
@@ -30,6 +30,7 @@ impl Passage {
     /// One that nothing came through. `Err` is want of memory.
     pub fn open(alloc: Global, is_over: &Arc<AtomicBool, Global>) -> Result<Passage, AllocError>
         ensures relay { IfOk result (λ p. IsNewRelay BLOCKS p.sender p.receiver) }
+        ensures empty { IfOk result (λ p. p.packets.items ≡ []) }
         ensures room { IfOk result (λ p. STEPS ≤ vec_capacity p.packets) }
     {
         let packets = Vec::with_capacity(alloc, STEPS)?;

@@ -1,6 +1,7 @@
 //! What a turn of a run did.
 
 /// What a turn of a run did.
+#[derive(Clone, Copy)]
 pub(crate) enum Turn {
     /// The station went on.
     Goes,

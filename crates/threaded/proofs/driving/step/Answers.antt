@@ -1,34 +1,38 @@
 use Rattle.threaded.specs.Driving.{IsSameRun}
 use Rattle.threaded.proofs.DrivingLaws.{needed_steps}
-use Rattle.threaded.proofs.HandingLaws.{hands_some, hands_all}
+use Rattle.threaded.proofs.HandingLaws.{hands_some, hands_all_but}
 use Rattle.threaded.proofs.driving.step.Goals as goal
 
 pub returns-then-not-hand_on-clause-some : goal.returns-then-not-hand_on-clause-some
-returns-then-not-hand_on-clause-some g c start before =
+returns-then-not-hand_on-clause-some g c start had =
     let old = c.args.station.now in
-    let new = c.advance-answer.new.self in
-    let a = c.advance-answer.ensures in
-    let packets = c.advance-answer.new.sent.items in
+    let new = c.advance_behind-answer.new.self in
+    let a = c.advance_behind-answer.ensures in
+    let out = a.advances.packets in
+    let block = c.advance_behind-answer.new.sent.items in
     let s = c.hand_on.ensures.sent in
-    let same : IsSameRun old new = record { run = a.run; rings = a.rings; needed = needed_steps a.advances.count old new c.advance-answer.new.sent.items a.advances.steps } in
-    hands_some start old new c.args.sender.now.sent c.hand_on.new.sender.sent packets s.0 before same a.emitted s.1
+    let same : IsSameRun old new = record { run = a.run; rings = a.rings; needed = needed_steps a.advances.advances.count old new out a.advances.advances.steps } in
+    hands_some start old new c.args.sender.now.sent c.hand_on.new.sender.sent c.args.packets.now.items out block s.0 had same (a.emitted out a.advances.behind) a.advances.behind s.1
 
 pub returns-clause-all : goal.returns-clause-all
-returns-clause-all g c going start before =
+returns-clause-all g c going start had =
     let old = c.args.station.now in
-    let new = c.advance-answer.new.self in
-    let a = c.advance-answer.ensures in
-    let packets = c.advance-answer.new.sent.items in
+    let new = c.advance_behind-answer.new.self in
+    let a = c.advance_behind-answer.ensures in
+    let out = a.advances.packets in
+    let block = c.advance_behind-answer.new.sent.items in
     let s = c.hand_on.ensures.sent in
-    let same : IsSameRun old new = record { run = a.run; rings = a.rings; needed = needed_steps a.advances.count old new c.advance-answer.new.sent.items a.advances.steps } in
-    hands_all start old new c.args.sender.now.sent c.hand_on.new.sender.sent packets s.0 before same a.emitted s.1 (s.2 c.if-not-hand_on.false)
+    let same : IsSameRun old new = record { run = a.run; rings = a.rings; needed = needed_steps a.advances.advances.count old new out a.advances.advances.steps } in
+    hands_all_but start old new c.args.sender.now.sent c.hand_on.new.sender.sent c.args.packets.now.items out block s.0 c.hand_on.new.packets.items had same (a.emitted out a.advances.behind) a.advances.behind s.1
+    (s.2 c.if-not-hand_on.false)
 
 pub returns-clause-some : goal.returns-clause-some
-returns-clause-some g c start before =
+returns-clause-some g c start had =
     let old = c.args.station.now in
-    let new = c.advance-answer.new.self in
-    let a = c.advance-answer.ensures in
-    let packets = c.advance-answer.new.sent.items in
+    let new = c.advance_behind-answer.new.self in
+    let a = c.advance_behind-answer.ensures in
+    let out = a.advances.packets in
+    let block = c.advance_behind-answer.new.sent.items in
     let s = c.hand_on.ensures.sent in
-    let same : IsSameRun old new = record { run = a.run; rings = a.rings; needed = needed_steps a.advances.count old new c.advance-answer.new.sent.items a.advances.steps } in
-    hands_some start old new c.args.sender.now.sent c.hand_on.new.sender.sent packets s.0 before same a.emitted s.1
+    let same : IsSameRun old new = record { run = a.run; rings = a.rings; needed = needed_steps a.advances.advances.count old new out a.advances.advances.steps } in
+    hands_some start old new c.args.sender.now.sent c.hand_on.new.sender.sent c.args.packets.now.items out block s.0 had same (a.emitted out a.advances.behind) a.advances.behind s.1

@@ -1,0 +1,13 @@
+use Rattle.std.proofs.Common.{◌≡◌, ◌≤◌, ◌+◌, ◌++◌, ℕ, List, vec_len, vec_capacity}
+use Rattle.station.specs.Stations.{IsLawfulStation}
+use Rattle.station.specs.Advancing.{Steps}
+use Rattle.station.proofs.advancing.advance_behind.Given as goal
+
+abbrev pub invariant-loop-count : goal.invariant-loop-count
+invariant-loop-count l = record {
+  steps : (packets : List (List ℕ)) × (l.sent.items ≡ l.fn.sent.items ++ packets)
+      × Steps l._count (record { history = l.fn.mux; inputs = l.fn.inlets.items }) (record { history = l.mux; inputs = l.inlets.items }) packets;
+  lawful : IsLawfulStation l.mux l.inlets.items;
+  len : vec_len l.sent ≤ vec_len l.fn.sent + l._count;
+  room : vec_capacity l.fn.sent ≤ vec_capacity l.sent;
+}
