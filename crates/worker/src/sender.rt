@@ -4,7 +4,7 @@ ghost use Rattle.std.specs.Prelude.{◌≡◌, IfSome, MatchBool};
 ghost use Rattle.port.specs.Stops.{StopsOnce};
 ghost use Rattle.worker.specs.Sending.{first_cause};
 
-use crate::waiting::wait_for_room;
+use crate::waiting::pause;
 use plan::Plan;
 use port::{FinishedPort, Gate, Point, Port};
 use reading::{Look, PacketReader, Report, Source, Stop};
@@ -98,7 +98,6 @@ impl<R: Source + Drop, G: Gate + Drop> Sender<R, G> {
         ensures gate { MatchBool result (G.stops self.new.gate ≡ G.stops self.old.gate)
             (StopsOnce (G.stops self.old.gate) (G.stops self.new.gate)) }
     {
-        let mut has_waited = false;
         for _ in rt.forever() {
             let item = self.reader.held().unwrap();
             if self.port.send(item) {
@@ -108,8 +107,7 @@ impl<R: Source + Drop, G: Gate + Drop> Sender<R, G> {
             if !self.gate.pass(Point::Full) {
                 return false;
             }
-            wait_for_room(rt, has_waited);
-            has_waited = true;
+            pause(rt);
         }
         unreachable!()
     }
@@ -163,7 +161,6 @@ pub(crate) fn end<G: Gate, T: Wait + Clock>(rt: &T, port: Port, gate: &mut G) ->
         (StopsOnce (G.stops gate.old) (G.stops gate.new)) }
 {
     let mut port = port;
-    let mut has_waited = false;
     for _ in rt.forever() {
         match port.end() {
             Ok(finished) => return finished,
@@ -172,8 +169,7 @@ pub(crate) fn end<G: Gate, T: Wait + Clock>(rt: &T, port: Port, gate: &mut G) ->
         if !gate.pass(Point::Full) {
             return port.finish();
         }
-        wait_for_room(rt, has_waited);
-        has_waited = true;
+        pause(rt);
     }
     unreachable!()
 }
