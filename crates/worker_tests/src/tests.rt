@@ -4,17 +4,19 @@ mod emptying_gate;
 mod full_gate;
 mod given_bytes;
 mod starting;
+mod taking_thread;
 
 use crate::tests::emptying_gate::EmptyingGate;
 use crate::tests::full_gate::FullGate;
 use crate::tests::starting::{ring, run};
+use crate::tests::taking_thread::run_beside;
 use anyhow::Result;
 use port::Arrival;
 use reading::Stop;
 use std::test::Fail;
 
-/// The ring has one place. Packet 0 finds it free, and each of the 199 others and the end mark find it full so many times: once, so
-/// that they wait for the first moment, or two or three times, so that they wait for longer ones too.
+/// The ring has one place. Packet 0 finds it free, and each of the 199 others and the end mark find it full so many times: once, twice
+/// or three times.
 #[test]
 fn each_packet_and_the_mark_wait_for_the_only_place(rt: HostRuntime) -> Result<(), Fail> {
     for rounds in 1..4 {
@@ -27,6 +29,34 @@ fn each_packet_and_the_mark_wait_for_the_only_place(rt: HostRuntime) -> Result<(
         assert_eq!(rt; (gate.taken, gate.out_of_order), (200, 0));
         assert_eq!(rt; gate.full, 200 * rounds);
         assert!(rt; matches!(gate.end.next(), Some(Arrival::End)));
+    }
+    Ok(())
+}
+
+/// All five packets find a place, and the end mark gets that of the first one.
+#[test]
+fn the_mark_waits_for_a_place(rt: HostRuntime) -> Result<(), Fail> {
+    for _ in 0..200 {
+        let (port, end) = ring(rt.alloc(), 5)?;
+        let (_, finished, mut gate) = run(&rt, rt.alloc(), port, EmptyingGate::new(end, 1), 5)?;
+        assert!(rt; finished.is_ended());
+        assert_eq!(rt; (gate.taken, gate.full), (1, 1));
+        for _ in 0..4 {
+            assert!(rt; matches!(gate.end.next(), Some(Arrival::Packet(_))));
+        }
+        assert!(rt; matches!(gate.end.next(), Some(Arrival::End)));
+    }
+    Ok(())
+}
+
+/// The gate lets the worker wait as long as it likes: another thread makes room while the worker sleeps.
+#[test]
+fn another_thread_makes_room(rt: HostRuntime) -> Result<(), Fail> {
+    for _ in 0..5 {
+        let (port, end) = ring(rt.alloc(), 1)?;
+        let (full, taken) = run_beside(&rt, rt.alloc(), port, end, 60);
+        assert!(rt; 0 < full);
+        assert_eq!(rt; taken, (60, 0));
     }
     Ok(())
 }

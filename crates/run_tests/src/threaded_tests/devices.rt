@@ -1,5 +1,6 @@
 //! Readers and writers over memory, which fail where a test wants it.
 
+use std::alloc::Global;
 use std::io;
 use std::io::{ErrorKind, Read, Write};
 
@@ -44,6 +45,16 @@ impl Read for TestReader {
 pub struct TestWriter {
     pub bytes: Vec<u8>,
     pub room: usize,
+}
+
+impl TestWriter {
+    /// One that has room for all.
+    pub fn new(alloc: Global) -> TestWriter {
+        TestWriter {
+            bytes: Vec::new(alloc),
+            room: usize::MAX,
+        }
+    }
 }
 
 impl Write for TestWriter {

@@ -10,6 +10,7 @@ use reading::InputLimit;
 use serial::{RunFault, WriteSink};
 use std::alloc::Global;
 use std::io::Write;
+use std::process::Abort;
 use std::sync::Wait;
 use std::test::Fail;
 use std::thread::Threads;
@@ -41,9 +42,11 @@ impl<T: Clock> Write for SlowWriter<T> {
     }
 }
 
-/// When the second input begins, in ticks of 27 MHz: the runs have more than 3,000 slots, which is fewer than may be on their way to
-/// the output, and more than 9,000, which is more.
-const BEGINS: [u64; 2] = [81_000_000, 243_000_000];
+/// When the second input begins, in ticks of 27 MHz: the run has more than 9,000 slots, and no block is left when its writer fails.
+const LONG: u64 = 243_000_000;
+
+/// The same of a run of more than 3,000 slots, which is over by then: 3,840 packets may be on their way to the output.
+const SHORT: u64 = 81_000_000;
 
 /// A plan of two inputs, of which the second one begins this long after the first.
 fn long_plan(alloc: Global, begins: u64) -> Result<Plan> {
@@ -73,17 +76,27 @@ fn written_slowly<T: Threads + Wait + Clock + Copy + Send + Drop + 'static>(
     Ok((sink.into_inner().writer.bytes, result.err()))
 }
 
-/// The run ends though nothing takes its packets any more, and what was written is a beginning of its output.
-#[test]
-fn a_writer_that_fails_while_its_ring_is_full_ends_the_run(rt: HostRuntime) -> Result<(), Fail> {
-    let alloc = rt.alloc();
-    for begins in BEGINS {
-        let (serial_bytes, _) = run_in_one(alloc, long_plan(alloc, begins)?)?;
-        for room in [0, 100_000] {
-            let (bytes, fault) = written_slowly(alloc, rt, begins, room)?;
-            assert!(rt; matches!(&fault, Some(RunFault::Write)));
-            assert!(rt; serial_bytes.get(..room) == Some(bytes.as_slice()));
-        }
+/// Runs end though nothing takes their packets any more, and what was written is a beginning of their output.
+fn end_well<T: Threads + Wait + Clock + Abort + Copy + Send + Drop + 'static>(
+    alloc: Global,
+    rt: T,
+    begins: u64,
+) -> Result<()> {
+    let (serial_bytes, _) = run_in_one(alloc, long_plan(alloc, begins)?)?;
+    for room in [0, 100_000] {
+        let (bytes, fault) = written_slowly(alloc, rt, begins, room)?;
+        assert!(rt; matches!(&fault, Some(RunFault::Write)));
+        assert!(rt; serial_bytes.get(..room) == Some(bytes.as_slice()));
     }
     Ok(())
+}
+
+#[test]
+fn a_writer_that_fails_while_its_ring_is_full_ends_the_run(rt: HostRuntime) -> Result<(), Fail> {
+    Ok(end_well(rt.alloc(), rt, LONG)?)
+}
+
+#[test]
+fn a_writer_that_fails_after_the_last_slot_ends_the_run(rt: HostRuntime) -> Result<(), Fail> {
+    Ok(end_well(rt.alloc(), rt, SHORT)?)
 }

@@ -1,4 +1,4 @@
-//! Runs that wait for their writer, and end well: each writes what the run in one thread writes.
+//! Runs to a writer that sleeps now and then, which end well: each writes what the run in one thread writes.
 
 use crate::threaded_tests::devices::TestWriter;
 use crate::threaded_tests::runs::{readers, run_one};
@@ -18,7 +18,7 @@ use std::time::{Clock, Duration};
 use std::{io, thread};
 use threaded::run_threads;
 
-/// When the second input begins, in ticks of 27 MHz: a run has more than 9,000 slots, several times as many as are on their way to
+/// When the second input begins, in ticks of 27 MHz: a run has more than 9,000 slots, more than twice as many as are on their way to
 /// the output at most.
 const BEGINS: u64 = 243_000_000;
 
@@ -28,12 +28,23 @@ const SLOTS: u64 = 10_000;
 /// How many runs go through rings of one size.
 const RUNS: u64 = 20;
 
-/// A writer that sleeps at each fourth write, for longer than the run takes to fill all that may be on its way.
+/// A writer that sleeps at each fourth write.
 #[derive(Drop)]
-struct SleepyWriter<T> {
+pub struct SleepyWriter<T> {
     clock: T,
-    writer: TestWriter,
+    pub writer: TestWriter,
     writes: u32,
+}
+
+impl<T: Clock> SleepyWriter<T> {
+    /// One that got nothing.
+    pub fn new(clock: T, writer: TestWriter) -> SleepyWriter<T> {
+        SleepyWriter {
+            clock,
+            writer,
+            writes: 0,
+        }
+    }
 }
 
 impl<T: Clock> Write for SleepyWriter<T> {
@@ -63,15 +74,7 @@ fn written<T: Threads + Wait + Clock + Abort + Copy + Send + Drop + 'static>(
     if plan.inputs().len() != readers.len() || gates.len() != readers.len() {
         bail!("the plan has another number of inputs");
     }
-    let writer = TestWriter {
-        bytes: Vec::new(alloc),
-        room: usize::MAX,
-    };
-    let sink = WriteSink::new(SleepyWriter {
-        clock: rt,
-        writer,
-        writes: 0,
-    });
+    let sink = WriteSink::new(SleepyWriter::new(rt, TestWriter::new(alloc)));
     let limit = InputLimit::OfFormat;
     let (sink, result) = run_threads(alloc, rt, plan, SLOTS, limit, readers, gates, sink);
     let _ = result?;
@@ -92,7 +95,8 @@ fn write_all<T: Threads + Wait + Clock + Abort + Copy + Send + Drop + 'static>(
     Ok(())
 }
 
-/// Blocks are used again and again in these runs, and the thread that ticks waits for one.
+/// Blocks are used again and again in these runs. Whether the thread that ticks waits for one depends on the machine; in the runs of
+/// the crate `stall_tests` it does on each.
 #[test]
 fn each_run_that_waits_for_its_writer_writes_the_same(rt: HostRuntime) -> Result<(), Fail> {
     let alloc = rt.alloc();
