@@ -310,8 +310,8 @@ mistake 'a multiplex that is too slow' 0 's|^rate = 3000000$|rate = 1200000|' <<
 services: measured N bits a second of 1200000, the tables take 24000
 overfull: the services take more than the 1176000 bits a second that rate 1200000 leaves after the tables: raise it, or leave a service out
 END
-cp mistake.toml full.toml
-answer 'the same in a strict run' 1 run --plan full.toml --out out.ts --strict << 'END'
+sed 's|^queue = 1024$|queue = 64|' mistake.toml > full.toml
+answer 'the same in a strict run, with short queues' 1 run --plan full.toml --out out.ts --strict << 'END'
 end: all inputs ended
 overfull: stream N: its queue was full, with 64 packets
 END
