@@ -16,6 +16,6 @@ IsReceived old None new = new ≡ old
 -- mark came out of it, which the port then sent.
 pub record IsLeft (end : RingEndValue) (finished : FinishedValue) (count : ℕ) : Type 0 where
   pub rest : List Stamped
-  pub shown : finished.shown ≡ Some (record { ring = end.ring; sent = end.received ++ rest })
+  pub port : finished.port ≡ record { ring = end.ring; sent = end.received ++ rest }
   pub count_is : length rest ≡ count
   pub marked : end.is_ended ≡ true → (finished.is_ended ≡ true) × (rest ≡ [])

@@ -1,5 +1,5 @@
 -- Rings, and what contracts see of their two ends (profile).
-use Rattle.std.specs.Prelude.{◌≡◌, ℕ, List, [], length, Bool, false, Option, Some}
+use Rattle.std.specs.Prelude.{◌≡◌, ℕ, List, [], length, Bool, false, Some}
 use Rattle.std.specs.List.{slice_get}
 use Rattle.std.specs.declared.alloc.Global.{Global}
 use denote.RawPtr.{Ptr}
@@ -33,7 +33,7 @@ pub record RingEndValue : Type 0 where
 
 -- a port that sends no more: what it was, and whether the end mark was sent
 pub record FinishedValue : Type 0 where
-  pub shown : Option PortValue
+  pub port : PortValue
   pub is_ended : Bool
 
 -- the two ends of one ring of this input, through which nothing went

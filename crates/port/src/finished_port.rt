@@ -1,6 +1,6 @@
 //! What is left of a port that sends no more.
 
-ghost use Rattle.std.specs.Prelude.{◌≡◌, IsSomeAnd};
+ghost use Rattle.std.specs.Prelude.{◌≡◌};
 ghost use Rattle.rtrb.specs.Ring.{sent};
 ghost use Rattle.port.specs.Arrivals.{packets_of, EndsMarked};
 ghost use Rattle.port.specs.Rings.{ring_id};
@@ -21,7 +21,6 @@ pub struct FinishedPort {
 }
 
 impl Model for FinishedPort {
-    ghost use Rattle.std.specs.Prelude.{Some};
     ghost use Rattle.rtrb.specs.Ring.{sent};
     ghost use Rattle.port.specs.Arrivals.{packets_of, EndsMarked};
     ghost use Rattle.port.specs.Rings.{FinishedValue, ring_id};
@@ -29,10 +28,7 @@ impl Model for FinishedPort {
     ghost Value = { FinishedValue };
 
     ghost view = { λ f. record {
-      shown = Some (record {
-        ring = ring_id f.producer.end f.input;
-        sent = packets_of (sent f.producer);
-      });
+      port = record { ring = ring_id f.producer.end f.input; sent = packets_of (sent f.producer) };
       is_ended = f.is_ended;
     } };
 
@@ -42,7 +38,7 @@ impl Model for FinishedPort {
 impl FinishedPort {
     /// The number of its input.
     pub fn input(&self) -> usize
-        ensures { IsSomeAnd self.now.shown (λ port. port.ring.input ≡ result) }
+        ensures { result ≡ self.now.port.ring.input }
     {
         self.input
     }

@@ -1,6 +1,6 @@
 //! The end of a ring that sends.
 
-ghost use Rattle.std.specs.Prelude.{◌≡◌, ◌++◌, ◌∷◌, [], true, false, IfSome, MatchBool, MatchResult};
+ghost use Rattle.std.specs.Prelude.{◌≡◌, ◌++◌, ◌∷◌, [], true, false, MatchBool, MatchResult};
 
 use crate::carried::Carried;
 use crate::finished_port::FinishedPort;
@@ -66,7 +66,7 @@ impl Port {
     #[tactic(auto, using(crate::proofs::RingLaws::same_id, crate::proofs::ArrivalLaws::packets_of_mark, crate::proofs::ArrivalLaws::marks_of_mark))]
     pub fn end(self) -> Result<FinishedPort, Port>
         ensures { MatchResult result
-            (λ finished. IfSome finished.shown (λ port. port ≡ self) × (finished.is_ended ≡ true))
+            (λ finished. (finished.port ≡ self) × (finished.is_ended ≡ true))
             (λ port. port ≡ self) }
     {
         let Port {
@@ -85,7 +85,7 @@ impl Port {
 
     /// Sends nothing more, and no end mark.
     pub fn finish(self) -> FinishedPort
-        ensures port { IfSome result.shown (λ port. port ≡ self) }
+        ensures port { result.port ≡ self }
         ensures unmarked { result.is_ended ≡ false }
     {
         FinishedPort {

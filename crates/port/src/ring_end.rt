@@ -1,6 +1,6 @@
 //! The end of a ring that receives.
 
-ghost use Rattle.std.specs.Prelude.{◌≡◌, ◌<◌, false, length, IfSome};
+ghost use Rattle.std.specs.Prelude.{◌≡◌, ◌<◌, false, length};
 ghost use Rattle.port.specs.Receiving.{IsReceived, IsLeft};
 ghost use Rattle.port.specs.Advancing.{IsAdvanced, IsLast};
 
@@ -88,7 +88,7 @@ impl RingEnd {
     /// How many packets didn't come out of it, of the port that was made with this end and sends no more. The end mark isn't
     /// counted.
     pub fn left(&mut self, finished: &mut FinishedPort) -> u64
-        requires { IfSome finished.old.shown (λ port. port.ring ≡ self.old.ring) }
+        requires { finished.old.port.ring ≡ self.old.ring }
         ensures end { self.new ≡ self.old }
         ensures port { finished.new ≡ finished.old }
         ensures left { IsLeft self.old finished.old result }

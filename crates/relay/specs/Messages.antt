@@ -2,7 +2,6 @@
 use Rattle.std.specs.Prelude.{◌≡◌, ◌≤◌, ℕ, ◌+◌, List, [], ◌∷◌, ◌++◌, Bool, true, false, vec_capacity}
 use Rattle.std.specs.declared.alloc.Global.{Global}
 use Rattle.std.specs.declared.vec.Vec.{Vec}
-use Rattle.relay.specs.declared.room.TheConstants.{ROOM}
 use Rattle.relay.specs.declared.message.Message.{Message}
 use Rattle.relay.specs.declared.message.Message.TheVariants.{Block, End}
 
@@ -28,11 +27,15 @@ abbrev pub EndsMarked : Bool → List Message → Type 0
 EndsMarked true all = (before : List Message) × (all ≡ before ++ End ∷ []) × (marks_of before ≡ 0)
 EndsMarked false all = marks_of all ≡ 0
 
--- a block has room for as many packets as any
+-- for how many packets a block has room, at least
+abbrev pub block_room : ℕ
+block_room = 256
+
+-- a block has room for 256 packets
 abbrev pub HasRoom : Message → Type 0
-HasRoom (Block block) = ROOM ≤ vec_capacity block
+HasRoom (Block block) = block_room ≤ vec_capacity block
 HasRoom End = Unit {0}
 
 -- so has an empty one
 abbrev pub IsEmptyBlock : Vec (List ℕ) Global → Type 0
-IsEmptyBlock block = (block.items ≡ []) × (ROOM ≤ vec_capacity block)
+IsEmptyBlock block = (block.items ≡ []) × (block_room ≤ vec_capacity block)

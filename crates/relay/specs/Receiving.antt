@@ -15,6 +15,6 @@ IsReceived old None new = new ≡ old
 -- the end mark came out of it, which the sender then sent.
 pub record IsLeft (receiver : ReceiverValue) (finished : FinishedValue) (count : ℕ) : Type 0 where
   pub rest : List (List (List ℕ))
-  pub shown : finished.shown ≡ Some (record { relay = receiver.relay; sent = receiver.received ++ rest })
+  pub sender : finished.sender ≡ record { relay = receiver.relay; sent = receiver.received ++ rest }
   pub count_is : length rest ≡ count
   pub marked : receiver.is_ended ≡ true → (finished.is_ended ≡ true) × (rest ≡ [])

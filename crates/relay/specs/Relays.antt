@@ -1,21 +1,32 @@
 -- Relays, and what contracts see of their two ends (profile).
-use Rattle.std.specs.Prelude.{◌≡◌, ℕ, List, [], Bool, false, Option}
+use Rattle.std.specs.Prelude.{◌≡◌, ℕ, List, [], Bool, false}
 use Rattle.std.specs.declared.alloc.Global.{Global}
+use Rattle.std.specs.declared.vec.Vec.{Vec}
 use denote.RawPtr.{Ptr}
 use Rattle.rtrb.specs.Shared.{Names}
 use Rattle.rtrb.specs.declared.end.End.{End}
+use Rattle.relay.specs.declared.empty_blocks.EmptyBlocks.{EmptyBlocks}
 use Rattle.relay.specs.declared.message.Message.{Message}
 use Rattle.relay.specs.declared.nothing_after_end.NothingAfterEnd.{NothingAfterEnd}
 
--- which relay it is: a sender and a receiver with one of these are the two ends of one relay
-pub record RelayId : Type 0 where
+-- which ring it is
+pub record RingId : Type 0 where
   pub words : Ptr
   pub slots : Ptr
   pub names : Names
   pub heap : Global
 
-abbrev pub relay_id : End Message Global NothingAfterEnd → RelayId
-relay_id e = record { words = e.words; slots = e.slots; names = e.names; heap = e.heap }
+abbrev pub ring_id : {T P : Type 0} → End T Global P → RingId
+ring_id e = record { words = e.words; slots = e.slots; names = e.names; heap = e.heap }
+
+-- Which relay it is: the ring that blocks go through, and the one that they come back by. A sender and a receiver with one of these
+-- are the two ends of one relay.
+pub record RelayId : Type 0 where
+  pub messages : RingId
+  pub empties : RingId
+
+abbrev pub relay_id : End Message Global NothingAfterEnd → End (Vec (List ℕ) Global) Global EmptyBlocks → RelayId
+relay_id messages empties = record { messages = ring_id messages; empties = ring_id empties }
 
 -- a sender: its relay, and the packets of each block that it sent, oldest first
 pub record SenderValue : Type 0 where
@@ -32,7 +43,7 @@ pub record ReceiverValue : Type 0 where
 
 -- a sender that sends no more: what it was, and whether the end mark was sent
 pub record FinishedValue : Type 0 where
-  pub shown : Option SenderValue
+  pub sender : SenderValue
   pub is_ended : Bool
 
 -- the two ends of one relay with so many empty blocks, through which nothing went

@@ -1,14 +1,13 @@
 //! The end of a relay that receives.
 
 ghost use Rattle.std.specs.Prelude.{◌≡◌, ◌≤◌, ◌+◌, [], vec_capacity, IfSome, MatchResult};
-ghost use Rattle.relay.specs.Messages.{HasRoom};
+ghost use Rattle.relay.specs.Messages.{block_room, HasRoom};
 ghost use Rattle.relay.specs.Receiving.{IsReceived, IsLeft};
 
 use crate::empty_blocks::EmptyBlocks;
 use crate::finished_sender::FinishedSender;
 use crate::message::Message;
 use crate::nothing_after_end::NothingAfterEnd;
-use crate::room::ROOM;
 use rtrb::{Consumer, Producer, PushError};
 use std::alloc::Global;
 use std::marker::Model;
@@ -33,7 +32,7 @@ impl Model for BlockReceiver {
     ghost Value = { ReceiverValue };
 
     ghost view = { λ r. record {
-      relay = relay_id r.consumer.end;
+      relay = relay_id r.consumer.end r.empties.end;
       received = blocks_of (received r.consumer);
       returned = length (sent r.empties);
       is_ended = r.is_ended;
@@ -45,7 +44,7 @@ impl Model for BlockReceiver {
 impl BlockReceiver {
     /// Takes what comes next: a block, or the end mark. `None` is answered where nothing is seen in the ring, and always behind the
     /// end mark.
-    #[tactic(auto, using(crate::proofs::RelayLaws::same_id, crate::proofs::MessageLaws::blocks_of_snoc, crate::proofs::MessageLaws::blocks_of_mark, crate::proofs::MessageLaws::marks_of_snoc, crate::proofs::MessageLaws::marks_of_mark, crate::proofs::MessageLaws::unmarked))]
+    #[tactic(auto, using(crate::proofs::RelayLaws::same_rings, crate::proofs::RelayLaws::same_messages, crate::proofs::RelayLaws::same_empties, crate::proofs::MessageLaws::blocks_of_snoc, crate::proofs::MessageLaws::blocks_of_mark, crate::proofs::MessageLaws::marks_of_snoc, crate::proofs::MessageLaws::marks_of_mark, crate::proofs::MessageLaws::unmarked))]
     pub fn next(&mut self) -> Option<Message>
         ensures relay { self.new.relay ≡ self.old.relay }
         ensures received { IsReceived self.old result self.new }
@@ -69,7 +68,7 @@ impl BlockReceiver {
     /// Gives a block back to the sender, with or without packets: they go no further. Where no free place is seen in the ring it is
     /// answered, empty. No more blocks are made with a relay than that ring has places, so none of its own finds it full.
     pub fn give_back(&mut self, block: Vec<Packet>) -> Result<(), Vec<Packet>>
-        requires { ROOM ≤ vec_capacity block }
+        requires { block_room ≤ vec_capacity block }
         ensures { MatchResult result
             (λ _. self.new ≡ record self.old { returned = self.old.returned + 1 })
             (λ back. (back.items ≡ []) × (self.new ≡ self.old)) }
@@ -92,12 +91,16 @@ impl BlockReceiver {
     /// How many blocks didn't come out of it, of the sender that was made with this receiver and sends no more. The end mark isn't
     /// counted.
     pub fn left(&mut self, finished: &mut FinishedSender) -> u64
-        requires { IfSome finished.old.shown (λ sender. sender.relay ≡ self.old.relay) }
+        requires { finished.old.sender.relay ≡ self.old.relay }
         ensures receiver { self.new ≡ self.old }
         ensures sender { finished.new ≡ finished.old }
         ensures left { IsLeft self.old finished.old result }
     {
-        let FinishedSender { producer, is_ended } = finished;
+        let FinishedSender {
+            producer,
+            is_ended,
+            ..
+        } = finished;
         let items = self.consumer.slots_beside(producer);
         let marks = if *is_ended && !self.is_ended { 1 } else { 0 };
         (items - marks) as u64

@@ -1,12 +1,13 @@
 //! The end of a relay that sends.
 
-ghost use Rattle.std.specs.Prelude.{◌≡◌, ◌≤◌, ◌++◌, ◌∷◌, [], true, false, vec_capacity, IfSome, MatchBool, MatchResult};
+ghost use Rattle.std.specs.Prelude.{◌≡◌, ◌≤◌, ◌++◌, ◌∷◌, [], true, false, vec_capacity, MatchBool, MatchResult};
+ghost use Rattle.relay.specs.Messages.{block_room};
 
 use crate::empty_blocks::EmptyBlocks;
 use crate::finished_sender::FinishedSender;
 use crate::message::Message;
 use crate::nothing_after_end::NothingAfterEnd;
-use crate::room::{KEPT, ROOM};
+use crate::room::KEPT;
 use rtrb::{Consumer, Producer};
 use std::alloc::Global;
 use std::marker::Model;
@@ -31,7 +32,7 @@ impl Model for BlockSender {
     ghost Value = { SenderValue };
 
     ghost view = { λ s. record {
-      relay = relay_id s.producer.end;
+      relay = relay_id s.producer.end s.empties.end;
       sent = blocks_of (sent s.producer);
     } };
 
@@ -41,14 +42,14 @@ impl Model for BlockSender {
 impl BlockSender {
     /// Sends a block, and leaves an empty one in its place. False is answered where no empty block is seen that came back, or no
     /// free place in the ring, and then nothing changed.
-    #[tactic(auto, using(crate::proofs::RelayLaws::same_id, crate::proofs::MessageLaws::blocks_of_snoc, crate::proofs::MessageLaws::marks_of_snoc))]
+    #[tactic(auto, using(crate::proofs::RelayLaws::same_rings, crate::proofs::RelayLaws::same_messages, crate::proofs::RelayLaws::same_empties, crate::proofs::MessageLaws::blocks_of_snoc, crate::proofs::MessageLaws::marks_of_snoc))]
     pub fn send(&mut self, block: &mut Vec<Packet>) -> bool
-        requires { ROOM ≤ vec_capacity block.old }
+        requires { block_room ≤ vec_capacity block.old }
         ensures relay { self.new.relay ≡ self.old.relay }
         ensures sent { MatchBool result
             ((self.new ≡ record self.old { sent = self.old.sent ++ block.old.items ∷ [] }) × (block.new.items ≡ []))
             ((self.new ≡ self.old) × (block.new.items ≡ block.old.items)) }
-        ensures room { ROOM ≤ vec_capacity block.new }
+        ensures room { block_room ≤ vec_capacity block.new }
     {
         let BlockSender { producer, empties } = self;
         if producer.is_full() {
@@ -65,14 +66,14 @@ impl BlockSender {
     /// Sends a block as `send` does, but leaves the last `KEPT` empty ones to `send`: false is answered too where no more are seen
     /// that came back, and then nothing changed. Where only full blocks are sent by `send`, and no empty one is left, the last `KEPT`
     /// that were sent are full.
-    #[tactic(auto, using(crate::proofs::RelayLaws::same_id))]
+    #[tactic(auto, using(crate::proofs::RelayLaws::same_rings, crate::proofs::RelayLaws::same_messages, crate::proofs::RelayLaws::same_empties))]
     pub fn offer(&mut self, block: &mut Vec<Packet>) -> bool
-        requires { ROOM ≤ vec_capacity block.old }
+        requires { block_room ≤ vec_capacity block.old }
         ensures relay { self.new.relay ≡ self.old.relay }
         ensures sent { MatchBool result
             ((self.new ≡ record self.old { sent = self.old.sent ++ block.old.items ∷ [] }) × (block.new.items ≡ []))
             ((self.new ≡ self.old) × (block.new.items ≡ block.old.items)) }
-        ensures room { ROOM ≤ vec_capacity block.new }
+        ensures room { block_room ≤ vec_capacity block.new }
     {
         if self.empties.slots() <= KEPT {
             return false;
@@ -81,10 +82,10 @@ impl BlockSender {
     }
 
     /// Sends the end mark, and nothing after it. Where no free place is seen in the ring the sender comes back, unchanged.
-    #[tactic(auto, using(crate::proofs::RelayLaws::same_id, crate::proofs::MessageLaws::blocks_of_mark, crate::proofs::MessageLaws::marks_of_mark))]
+    #[tactic(auto, using(crate::proofs::RelayLaws::same_rings, crate::proofs::RelayLaws::same_messages, crate::proofs::RelayLaws::same_empties, crate::proofs::MessageLaws::blocks_of_mark, crate::proofs::MessageLaws::marks_of_mark))]
     pub fn end(self) -> Result<FinishedSender, BlockSender>
         ensures { MatchResult result
-            (λ finished. IfSome finished.shown (λ sender. sender ≡ self) × (finished.is_ended ≡ true))
+            (λ finished. (finished.sender ≡ self) × (finished.is_ended ≡ true))
             (λ sender. sender ≡ self) }
     {
         let BlockSender {
@@ -94,6 +95,7 @@ impl BlockSender {
         match producer.push(Message::End) {
             Ok(()) => Ok(FinishedSender {
                 producer,
+                empties,
                 is_ended: true,
             }),
             Err(_) => Err(BlockSender { producer, empties }),
@@ -102,11 +104,12 @@ impl BlockSender {
 
     /// Sends nothing more, and no end mark.
     pub fn finish(self) -> FinishedSender
-        ensures sender { IfSome result.shown (λ sender. sender ≡ self) }
+        ensures sender { result.sender ≡ self }
         ensures unmarked { result.is_ended ≡ false }
     {
         FinishedSender {
             producer: self.producer,
+            empties: self.empties,
             is_ended: false,
         }
     }

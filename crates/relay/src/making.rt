@@ -1,7 +1,7 @@
 //! Makes a relay.
 
 ghost use Rattle.std.specs.Prelude.{◌≡◌, ◌+◌, ◌≤◌, length, IfOk};
-ghost use Rattle.rtrb.specs.Ring.{sent, known_free};
+ghost use Rattle.rtrb.specs.Ring.{sent, known_free, SameProducer};
 ghost use Rattle.relay.specs.Relays.{IsNewRelay};
 
 use crate::block_receiver::BlockReceiver;
@@ -20,7 +20,8 @@ fn fill(
     empties: &mut Producer<Vec<Packet>, Global, EmptyBlocks>,
 ) -> Result<(), AllocError>
     requires { blocks ≤ known_free empties.old }
-    ensures { IfOk result (λ _. length (sent empties.new) ≡ length (sent empties.old) + blocks) }
+    ensures ring { SameProducer empties.old empties.new }
+    ensures sent { IfOk result (λ _. length (sent empties.new) ≡ length (sent empties.old) + blocks) }
 {
     for _block in 0..blocks {
         empties.push_reserved(Vec::with_capacity(alloc, ROOM)?);

@@ -1,4 +1,5 @@
 ghost use Rattle.std.specs.Prelude.{◌≡◌, ◌≤◌, vec_capacity, IfOk};
+ghost use Rattle.relay.specs.Messages.{block_room};
 
 use crate::making::relay;
 use crate::room::{KEPT, ROOM};
@@ -9,7 +10,7 @@ use tspkt::{Packet, null};
 
 /// A block of one packet.
 fn block_of_one(alloc: Global) -> Result<Vec<Packet>, AllocError>
-    ensures { IfOk result (λ block. ROOM ≤ vec_capacity block) }
+    ensures { IfOk result (λ block. block_room ≤ vec_capacity block) }
 {
     let mut block = Vec::with_capacity(alloc, ROOM)?;
     block.push(null())?;
@@ -18,9 +19,9 @@ fn block_of_one(alloc: Global) -> Result<Vec<Packet>, AllocError>
 
 /// Puts a packet behind those of the block, and sends it.
 fn send_one(sender: &mut BlockSender, block: &mut Vec<Packet>) -> Result<bool, AllocError>
-    requires { ROOM ≤ vec_capacity block.old }
+    requires { block_room ≤ vec_capacity block.old }
     ensures relay { sender.new.relay ≡ sender.old.relay }
-    ensures room { ROOM ≤ vec_capacity block.new }
+    ensures room { block_room ≤ vec_capacity block.new }
 {
     block.push(null())?;
     Ok(sender.send(block))
@@ -102,9 +103,9 @@ fn a_sender_without_an_empty_block_keeps_its_own(rt: HostRuntime) -> Result<(), 
 
 /// Offers a block of one packet.
 fn offer_one(sender: &mut BlockSender, block: &mut Vec<Packet>) -> Result<bool, AllocError>
-    requires { ROOM ≤ vec_capacity block.old }
+    requires { block_room ≤ vec_capacity block.old }
     ensures relay { sender.new.relay ≡ sender.old.relay }
-    ensures room { ROOM ≤ vec_capacity block.new }
+    ensures room { block_room ≤ vec_capacity block.new }
 {
     block.clear();
     block.push(null())?;

@@ -1,7 +1,7 @@
-use Rattle.std.proofs.Common.{rules, ◌≡◌, List, ◌++◌, length, true, arith, ap, Some, ◌∙◌, sym}
+use Rattle.std.proofs.Common.{rules, ◌≡◌, List, ◌++◌, length, true, arith, ap, ◌∙◌, sym}
 use Rattle.rtrb.specs.Ring.{sent}
 use Rattle.port.specs.Arrivals.{marks_of, mark_count, packets_of}
-use Rattle.port.specs.Rings.{ring_id, RingEndValue, FinishedValue}
+use Rattle.port.specs.Rings.{ring_id, PortValue, RingEndValue, FinishedValue}
 use Rattle.port.specs.declared.arrival.Arrival.{Arrival}
 use Rattle.port.proofs.ArrivalLaws.{packets_left, marks_left, length_arrivals, mark_came, marks_are}
 use Rattle.port.proofs.ring_end.RingEnd.left.Goals as goal
@@ -22,10 +22,10 @@ returns-clause-left c =
     let packets = packets_left got rest all fifo in
     record {
       rest = packets_of rest;
-      shown =
-          sym (ap (λ (f : FinishedValue). f.shown) c.finished.view_is)
-          ∙ ((λ i. Some (record { ring = same i; sent = packets i }))
-          ∙ ap (λ (e : RingEndValue). Some (record { ring = e.ring; sent = e.received ++ packets_of rest })) c.self.view_is);
+      port =
+          sym (ap (λ (f : FinishedValue). f.port) c.finished.view_is)
+          ∙ ((λ i. record { ring = same i; sent = packets i })
+          ∙ ap (λ (e : RingEndValue). let p : PortValue = record { ring = e.ring; sent = e.received ++ packets_of rest } in p) c.self.view_is);
       marked = λ m.
           let own : c.self.inside.is_ended ≡ true = ap (λ (e : RingEndValue). e.is_ended) c.self.view_is ∙ m in
           let came = mark_came c.finished.inside.is_ended got rest all fifo c.finished.invariant (got_marks ∙ ap mark_count own) in

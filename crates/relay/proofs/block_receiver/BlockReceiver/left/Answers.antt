@@ -1,7 +1,7 @@
-use Rattle.std.proofs.Common.{rules, ◌≡◌, List, ◌++◌, length, true, arith, ap, Some, ◌∙◌, sym}
+use Rattle.std.proofs.Common.{rules, ◌≡◌, List, ◌++◌, length, true, arith, ap, ◌∙◌, sym}
 use Rattle.rtrb.specs.Ring.{sent, received, known_items}
 use Rattle.relay.specs.Messages.{marks_of, mark_count, blocks_of}
-use Rattle.relay.specs.Relays.{relay_id, ReceiverValue, FinishedValue}
+use Rattle.relay.specs.Relays.{relay_id, SenderValue, ReceiverValue, FinishedValue}
 use Rattle.relay.specs.declared.message.Message.{Message}
 use Rattle.relay.proofs.MessageLaws.{blocks_left, marks_left, length_messages, mark_came, marks_are}
 use Rattle.relay.proofs.block_receiver.BlockReceiver.left.Goals as goal
@@ -15,7 +15,7 @@ returns-clause-left c =
     let all : List Message = sent c.finished.inside.producer in
     let fifo : got ++ rest ≡ all = search rules in
     let value : length rest ≡ look.result = sym look.ensures.value in
-    let same : relay_id c.finished.inside.producer.end ≡ relay_id c.self.inside.consumer.end = search rules in
+    let same : relay_id c.finished.inside.producer.end c.finished.inside.empties.end ≡ relay_id c.self.inside.consumer.end c.self.inside.empties.end = search rules in
     let sent_marks : marks_of all ≡ mark_count c.finished.inside.is_ended = marks_are c.finished.inside.is_ended all c.finished.invariant in
     let got_marks : marks_of got ≡ mark_count c.self.inside.is_ended = c.self.invariant in
     let counted = marks_left got rest all fifo in
@@ -23,10 +23,10 @@ returns-clause-left c =
     let blocks = blocks_left got rest all fifo in
     record {
       rest = blocks_of rest;
-      shown =
-          sym (ap (λ (f : FinishedValue). f.shown) c.finished.view_is)
-          ∙ ((λ i. Some (record { relay = same i; sent = blocks i }))
-          ∙ ap (λ (e : ReceiverValue). Some (record { relay = e.relay; sent = e.received ++ blocks_of rest })) c.self.view_is);
+      sender =
+          sym (ap (λ (f : FinishedValue). f.sender) c.finished.view_is)
+          ∙ ((λ i. record { relay = same i; sent = blocks i })
+          ∙ ap (λ (e : ReceiverValue). let s : SenderValue = record { relay = e.relay; sent = e.received ++ blocks_of rest } in s) c.self.view_is);
       marked = λ m.
           let own : c.self.inside.is_ended ≡ true = ap (λ (e : ReceiverValue). e.is_ended) c.self.view_is ∙ m in
           let came = mark_came c.finished.inside.is_ended got rest all fifo c.finished.invariant (got_marks ∙ ap mark_count own) in
