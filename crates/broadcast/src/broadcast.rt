@@ -276,7 +276,7 @@ impl<E: PublishingEnd> Broadcast<E> {
 
     /// What became of the packets that a port of this broadcast sent, which sends no more.
     pub fn settle(&mut self, port: FinishedPort) -> Settled
-        requires { IfSome port.shown (λ p. slice_get (rings_of self.old.station.inputs) p.ring.input ≡ Some p.ring) }
+        requires { slice_get (rings_of self.old.station.inputs) port.port.ring.input ≡ Some port.port.ring }
         ensures same { self.new ≡ self.old }
         ensures settled { IsSettled self.old.station port result }
     {

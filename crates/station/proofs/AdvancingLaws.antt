@@ -1,5 +1,6 @@
 -- Steps of a station, one behind the other.
 use Rattle.std.proofs.Common.{ℕ, zero, suc, ◌+◌, ◌≡◌, ◌⊎◌, Bool, true, false, ◌||◌, List, [], ◌∷◌, ◌++◌, set, slice_get, Some, None, refl, ap, sym, subst, ◌∙◌, arith, inl, inr, append-nil, append_assoc, if◌then◌else◌}
+use Rattle.std.specs.Prelude.{IsSome}
 use Rattle.plan.specs.Build.{PlanValue}
 use Rattle.mux.specs.declared.event.Event.{Event}
 use Rattle.mux.specs.declared.event.Event.TheVariants.{Took, Full, Close}
@@ -12,7 +13,7 @@ use Rattle.mux.specs.declared.sending.Sending.TheVariants as sending
 use Rattle.mux.specs.declared.slot.Slot.TheVariants as slot
 use Rattle.station.specs.declared.inlet.Inlet.{Inlet}
 use Rattle.station.specs.Stations.{StationValue, IsLawfulInlet, rings_of}
-use Rattle.station.specs.Moving.{TakesNext, EndsTaking, EndsBy, Ending, Nothing, Mark, HeldBack, IsHeldBack}
+use Rattle.station.specs.Moving.{TakesNext, EndsTaking, ComesUntaken, EndsBy, Ending, Nothing, Mark, HeldBack, IsHeldBack}
 use Rattle.station.specs.Advancing.{IsStep, Steps, IsStuck}
 use Rattle.station.proofs.StationLaws.{ends_ring}
 
@@ -36,6 +37,24 @@ nothing_came i a x b y (Nothing, is) opened none = (is.1, is.2, is.0)
 nothing_came i a x b y (Mark, is) opened none = absurd (let closed : y.is_closed ≡ true = ap (λ (v : Inlet). v.is_closed) is.2 in cc)
 nothing_came i a x b y (HeldBack item came, is) opened none = absurd (let held : y.held ≡ Some item = ap (λ (v : Inlet). v.held) is.2 in cc)
 
+mark_came : Mark ≡ Nothing → ⊥
+mark_came e = cc
+
+item_came : (item : Stamped) (came : List Stamped) → HeldBack item came ≡ Nothing → ⊥
+item_came item came e = cc
+
+-- Something came of an open input that is closed now, or of which a packet is held.
+
+pub something_came : (i : ℕ) (a : History) (x : Inlet) (b : History) (y : Inlet) → EndsTaking i a x b y → x.is_closed ≡ false
+    → ((y.is_closed ≡ true) ⊎ IsSome y.held) → ComesUntaken i a x b y
+something_came i a x b y (Nothing, is) opened (inl closed) = absurd (let same : y.is_closed ≡ x.is_closed = ap (λ (v : Inlet). v.is_closed) is.2 in cc)
+something_came i a x b y (Nothing, is) opened (inr held) =
+    let none : y.held ≡ None = ap (λ (v : Inlet). v.held) is.2 ∙ is.0 in
+    let bad : false ≡ true = subst IsSome none held in
+    cc
+something_came i a x b y (Mark, is) opened some = (Mark, (λ e. mark_came e), is)
+something_came i a x b y (HeldBack item came, is) opened some = (HeldBack item came, (λ e. item_came item came e), is)
+
 -- One step.
 
 pub step_sent : (h new : History) (xs : List Inlet) (packet : List ℕ) → SlotAnswers h (slot.Sent packet) new
@@ -43,9 +62,9 @@ pub step_sent : (h new : History) (xs : List Inlet) (packet : List ℕ) → Slot
 step_sent h new xs packet answer = inl (packet, refl, record { slot = answer; inputs = refl })
 
 pub step_pulled : (h between new : History) (xs : List Inlet) (i : ℕ) (x y : Inlet) → SendAnswers h (sending.NotReady i) between → slice_get xs i ≡ Some x
-    → (TakesNext i between x new y ⊎ EndsTaking i between x new y) → IsStep (record { history = h; inputs = xs }) (record { history = new; inputs = set xs i y }) []
+    → (TakesNext i between x new y ⊎ ComesUntaken i between x new y) → IsStep (record { history = h; inputs = xs }) (record { history = new; inputs = set xs i y }) []
 step_pulled h between new xs i x y is at pulled =
-    let P : History → Type 0 = λ v. TakesNext i v x new y ⊎ EndsTaking i v x new y in
+    let P : History → Type 0 = λ v. TakesNext i v x new y ⊎ ComesUntaken i v x new y in
     inr (i, refl, record { running = is.1; unready = is.2; before = x; after = y; input = at; inputs = refl; pulled = subst P is.0 pulled })
 
 pub stuck_other : (h new : History) (xs : List Inlet) (answer : Sending) → SendAnswers h answer new → new ≡ h → ((i : ℕ) → answer ≡ sending.NotReady i → ⊥) → IsStuck answer (record { history = new; inputs = xs })
@@ -78,9 +97,9 @@ rings_set (z ∷ xs) zero x y at same =
     ap (λ r. r ∷ rings_of xs) ring
 rings_set (z ∷ xs) (suc i) x y at same = ap (λ rs. z.end.ring ∷ rs) (rings_set xs i x y at same)
 
-pulled_ring : (i : ℕ) (a : History) (x : Inlet) (b : History) (y : Inlet) → (TakesNext i a x b y ⊎ EndsTaking i a x b y) → y.end.ring ≡ x.end.ring
+pulled_ring : (i : ℕ) (a : History) (x : Inlet) (b : History) (y : Inlet) → (TakesNext i a x b y ⊎ ComesUntaken i a x b y) → y.end.ring ≡ x.end.ring
 pulled_ring i a x b y (inl takes) = ap (λ (v : Inlet). v.end.ring) takes.inlet
-pulled_ring i a x b y (inr ends) = ends_ring i a x b y ends.0 ends.1
+pulled_ring i a x b y (inr ends) = ends_ring i a x b y ends.0 ends.2
 
 pub step_rings : (old new : StationValue) (packets : List (List ℕ)) → IsStep old new packets → rings_of new.inputs ≡ rings_of old.inputs
 step_rings old new packets (inl sent) = ap rings_of sent.2.inputs
@@ -135,9 +154,9 @@ ends_emits i a x b y Nothing is = silent a b is.1
 ends_emits i a x b y Mark is = unsent a b (Close i) refl is.1
 ends_emits i a x b y (HeldBack item came) is = held_back i a b item y.is_closed is.1
 
-pulled_emits : (i : ℕ) (a : History) (x : Inlet) (b : History) (y : Inlet) → (TakesNext i a x b y ⊎ EndsTaking i a x b y) → Emits a b []
+pulled_emits : (i : ℕ) (a : History) (x : Inlet) (b : History) (y : Inlet) → (TakesNext i a x b y ⊎ ComesUntaken i a x b y) → Emits a b []
 pulled_emits i a x b y (inl takes) = unsent a b (Took i takes.item) refl takes.history
-pulled_emits i a x b y (inr ends) = ends_emits i a x b y ends.0 ends.1
+pulled_emits i a x b y (inr ends) = ends_emits i a x b y ends.0 ends.2
 
 slot_emits : (a b : History) (packet : List ℕ) → SlotAnswers a (slot.Sent packet) b → Emits a b (packet ∷ [])
 slot_emits a b packet answer =

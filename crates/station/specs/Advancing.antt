@@ -7,7 +7,7 @@ use Rattle.mux.specs.declared.sending.Sending.TheVariants as sending
 use Rattle.mux.specs.declared.slot.Slot.TheVariants as slot
 use Rattle.station.specs.declared.inlet.Inlet.{Inlet}
 use Rattle.station.specs.Stations.{StationValue}
-use Rattle.station.specs.Moving.{TakesNext, EndsTaking}
+use Rattle.station.specs.Moving.{TakesNext, ComesUntaken}
 
 -- the next slot was sent, and carried this packet
 pub record SendsSlot (old new : StationValue) (packet : List ℕ) : Type 0 where
@@ -15,7 +15,7 @@ pub record SendsSlot (old new : StationValue) (packet : List ℕ) : Type 0 where
   pub inputs : new.inputs ≡ old.inputs
 
 -- The multiplex waited for this input, the first that isn't ready. Of it the packet that comes next was taken, or is held back, or
--- it was closed at its end mark.
+-- it was closed at its end mark. So each step changes the station.
 pub record Pulls (i : ℕ) (old new : StationValue) : Type 0 where
   pub running : IsRunning old.history
   pub unready : IsLeastUnready old.history i
@@ -23,7 +23,7 @@ pub record Pulls (i : ℕ) (old new : StationValue) : Type 0 where
   pub after : Inlet
   pub input : slice_get old.inputs i ≡ Some before
   pub inputs : new.inputs ≡ slice_set old.inputs i after
-  pub pulled : TakesNext i old.history before new.history after ⊎ EndsTaking i old.history before new.history after
+  pub pulled : TakesNext i old.history before new.history after ⊎ ComesUntaken i old.history before new.history after
 
 -- one step, and what went out in it
 abbrev pub IsStep : StationValue → StationValue → List (List ℕ) → Type 0

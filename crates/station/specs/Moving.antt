@@ -1,5 +1,5 @@
 -- How the packets of a ring come into the multiplex (profile).
-use Rattle.std.specs.Prelude.{◌≡◌, ◌⊎◌, ℕ, List, [], ◌∷◌, ◌++◌, length, Bool, true, false, Some, None}
+use Rattle.std.specs.Prelude.{◌≡◌, ◌≢◌, ◌≤◌, ◌⊎◌, ℕ, List, [], ◌∷◌, ◌++◌, length, Bool, true, false, Some, None}
 use Rattle.std.specs.Option.{option_to_list}
 use Rattle.tspkt.specs.declared.stamped.Stamped.{Stamped}
 use Rattle.mux.specs.declared.event.Event.TheVariants.{Took, Close}
@@ -57,10 +57,15 @@ EndsBy i old x new y (HeldBack item came) =
 abbrev pub EndsTaking : ℕ → History → Inlet → History → Inlet → Type 0
 EndsTaking i old x new y = (ending : Ending) × EndsBy i old x new y ending
 
--- What the ring showed was moved into the multiplex, up to a number of packets: some were taken, and then that number was reached
--- or nothing more was taken.
+-- the end mark came, or the packet that is next isn't taken
+abbrev pub ComesUntaken : ℕ → History → Inlet → History → Inlet → Type 0
+ComesUntaken i old x new y = (ending : Ending) × (ending ≢ Nothing) × EndsBy i old x new y ending
+
+-- What the ring showed was moved into the multiplex, up to a number of packets: some were taken, no more than that, and then the
+-- number was reached or nothing more was taken.
 pub record MovesIn (i most : ℕ) (old : History) (x : Inlet) (new : History) (y : Inlet) : Type 0 where
   pub between : History
   pub last : Inlet
   pub takes : TakesSome i old x between last
+  pub within : length takes.items ≤ most
   pub ends : EndsTaking i between last new y ⊎ ((length takes.items ≡ most) × (new ≡ between) × (y ≡ last))

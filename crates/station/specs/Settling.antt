@@ -4,7 +4,7 @@ use Rattle.std.specs.List.{slice_get}
 use Rattle.std.specs.Option.{option_to_list}
 use Rattle.tspkt.specs.declared.stamped.Stamped.{Stamped}
 use Rattle.mux.specs.History.{taken}
-use Rattle.port.specs.Rings.{PortValue, FinishedValue}
+use Rattle.port.specs.Rings.{FinishedValue}
 use Rattle.station.specs.declared.inlet.Inlet.{Inlet}
 use Rattle.station.specs.declared.settled.Settled.{Settled}
 use Rattle.station.specs.Stations.{StationValue}
@@ -12,13 +12,11 @@ use Rattle.station.specs.Stations.{StationValue}
 -- The port of an input sent the packets that were taken, and then the one that is held, and then those that are left in the ring,
 -- each once; and these are their numbers. None is left where the end mark came, which the port then sent.
 pub record IsSettled (station : StationValue) (port : FinishedValue) (s : Settled) : Type 0 where
-  pub shown : PortValue
-  pub shown_is : port.shown ≡ Some shown
   pub input : Inlet
-  pub input_is : slice_get station.inputs shown.ring.input ≡ Some input
+  pub input_is : slice_get station.inputs port.port.ring.input ≡ Some input
   pub left : List Stamped
-  pub sent : shown.sent ≡ (taken shown.ring.input station.history.events ++ option_to_list input.held) ++ left
-  pub taken_count : s.taken ≡ length (taken shown.ring.input station.history.events)
+  pub sent : port.port.sent ≡ (taken port.port.ring.input station.history.events ++ option_to_list input.held) ++ left
+  pub taken_count : s.taken ≡ length (taken port.port.ring.input station.history.events)
   pub held_count : s.held ≡ length (option_to_list input.held)
   pub left_count : s.left ≡ length left
   pub marked : input.end.is_ended ≡ true → (port.is_ended ≡ true) × (left ≡ [])

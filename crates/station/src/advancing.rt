@@ -1,9 +1,9 @@
 //! How a station goes on as far as its rings show.
 
-ghost use Rattle.std.specs.Prelude.{◌≡◌, ◌≢◌, ◌⊎◌, ◌+◌, ◌<◌, ◌≤◌, ◌++◌, ℕ, List, true, false, None, Some, length, vec_len, vec_capacity, MatchOption};
+ghost use Rattle.std.specs.Prelude.{◌≡◌, ◌≢◌, ◌⊎◌, ◌+◌, ◌<◌, ◌≤◌, ◌++◌, ℕ, List, true, false, None, Some, IsSome, length, vec_len, vec_capacity, MatchOption};
 ghost use Rattle.mux.specs.History.{History, is_closed};
 ghost use Rattle.station.specs.Stations.{IsLawfulInlet, IsLawfulStation, LeavesOthers, rings_of};
-ghost use Rattle.station.specs.Moving.{TakesNext, EndsTaking};
+ghost use Rattle.station.specs.Moving.{TakesNext, ComesUntaken};
 ghost use Rattle.station.specs.Advancing.{AdvancesBehind, IsStep, IsStuck};
 
 use crate::inlet::Inlet;
@@ -12,6 +12,14 @@ use mux::{Mux, Sending};
 use std::slice;
 use tspkt::Packet;
 
+/// Whether an input is closed, or a packet of it is held.
+fn is_stopped(inlet: &Inlet) -> bool
+    ensures stopped { result ≡ true → (inlet.now.is_closed ≡ true) ⊎ IsSome inlet.now.held }
+    ensures going { result ≡ false → (inlet.now.is_closed ≡ false) × (inlet.now.held ≡ None) }
+{
+    inlet.is_closed || inlet.held.is_some()
+}
+
 /// Takes the packet of an open input that comes next, or holds it back, or closes the input at its end mark. False is answered
 /// where no packet is held and nothing is seen in the ring.
 fn pull(mux: &mut Mux, number: usize, inlet: &mut Inlet) -> bool
@@ -19,7 +27,7 @@ fn pull(mux: &mut Mux, number: usize, inlet: &mut Inlet) -> bool
     requires open { inlet.old.is_closed ≡ false }
     requires lawful { IsLawfulInlet mux.old number inlet.old }
     ensures pulled { result ≡ true → TakesNext number mux.old inlet.old mux.new inlet.new
-        ⊎ EndsTaking number mux.old inlet.old mux.new inlet.new }
+        ⊎ ComesUntaken number mux.old inlet.old mux.new inlet.new }
     ensures nothing { result ≡ false → (mux.new ≡ mux.old) × (inlet.new ≡ inlet.old) × (inlet.old.held ≡ None) }
     ensures lawful { IsLawfulInlet mux.new number inlet.new }
     ensures others { LeavesOthers number mux.old mux.new }
@@ -28,7 +36,7 @@ fn pull(mux: &mut Mux, number: usize, inlet: &mut Inlet) -> bool
     if take_next(mux, number, inlet) {
         return true;
     }
-    inlet.is_closed || inlet.held.is_some()
+    is_stopped(inlet)
 }
 
 /// One step: the next slot is sent, and its packet goes behind those in `sent`; or what comes next is taken of the input that

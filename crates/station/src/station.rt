@@ -1,6 +1,6 @@
 //! The station: its state, and its ticks.
 
-ghost use Rattle.std.specs.Prelude.{◌≡◌, ◌≢◌, ◌<◌, ◌≤◌, ◌^◌, ◌+◌, ◌-◌, ◌++◌, ℕ, List, Some, length, map, vec_len, vec_capacity, IfOk, IfSome, option_copied};
+ghost use Rattle.std.specs.Prelude.{◌≡◌, ◌≢◌, ◌<◌, ◌≤◌, ◌^◌, ◌+◌, ◌-◌, ◌++◌, ℕ, List, Some, length, map, vec_len, vec_capacity, IfOk, option_copied};
 ghost use Rattle.std.specs.List.{slice_get};
 ghost use Rattle.request.specs.declared.stream.Stream.{Stream};
 ghost use Rattle.mux.specs.History.{slots, emitted, is_closed};
@@ -190,7 +190,7 @@ impl Station {
 
     /// What became of the packets that a port of this station sent, which sends no more.
     pub fn settle(&mut self, port: FinishedPort) -> Settled
-        requires { IfSome port.shown (λ p. slice_get (rings_of self.old.inputs) p.ring.input ≡ Some p.ring) }
+        requires { slice_get (rings_of self.old.inputs) port.port.ring.input ≡ Some port.port.ring }
         ensures same { self.new ≡ self.old }
         ensures settled { IsSettled self.old port result }
     {

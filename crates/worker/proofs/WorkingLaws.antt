@@ -124,10 +124,6 @@ sent_of remaining most plan x start bytes sent stop is_ended report read has lim
   };
 }
 
-if_some_so : {X : Type 0} (o : Option X) (P Q : X → Type 0) → ((x : X) → P x → Q x) → IfSome o P → IfSome o Q
-if_some_so None P Q f h = h
-if_some_so (Some x) P Q f h = f x h
-
 -- nothing was sent of a reader of which nothing was read
 pub fresh_sent : {R G : Type 0} (remaining : R → Option (List ℕ)) (a : Sender R G) (source : R) → a.reader.stream.source ≡ source → HasRead remaining a.plan a.reader [] [] → a.port.sent ≡ [] → HasSent remaining (remaining source) a
 fresh_sent {R} remaining a source source_is fresh unsent =
@@ -140,7 +136,7 @@ fresh_sent {R} remaining a source source_is fresh unsent =
 pub worked : {R G : Type 0} (remaining : R → Option (List ℕ)) (failures : R → ℕ) (most : ℕ) (a b : Sender R G) (plan : PlanValue) (origin : OriginValue) (source left : R) (stop : Option Stop) (report : Report) (finished : FinishedValue)
     → a.plan ≡ plan → a.reader.origin ≡ origin → a.reader.stream.source ≡ source → a.reader.stream.items.limit ≡ most → HasRead remaining a.plan a.reader [] [] → a.port.sent ≡ []
     → SendsOn remaining failures a b → left ≡ b.reader.stream.source → (stop ≡ None → IsSpent b.reader ⊎ (b.reader.report.stopped ≡ Some Memory)) → IsOwnStop stop b.reader.report.stopped finished.is_ended
-    → report ≡ record b.reader.report { stopped = report.stopped } → report.stopped ≡ first_cause b.reader.report.stopped stop finished.is_ended → IfSome finished.shown (λ port. port ≡ b.port)
+    → report ≡ record b.reader.report { stopped = report.stopped } → report.stopped ≡ first_cause b.reader.report.stopped stop finished.is_ended → finished.port ≡ b.port
     → HasWorked most plan origin (remaining source) (remaining left) a.port.ring report finished
 worked {R} {G} remaining failures most a b plan origin source left stop report finished plan_is origin_is source_is limit fresh unsent on left_is over own counts cause shown =
     let start = remaining source in
@@ -151,8 +147,7 @@ worked {R} {G} remaining failures most a b plan origin source left stop report f
     let L : R → Type 0 = λ v. HasSentOf most plan origin start (remaining v) report finished.is_ended b.port.sent in (
       b.port.sent,
       subst L (sym left_is) (subst O (on.origin ∙ origin_is) (subst P (on.plan ∙ plan_is) s)),
-      if_some_so finished.shown (λ port. port ≡ b.port) (λ port. port ≡ record { ring = a.port.ring; sent = b.port.sent })
-          (λ port same. same ∙ (λ k. record { ring = on.ring k; sent = b.port.sent })) shown,
+      shown ∙ (λ k. record { ring = on.ring k; sent = b.port.sent }),
     )
 
 -- a failed read is told only where the source failed

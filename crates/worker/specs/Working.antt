@@ -1,5 +1,5 @@
 -- What a worker has done at its end (profile).
-use Rattle.std.specs.Prelude.{◌≡◌, ℕ, ◌<◌, ◌≤◌, List, ◌++◌, length, Bool, true, Option, Some, None, IfSome}
+use Rattle.std.specs.Prelude.{◌≡◌, ℕ, ◌<◌, ◌≤◌, List, ◌++◌, length, Bool, true, Option, Some, None}
 use Rattle.std.specs.Option.{option_to_list}
 use Rattle.std.specs.Io.KnownBytes.{Consumes, IsAtEnd}
 use Rattle.tspkt.specs.declared.item.Item.{Item}
@@ -46,8 +46,8 @@ pub record HasSentOf (limit : ℕ) (plan : PlanValue) (origin : OriginValue) (st
   pub within : (report.stopped ≡ Some TooMuch → ⊥) → length bytes ≤ limit
   pub counted : IsCounted plan origin bytes left report is_ended sent
 
--- What its port sent, as far as the ring shows it, is what it read.
+-- What its port sent is what it read.
 abbrev pub HasWorked : ℕ → PlanValue → OriginValue → Option (List ℕ) → Option (List ℕ) → RingId → Report → FinishedValue → Type 0
 HasWorked limit plan origin start left ring report finished =
     (sent : List Stamped) × HasSentOf limit plan origin start left report finished.is_ended sent
-    × IfSome finished.shown (λ port. port ≡ record { ring = ring; sent = sent })
+    × (finished.port ≡ record { ring = ring; sent = sent })

@@ -1,6 +1,6 @@
 //! An input on its way into its ring.
 
-ghost use Rattle.std.specs.Prelude.{◌≡◌, IfSome, MatchBool};
+ghost use Rattle.std.specs.Prelude.{◌≡◌, MatchBool};
 ghost use Rattle.port.specs.Stops.{StopsOnce};
 ghost use Rattle.worker.specs.Sending.{first_cause};
 
@@ -116,7 +116,7 @@ impl<R: Source + Drop, G: Gate + Drop> Sender<R, G> {
     /// stopped the sending beside what stopped the reading.
     pub fn finish<T: Wait + Clock>(self, rt: &T, stop: Option<Stop>) -> (Report, FinishedPort, R, G)
         ensures source { result.2 ≡ self.reader.stream.source }
-        ensures port { IfSome result.1.shown (λ port. port ≡ self.port) }
+        ensures port { result.1.port ≡ self.port }
         ensures counts { result.0 ≡ record self.reader.report { stopped = result.0.stopped } }
         ensures cause { result.0.stopped ≡ first_cause self.reader.report.stopped stop result.1.is_ended }
         ensures stopped { stop ≡ Some Gate
@@ -156,7 +156,7 @@ fn cause(reading: Option<Stop>, sending: Option<Stop>, is_ended: bool) -> Option
 
 /// Ends a port with the end mark, or without it where the gate says no before the mark found a free place.
 pub(crate) fn end<G: Gate, T: Wait + Clock>(rt: &T, port: Port, gate: &mut G) -> FinishedPort
-    ensures port { IfSome result.shown (λ shown. shown ≡ port) }
+    ensures port { result.port ≡ port }
     ensures gate { MatchBool result.is_ended (G.stops gate.new ≡ G.stops gate.old)
         (StopsOnce (G.stops gate.old) (G.stops gate.new)) }
 {

@@ -34,7 +34,7 @@ pub returns-then-not-take_next-clause-moves : goal.returns-then-not-take_next-cl
 returns-then-not-take_next-clause-moves c =
     let l = c.loop-count in
     moves_open c.args.number c.args.most c.args.mux.now c.args.inlet.now c.take_next.new.mux c.take_next.new.inlet c.if-inlet.false
-    (record { between = l.mux; last = l.inlet; takes = l.invariant.takes; ends = inl (c.take_next.ensures.ends c.if-not-take_next.true) })
+    (record { between = l.mux; last = l.inlet; takes = l.invariant.takes; within = omega (arith, l.invariant.count, c.loop-count-test.true); ends = inl (c.take_next.ensures.ends c.if-not-take_next.true) })
 
 pub returns-then-not-take_next-clause-others : goal.returns-then-not-take_next-clause-others
 returns-then-not-take_next-clause-others c =
@@ -45,4 +45,4 @@ pub returns-clause-moves : goal.returns-clause-moves
 returns-clause-moves c =
     let l = c.loop-count in
     moves_open c.args.number c.args.most c.args.mux.now c.args.inlet.now l.mux l.inlet c.if-inlet.false
-    (record { between = l.mux; last = l.inlet; takes = l.invariant.takes; ends = inr (omega (arith, l.invariant.count, c.loop-count-test.false, l.auto._count-end), refl, refl) })
+    (record { between = l.mux; last = l.inlet; takes = l.invariant.takes; within = omega (arith, l.invariant.count, c.loop-count-test.false, l.auto._count-end); ends = inr (omega (arith, l.invariant.count, c.loop-count-test.false, l.auto._count-end), refl, refl) })
