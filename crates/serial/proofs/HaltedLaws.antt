@@ -1,5 +1,5 @@
 -- The inputs of a run that fails.
-use Rattle.std.proofs.Common.{ℕ, ◌<◌, ◌≡◌, false, List, length, set, get_or, Option, Some, ap, ◌∙◌, sym, subst, arith, inl, inr}
+use Rattle.std.proofs.Common.{ℕ, ◌<◌, ◌≡◌, ◌⊎◌, false, List, length, set, get_or, Option, Some, ap, ◌∙◌, sym, subst, arith, inl, inr}
 use Rattle.std.specs.List.{slice_get}
 use Rattle.std.proofs.lemmas.Bool.{cases_eq}
 use Rattle.std.proofs.lemmas.List.{length-set}
@@ -8,6 +8,7 @@ use Rattle.plan.specs.Build.{PlanValue}
 use Rattle.mux.specs.declared.event.Event.{Event}
 use Rattle.mux.specs.History.{taken}
 use Rattle.mux.specs.Lawful.{is_ready}
+use Rattle.reading.specs.declared.stop.Stop.{Stop}
 use Rattle.reading.specs.declared.stop.Stop.TheVariants.{Memory}
 use Rattle.reading.specs.InputLimit.{limit_of_input}
 use Rattle.reading.specs.declared.input_limit.InputLimit.{InputLimit}
@@ -50,12 +51,22 @@ halted_fed remaining limit p h starts inputs fed limited order = record {
   in_order = order;
 }
 
--- memory was refused for an input that was still read
-pub halted_refused : {R : Type 0} (remaining : R → Option (List ℕ)) (limit : InputLimit) (p : PlanValue) (h : List Event) (i : ℕ) (starts : List (Option (List ℕ))) (inputs : List (SerialInput R)) (x y : SerialInput R)
-    → x ≡ get_or inputs i x → i < length inputs → is_ready p i h ≡ false → y.reader.report.stopped ≡ Some Memory → AreFed remaining p h starts inputs → AreLimited limit p inputs
+halted_there : {R : Type 0} (limit : ℕ) (p : PlanValue) (h : List Event) (i : ℕ) (start : Option (List ℕ)) (x y : SerialInput R) → is_ready p i h ≡ false
+    → ((y.reader.report.stopped ≡ Some Memory) ⊎ (y.reader.report.stopped ≡ x.reader.report.stopped)) → IsHalted limit p h i start x.reader.report.stopped
+    → IsHalted limit p h i start y.reader.report.stopped
+halted_there limit p h i start x y waits (inl memory) own = record {
+  unleft = λ e. (let bad = sym memory ∙ e in cc);
+  refused = λ e. waits;
+  too_much = λ e all known. (let bad = sym memory ∙ e in cc);
+}
+halted_there limit p h i start x y waits (inr same) own = (let P : Option Stop → Type 0 = IsHalted limit p h i start in subst P (sym same) own)
+
+-- an input was looked at, and memory was refused for it, or nothing but its own fault stopped it
+pub halted_looked : {R : Type 0} (remaining : R → Option (List ℕ)) (limit : InputLimit) (p : PlanValue) (h : List Event) (i : ℕ) (starts : List (Option (List ℕ))) (inputs : List (SerialInput R)) (x y : SerialInput R)
+    → x ≡ get_or inputs i x → i < length inputs → is_ready p i h ≡ false → ((y.reader.report.stopped ≡ Some Memory) ⊎ (y.reader.report.stopped ≡ x.reader.report.stopped)) → AreFed remaining p h starts inputs → AreLimited limit p inputs
     → ((start : Option (List ℕ)) → Feeds remaining p h i start x → HasFed remaining p h i start y) → KeepOrder h h inputs (set inputs i y) → TakesInOrder h inputs
     → AreHalted remaining limit p h starts (set inputs i y)
-halted_refused {R} remaining limit p h i starts inputs x y at within waits memory fed limited given keeps order =
+halted_looked {R} remaining limit p h i starts inputs x y at within waits stop fed limited given keeps order =
     let before = halted_fed remaining limit p h starts inputs fed limited order in
     let here : slice_get inputs i ≡ Some x = slice_get-get_or inputs i x within ∙ ap Some (sym at) in
     record {
@@ -64,13 +75,12 @@ halted_refused {R} remaining limit p h i starts inputs x y at within waits memor
           elim (cases_eq i j) [
             | inl same ↦
                 (let new : y ≡ z = same_Some y z (sym (set_here inputs i y within) ∙ ap (slice_get (set inputs i y)) same ∙ there) in
-                let stop : z.reader.report.stopped ≡ Some Memory = ap (λ (v : SerialInput _). v.reader.report.stopped) (sym new) ∙ memory in
-                let P : ℕ → Type 0 = λ k. is_ready p k h ≡ false in
-                record {
-                  unleft = λ e. (let bad = sym stop ∙ e in cc);
-                  refused = λ e. subst P same waits;
-                  too_much = λ e all known. (let bad = sym stop ∙ e in cc);
-                })
+                let f = fed.each i x here in
+                let most = limit_of_input limit input.format in
+                let start_is : f.0 ≡ start = same_Some f.0 start (sym f.1 ∙ ap (slice_get starts) same ∙ from) in
+                let own : IsHalted most p h i f.0 x.reader.report.stopped = halted_one remaining most p h i f.0 x f.2 (limited i input x (ap (slice_get p.request.inputs) same ∙ named) here) in
+                let H : (Option (List ℕ) × SerialInput R × ℕ) → Type 0 = λ v. IsHalted most p h v.2 v.0 v.1.reader.report.stopped in
+                subst H (λ k. (start_is k, new k, same k)) (halted_there most p h i f.0 x y waits stop own))
             | inr ne ↦ before.each j input start z named from (sym (set_there inputs i j y ne) ∙ there)
           ];
       fed = λ j z there.
@@ -95,6 +105,18 @@ halted_running remaining run limit starts r is = halted_fed remaining limit run.
 pub unrefused_running : {R : Type 0} (remaining : R → Option (List ℕ)) (run : Run) (limit : InputLimit) (starts : List (Option (List ℕ))) (r : SerialRun R)
     → IsRunning remaining run limit starts r → AreUnrefused r.inputs.items
 unrefused_running remaining run limit starts r is i x at = (is.fed.each i x at).2.own.unrefused
+
+-- nor is it for an input that was looked at, where nothing stopped it then
+pub unrefused_looked : {R : Type 0} (remaining : R → Option (List ℕ)) (p : PlanValue) (h : List Event) (i : ℕ) (starts : List (Option (List ℕ))) (inputs : List (SerialInput R)) (x y : SerialInput R)
+    → x ≡ get_or inputs i x → i < length inputs → y.reader.report.stopped ≡ x.reader.report.stopped → AreFed remaining p h starts inputs → AreUnrefused (set inputs i y)
+unrefused_looked {R} remaining p h i starts inputs x y at within same_stop fed j z there memory =
+    elim (cases_eq i j) [
+      | inl same ↦
+          (let here : slice_get inputs i ≡ Some x = slice_get-get_or inputs i x within ∙ ap Some (sym at) in
+          let new : y ≡ z = same_Some y z (sym (set_here inputs i y within) ∙ ap (slice_get (set inputs i y)) same ∙ there) in
+          (fed.each i x here).2.own.unrefused (sym same_stop ∙ ap (λ (v : SerialInput R). v.reader.report.stopped) new ∙ memory))
+      | inr ne ↦ (fed.each j z (sym (set_there inputs i j y ne) ∙ there)).2.own.unrefused memory
+    ]
 
 -- input i goes on with its limit
 pub all_limited : {R : Type 0} (limit : InputLimit) (p : PlanValue) (inputs : List (SerialInput R)) (i : ℕ) (x y : SerialInput R) → x ≡ get_or inputs i x → i < length inputs

@@ -5,6 +5,7 @@ pub mod FeedingLaws
 pub mod GivingLaws
 pub mod SendingLaws
 pub mod RunningLaws
+pub mod WaitingLaws
 pub mod OpeningLaws
 pub mod FaultBounds
 pub mod SoundLaws

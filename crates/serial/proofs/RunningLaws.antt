@@ -255,7 +255,7 @@ needed_of run i (Close j) h is waits = subst (WaitsFor run h) (sym is) waits
 needed_of run i (Slot c) h is waits = absurd is
 
 pub runs_pulled : {R : Type 0} (remaining : R → Option (List ℕ)) (run : Run) (limit : InputLimit) (starts : List (Option (List ℕ))) (old new : SerialRun R) (between : History) (i : ℕ)
-    → IsRunning remaining run limit starts old → slots old.mux.events < old.mux.run.limit → IsLeastUnready old.mux i → between ≡ old.mux → 0 < length new.piece.items → new.output ≡ old.output
+    → IsRunning remaining run limit starts old → slots old.mux.events < old.mux.run.limit → IsLeastUnready old.mux i → between ≡ old.mux → 0 < length new.piece.items → new.output ≡ record old.output { writer = new.output.writer }
     → ((e : Event) × (new.mux ≡ with_event between e) × IsOfInput i e)
     → ((s : List (Option (List ℕ))) → AreFed remaining between.run.plan between.events s old.inputs.items → AreFed remaining between.run.plan new.mux.events s new.inputs.items)
     → ((most : InputLimit) (q : PlanValue) → AreLimited most q old.inputs.items → AreLimited most q new.inputs.items)
@@ -284,8 +284,29 @@ runs_pulled remaining run limit starts old new between i is more unready same pi
       needed =
           (let W : Run → Type 0 = λ v. WaitsFor v old.mux.events i in
           subst (TakesAsNeeded run) (sym events) (needed_of run i e old.mux.events event.2 (subst W is.run_is (more, unready)), is.needed));
-      analysed = subst O (sym output) (subst A (sym (ap (emitted p) events ∙ emitted_same p i e old.mux.events event.2)) is.analysed);
+      analysed =
+          (let same_packets = subst A (sym (ap (emitted p) events ∙ emitted_same p i e old.mux.events event.2)) is.analysed in
+          subst O (sym output)
+          (record { seen = same_packets.seen; rate_is = same_packets.rate_is; period_is = same_packets.period_is; faults_are = same_packets.faults_are; reported = same_packets.reported }));
     }
+
+-- what waited went on, or a beginning of it, and nothing else
+pub written_pulled : (p : PlanValue) (old between new : History) (i : ℕ) (before a b : Option (List ℕ)) (waiting now : List ℕ) → between ≡ old → ((e : Event) × (new ≡ with_event between e) × IsOfInput i e)
+    → Sends before a (bytes_of (emitted p old.events)) waiting → Sends a b waiting now → Sends before b (bytes_of (emitted p new.events)) now
+written_pulled p old between new i before a b waiting now same event first second =
+    let e = event.0 in
+    let events : new.events ≡ e ∷ old.events = ap (λ (v : History). v.events) (event.1 ∙ ap (λ v. with_event v e) same) in
+    let P : List ℕ → Type 0 = λ v. Sends before b v now in
+    subst P (sym (ap bytes_of (ap (emitted p) events ∙ emitted_same p i e old.events event.2)))
+    (first.0 ++ second.0, appends_on before a b first.0 second.0 first.1 second.1, first.2 ∙ ap (λ v. first.0 ++ v) second.2 ∙ sym (append_assoc first.0 second.0 now))
+
+pub begun_pulled : (p : PlanValue) (old new : History) (before a b : Option (List ℕ)) (waiting : List ℕ) → new ≡ old
+    → Sends before a (bytes_of (emitted p old.events)) waiting → SendsBeginning a b waiting → SendsBeginning before b (bytes_of (emitted p new.events))
+begun_pulled p old new before a b waiting same first second =
+    let P : History → Type 0 = λ v. SendsBeginning before b (bytes_of (emitted p v.events)) in
+    let s = second.1 in
+    subst P (sym same)
+    (second.0, (first.0 ++ s.0, appends_on before a b first.0 s.0 first.1 s.1, first.2 ∙ ap (λ v. first.0 ++ v) s.2 ∙ sym (append_assoc first.0 s.0 second.0)))
 
 pub fewer_pulled : (old between new : History) (i : ℕ) → between ≡ old → i < length old.run.plan.request.inputs → ((e : Event) × (new ≡ with_event between e) × IsOfInput i e)
     → turns_left i new.events < turns_left i between.events → steps_left old.run new.events < steps_left old.run old.events

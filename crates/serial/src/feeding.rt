@@ -1,32 +1,39 @@
 //! How the packets of an input come into a multiplex.
 
-ghost use Rattle.std.specs.Prelude.{◌≡◌, ◌<◌, ℕ, List, Option, None, Some, true, false, length, OnOk, OnErr};
+ghost use Rattle.std.specs.Prelude.{◌≡◌, ◌<◌, ℕ, List, Option, None, Some, Err, true, false, length, OnOk, OnErr};
 ghost use Rattle.mux.specs.declared.event.Event.{Event};
 ghost use Rattle.mux.specs.declared.event.Event.TheVariants as events;
 ghost use Rattle.mux.specs.History.{with_event, is_closed, full_noted};
 ghost use Rattle.mux.specs.Answers.{IsLeastUnready};
 ghost use Rattle.tspkt.specs.declared.stamped.Stamped.{Stamped as GivenPacket};
-ghost use Rattle.serial.specs.Feeding.{Feeds, HasFed, AreLimited, IsOfInput, MayBeTaken, GoesTo, IsGivenOrHeld, AllTellFailures, turns_left};
+ghost use Rattle.serial.specs.Feeding.{Feeds, HasFed, AreLimited, AreUnrefused, IsOfInput, MayBeTaken, GoesTo, IsGivenOrHeld, AllTellFailures, turns_left};
 ghost use Rattle.serial.specs.Giving.{KeepsOrder, KeepOrder, TakesInOrder};
-ghost use Rattle.reading.specs.declared.stop.Stop.TheVariants.{Memory};
+ghost use Rattle.reading.specs.declared.stop.Stop.TheVariants as stops;
 ghost use Rattle.serial.specs.Running.{AreFed, AreHalted};
+ghost use Rattle.serial.specs.Sending.{WritesWaiting, ReadsWritten};
 ghost use Rattle.plan.specs.Build.{PlanValue};
 ghost use Rattle.reading.specs.PacketReading.{TellsFailures};
 ghost use Rattle.reading.specs.declared.input_limit.InputLimit.{InputLimit};
 
+use crate::finding::find_next;
+use crate::run_fault::RunFault;
 use crate::serial_input::SerialInput;
+use crate::sink::Sink;
+use crate::slot_writer::SlotWriter;
 use mux::{Mux, Offered};
 use reading::Source;
-use std::alloc::AllocError;
 
 /// Gives the multiplex the next packet of an input that it waits for, or closes the input where there is none. A packet
-/// whose queue is full stays held. An `Err` is want of memory.
-pub(crate) fn pull<R: Source>(
+/// whose queue is full stays held. Before the input is read what waits to go out is written. An `Err` is want of memory, or that this
+/// write failed: then the input wasn't read.
+pub(crate) fn pull<R: Source, W: Sink>(
     mux: &mut Mux,
     number: usize,
     input: &mut SerialInput<R>,
     piece: &mut [u8],
-) -> Result<(), AllocError>
+    output: &mut SlotWriter,
+    sink: &mut W,
+) -> Result<(), RunFault>
     requires unready { IsLeastUnready mux.old number }
     requires piece { 0 < length piece.old }
     requires feeds { (start : Option (List ℕ)) × Feeds R.remaining mux.old.run.plan mux.old.events number start input.old }
@@ -37,13 +44,17 @@ pub(crate) fn pull<R: Source>(
         → HasFed R.remaining mux.old.run.plan mux.old.events number start input.new) }
     ensures event { OnOk result ((e : Event) × (mux.new ≡ with_event mux.old e) × IsOfInput number e) }
     ensures fewer { OnOk result (turns_left number mux.new.events < turns_left number mux.old.events) }
-    ensures limit { OnOk result (input.new.reader.stream.items.limit ≡ input.old.reader.stream.items.limit) }
+    ensures limit { input.new.reader.stream.items.limit ≡ input.old.reader.stream.items.limit }
     ensures failures { (before : ℕ) → TellsFailures R.failures before input.old.reader
         → TellsFailures R.failures before input.new.reader }
-    ensures refused { OnErr result (input.new.reader.report.stopped ≡ Some Memory) }
+    ensures refused { result ≡ Err RunFault.Memory → input.new.reader.report.stopped ≡ Some stops.Memory }
+    ensures unrefused { result ≡ Err RunFault.Write → input.new.reader.report.stopped ≡ input.old.reader.report.stopped }
     ensures err { OnErr result (mux.new ≡ mux.old) }
+    ensures written { ReadsWritten input.old.reader input.new.reader output.new }
+    ensures unread { result ≡ Err RunFault.Write → input.new.reader.stream.source ≡ input.old.reader.stream.source }
+    ensures out { WritesWaiting W.contents W.failures output.old sink.old output.new sink.new result }
 {
-    match input.reader.find(mux.plan(), piece)? {
+    match find_next(&mut input.reader, mux.plan(), piece, output, sink)? {
         Some(stream) => {
             give(mux, stream, input);
             Ok(())
@@ -56,12 +67,14 @@ pub(crate) fn pull<R: Source>(
 }
 
 /// The same of the input at this place.
-pub(crate) fn pull_at<R: Source>(
+pub(crate) fn pull_at<R: Source, W: Sink>(
     mux: &mut Mux,
     number: usize,
     inputs: &mut Vec<SerialInput<R>>,
     piece: &mut [u8],
-) -> Result<(), AllocError>
+    output: &mut SlotWriter,
+    sink: &mut W,
+) -> Result<(), RunFault>
     requires unready { IsLeastUnready mux.old number }
     requires piece { 0 < length piece.old }
     requires fed { (starts : List (Option (List ℕ))) × AreFed R.remaining mux.old.run.plan mux.old.events starts inputs.old.items }
@@ -71,8 +84,8 @@ pub(crate) fn pull_at<R: Source>(
     ensures order { KeepOrder mux.old.events mux.new.events inputs.old.items inputs.new.items }
     ensures event { OnOk result ((e : Event) × (mux.new ≡ with_event mux.old e) × IsOfInput number e) }
     ensures fewer { OnOk result (turns_left number mux.new.events < turns_left number mux.old.events) }
-    ensures limited { OnOk result ((limit : InputLimit) (plan : PlanValue)
-        → AreLimited limit plan inputs.old.items → AreLimited limit plan inputs.new.items) }
+    ensures limited { (limit : InputLimit) (plan : PlanValue)
+        → AreLimited limit plan inputs.old.items → AreLimited limit plan inputs.new.items }
     ensures failures { (befores : List ℕ)
         → AllTellFailures R.failures befores inputs.old.items
         → AllTellFailures R.failures befores inputs.new.items }
@@ -81,9 +94,12 @@ pub(crate) fn pull_at<R: Source>(
         → AreLimited limit mux.old.run.plan inputs.old.items
         → TakesInOrder mux.old.events inputs.old.items
         → AreHalted R.remaining limit mux.old.run.plan mux.old.events starts inputs.new.items) }
+    ensures unrefused { result ≡ Err RunFault.Write → (starts : List (Option (List ℕ)))
+        → AreFed R.remaining mux.old.run.plan mux.old.events starts inputs.old.items → AreUnrefused inputs.new.items }
     ensures err { OnErr result (mux.new ≡ mux.old) }
+    ensures out { WritesWaiting W.contents W.failures output.old sink.old output.new sink.new result }
 {
-    pull(mux, number, &mut inputs[number], piece)
+    pull(mux, number, &mut inputs[number], piece, output, sink)
 }
 
 /// Closes an input of which nothing is left.

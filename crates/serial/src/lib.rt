@@ -3,6 +3,7 @@
 
 mod ending;
 mod feeding;
+mod finding;
 pub mod laws;
 mod opening;
 mod packet_writer;

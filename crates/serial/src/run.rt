@@ -21,9 +21,10 @@ use std::alloc::Global;
 /// packets stand 204 bytes apart, and writes the packet of each slot, at most so many slots (0 to 2^40). It ends where all inputs
 /// have ended and nothing waits, or where it has all its slots.
 ///
-/// A packet is taken only where the multiplex waits for its input. The writer comes back, and without a fault the readers too, in
-/// their order. `Memory` is answered for want of memory, where no write failed, and `Write` where a write failed; what was written
-/// is then a beginning of a sound multiplex. A reader that fails ends its input, and the run goes on.
+/// A packet is taken only where the multiplex waits for its input. Before each read all that was sent is written. The writer comes
+/// back, and without a fault the readers too, in their order. `Memory` is answered for want of memory, where no write failed, and
+/// `Write` where a write failed; what was written is then a beginning of a sound multiplex. A reader that fails ends its input, and
+/// the run goes on.
 pub fn run_serial<R: Source + Drop, W: Sink>(
     alloc: Global,
     plan: Plan,

@@ -129,8 +129,8 @@ impl<R: Source + Drop> SerialRun<R> {
         self.output.flush(sink)
     }
 
-    /// One step: the next slot is sent, or the input for which the multiplex waits gives a packet or is closed. True is
-    /// answered where the run is over.
+    /// One step: the next slot is sent, or the input for which the multiplex waits gives a packet or is closed. Before that input is
+    /// read what waits is written. True is answered where the run is over.
     fn step<W: Sink>(&mut self, sink: &mut W) -> Result<bool, RunFault>
         requires { (run : Run) × (limit : Limit) × (starts : List (Option (List ℕ))) × IsRunning R.remaining run limit starts self.old }
         ensures runs { OnOk result ((run : Run) (limit : Limit) (starts : List (Option (List ℕ)))
@@ -165,8 +165,14 @@ impl<R: Source + Drop> SerialRun<R> {
                 Ok(false)
             }
             Sending::NotReady(input) => {
-                let piece = self.piece.as_mut_slice();
-                pull_at(&mut self.mux, input, &mut self.inputs, piece)?;
+                let SerialRun {
+                    mux,
+                    inputs,
+                    piece,
+                    output,
+                } = self;
+                let piece = piece.as_mut_slice();
+                pull_at(mux, input, inputs, piece, output, sink)?;
                 Ok(false)
             }
             Sending::Done | Sending::RunFull => Ok(true),

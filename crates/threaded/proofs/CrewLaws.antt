@@ -1,5 +1,5 @@
 -- Lists of workers, one more at a time, and what they served.
-use Rattle.std.proofs.Common.{◌≡◌, ℕ, List, [], ◌∷◌, ◌++◌, length, drop, map, Bool, true, false, Option, Some, None, option_map, IfSome, ap, sym, subst, ◌∙◌, arith, inl, inr, length-append}
+use Rattle.std.proofs.Common.{◌≡◌, ℕ, List, [], ◌∷◌, ◌++◌, length, drop, map, Bool, true, false, Option, Some, None, option_map, ap, sym, subst, ◌∙◌, arith, inl, inr, length-append}
 use Rattle.std.specs.List.{slice_get}
 use Rattle.std.specs.Option.{option_to_list}
 use Rattle.std.specs.Io.KnownBytes.{Consumes}
@@ -100,15 +100,12 @@ rest_next {X} {H} handles new h all x rest e at =
 
 -- the port of a worker is settled with the ring that its input comes through
 pub of_work : {R G : Type 0} (remaining : R → Option (List ℕ)) (failures : R → ℕ) (rings : List RingId) (w : Worker R G) (report : Report) (finished : FinishedValue) (left : R)
-    → IsWorkOf remaining failures w report finished left → slice_get rings w.port.ring.input ≡ Some w.port.ring → IfSome finished.shown (λ p. slice_get rings p.ring.input ≡ Some p.ring)
+    → IsWorkOf remaining failures w report finished left → slice_get rings w.port.ring.input ≡ Some w.port.ring → slice_get rings finished.port.ring.input ≡ Some finished.port.ring
 of_work remaining failures rings w report finished left work at =
     let input = get_within w.plan.request.inputs w.number w.known in
     let worked = work.sent input.0 input.1 in
-    some_so finished.shown (record { ring = w.port.ring; sent = worked.0 }) worked.2 at
-  where
-    some_so : (o : Option PortValue) (port : PortValue) → IfSome o (λ v. v ≡ port) → slice_get rings port.ring.input ≡ Some port.ring → IfSome o (λ p. slice_get rings p.ring.input ≡ Some p.ring)
-    some_so None port is here = tt
-    some_so (Some v) port is here = (let P : PortValue → Type 0 = λ p. slice_get rings p.ring.input ≡ Some p.ring in subst P (sym is) here)
+    let P : PortValue → Type 0 = λ p. slice_get rings p.ring.input ≡ Some p.ring in
+    subst P (sym worked.2) at
 
 -- What the worker of an input sent, and what became of that: it was taken, or is held, or is left in the ring. Nothing is left where
 -- the end mark came, and there is none where a gate stopped the worker.
@@ -129,9 +126,7 @@ pub served : {R G : Type 0} (remaining : R → Option (List ℕ)) (failures : R 
 served {R} {G} remaining failures limit p station i input reader port w e started own at ended =
     let worked = ended.work.sent input ((λ k. slice_get (started.plan_is k).request.inputs (started.number_is k)) ∙ at) in
     let T : (InputLimit × PlanValue × ℕ × R) → Type 0 = λ v. HasSentOf (limit_of_input v.0 input.format) v.1 (origin_of v.2 input) (remaining v.3) (remaining e.reader) e.report ended.finished.is_ended worked.0 in
-    let S : Option PortValue → Type 0 = λ o. IfSome o (λ v. v ≡ record { ring = w.port.ring; sent = worked.0 }) in
-    let shown = subst S ended.settles.shown_is worked.2 in
-    let number : ended.settles.shown.ring.input ≡ i = ap (λ (v : PortValue). v.ring.input) shown ∙ (ap (λ (v : PortValue). v.ring.input) started.port_is ∙ own) in
+    let number : ended.finished.port.ring.input ≡ i = ap (λ (v : PortValue). v.ring.input) worked.2 ∙ (ap (λ (v : PortValue). v.ring.input) started.port_is ∙ own) in
     let events = station.history.events in
     record {
       sent = worked.0;
@@ -142,7 +137,7 @@ served {R} {G} remaining failures limit p station i input reader port w e starte
       inlet_is = ap (λ n. slice_get station.inputs n) (sym number) ∙ ended.settles.input_is;
       rest = ended.settles.left;
       marked = ended.settles.marked;
-      sent_is = sym (ap (λ (v : PortValue). v.sent) shown) ∙ (ended.settles.sent ∙ ap (λ n. (taken n events ++ option_to_list ended.settles.input.held) ++ ended.settles.left) number);
+      sent_is = sym (ap (λ (v : PortValue). v.sent) worked.2) ∙ (ended.settles.sent ∙ ap (λ n. (taken n events ++ option_to_list ended.settles.input.held) ++ ended.settles.left) number);
     }
 
 pub consumed : (start rest : Option (List ℕ)) (bytes all : List ℕ) → start ≡ Some all → Consumes start rest bytes → (more : List ℕ) × (all ≡ bytes ++ more)

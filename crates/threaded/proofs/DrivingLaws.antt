@@ -13,7 +13,7 @@ use Rattle.serial.proofs.RunningLaws.{needed_of}
 use Rattle.serial.proofs.OutcomeLaws.{all_begun}
 use Rattle.station.specs.declared.inlet.Inlet.{Inlet}
 use Rattle.station.specs.Stations.{StationValue}
-use Rattle.station.specs.Moving.{TakesNext, EndsTaking, EndsBy, Ending, Nothing, Mark, HeldBack, IsHeldBack}
+use Rattle.station.specs.Moving.{TakesNext, ComesUntaken, EndsBy, Ending, Nothing, Mark, HeldBack, IsHeldBack}
 use Rattle.station.specs.Advancing.{IsStep, Steps}
 use Rattle.threaded.specs.Driving.{output_of, IsSameRun, BreaksOff, IsDriven}
 
@@ -39,9 +39,9 @@ ends i a x b y Nothing is = inl is.1
 ends i a x b y Mark is = inr (Close i, is.1, refl)
 ends i a x b y (HeldBack item came) is = held_back i a b item y.is_closed is.1
 
-pulled : (i : ℕ) (a : History) (x : Inlet) (b : History) (y : Inlet) → (TakesNext i a x b y ⊎ EndsTaking i a x b y) → IsOneOf i a b
+pulled : (i : ℕ) (a : History) (x : Inlet) (b : History) (y : Inlet) → (TakesNext i a x b y ⊎ ComesUntaken i a x b y) → IsOneOf i a b
 pulled i a x b y (inl takes) = inr (Took i takes.item, takes.history, refl)
-pulled i a x b y (inr ending) = ends i a x b y ending.0 ending.1
+pulled i a x b y (inr ending) = ends i a x b y ending.0 ending.2
 
 needed_one : (i : ℕ) (a b : History) → WaitsFor a.run a.events i → IsOneOf i a b → TakesAsNeeded a.run a.events → TakesAsNeeded b.run b.events
 needed_one i a b waits (inl same) is = (let P : History → Type 0 = λ h. TakesAsNeeded h.run h.events in subst P (sym same) is)

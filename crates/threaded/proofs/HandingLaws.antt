@@ -2,7 +2,7 @@
 use Rattle.std.proofs.Common.{◌≡◌, ℕ, List, [], ◌∷◌, ◌++◌, true, false, Option, Some, None, refl, ap, sym, subst, ◌∙◌, append_assoc, append-nil}
 use Rattle.std.proofs.lemmas.Grind.{flat_map-append}
 use Rattle.std.proofs.lemmas.Bool.{false≢true}
-use Rattle.std.specs.Prelude.{Result, Ok, Err, OnOk, IfSome}
+use Rattle.std.specs.Prelude.{Result, Ok, Err, OnOk}
 use Rattle.std.specs.Io.KnownBytes.{Appends}
 use Rattle.mux.specs.History.{Run}
 use Rattle.relay.specs.Relays.{RelayId, SenderValue, ReceiverValue, FinishedValue}
@@ -77,14 +77,12 @@ packets_behind : (xs ys : List (List (List ℕ))) → packets_in (xs ++ ys) ≡ 
 packets_behind xs ys = flat_map-append (λ (x : List (List ℕ)). x) xs ys
 
 -- what is said of a finished sender is so of what came out of its relay, and what is left in it
-at_left : (P : SenderValue → Type 0) (receiver : ReceiverValue) (finished : FinishedValue) (count : ℕ) → IfSome finished.shown P → (left : IsLeft receiver finished count) → P (record { relay = receiver.relay; sent = receiver.received ++ left.rest })
-at_left P receiver finished count shown left =
-    let O : Option SenderValue → Type 0 = λ v. IfSome v P in
-    subst O left.shown shown
+at_left : (P : SenderValue → Type 0) (receiver : ReceiverValue) (finished : FinishedValue) (count : ℕ) → P finished.sender → (left : IsLeft receiver finished count) → P (record { relay = receiver.relay; sent = receiver.received ++ left.rest })
+at_left P receiver finished count said left = subst P left.sender said
 
 pub received_some : (old new : StationValue) (relay : RelayId) (finished : FinishedValue) (receiver : ReceiverValue) (count : ℕ) → IsHandedOn old new relay finished → IsLeft receiver finished count → HandsSome old new receiver.received
 received_some old new relay finished receiver count handed left =
-    let some = at_left (λ shown. HandsSome old new shown.sent) receiver finished count handed.some left in
+    let some = at_left (λ v. HandsSome old new v.sent) receiver finished count handed.some left in
     let blocks = packets_behind receiver.received left.rest in
     let own = sent_of old in
     let came = packets_in receiver.received in
@@ -99,7 +97,7 @@ pub received_all : (old new : StationValue) (relay : RelayId) (finished : Finish
     → receiver.is_ended ≡ true → HandsAll old new receiver.received × IsOver new.history.run new.history.events
 received_all old new relay finished receiver count handed left ended =
     let marked = left.marked ended in
-    let all = at_left (λ shown. HandsAll old new shown.sent) receiver finished count (handed.all marked.0) left in
+    let all = at_left (λ v. HandsAll old new v.sent) receiver finished count (handed.all marked.0) left in
     let items = ap (λ v. receiver.received ++ v) marked.1 ∙ append-nil receiver.received in
     (record { same = all.same; sent = all.sent ∙ ap (λ v. sent_of old ++ packets_in v) items }, handed.over marked.0)
 
@@ -111,49 +109,40 @@ nothing_in [] ys is = refl
 nothing_in (x ∷ xs) ys is = absurd (not_nil x (xs ++ ys) is)
 
 -- a sender that sent nothing
-pub received_none : (s : StationValue) (sender : SenderValue) (finished : FinishedValue) (receiver : ReceiverValue) (count : ℕ) → IfSome finished.shown (λ shown. shown ≡ sender) → sender.sent ≡ [] → IsLeft receiver finished count
+pub received_none : (s : StationValue) (sender : SenderValue) (finished : FinishedValue) (receiver : ReceiverValue) (count : ℕ) → finished.sender ≡ sender → sender.sent ≡ [] → IsLeft receiver finished count
     → HandsAll s s receiver.received
-received_none s sender finished receiver count shown unsent left =
-    let is = at_left (λ shown. shown ≡ sender) receiver finished count shown left in
+received_none s sender finished receiver count said unsent left =
+    let is = at_left (λ v. v ≡ sender) receiver finished count said left in
     hands_nothing s receiver.received (nothing_in receiver.received left.rest (ap (λ (p : SenderValue). p.sent) is ∙ unsent))
 
-if_some_on : {X : Type 0} (P Q : X → Type 0) (o : Option X) → ((x : X) → P x → Q x) → IfSome o P → IfSome o Q
-if_some_on P Q None f h = tt
-if_some_on P Q (Some x) f h = f x h
-
 -- the sender sent all, and the end mark or not
-pub ends_handing : (old new : StationValue) (relay : RelayId) (sender : SenderValue) (finished : FinishedValue) → IfSome finished.shown (λ shown. shown ≡ sender) → sender.relay ≡ relay → HandsAll old new sender.sent → IsOver new.history.run new.history.events
+pub ends_handing : (old new : StationValue) (relay : RelayId) (sender : SenderValue) (finished : FinishedValue) → finished.sender ≡ sender → sender.relay ≡ relay → HandsAll old new sender.sent → IsOver new.history.run new.history.events
     → IsHandedOn old new relay finished
-ends_handing old new relay sender finished shown same all over =
-    let is : SenderValue → Type 0 = λ shown. shown ≡ sender in
-    let A : SenderValue → Type 0 = λ shown. HandsAll old new shown.sent in
-    let S : SenderValue → Type 0 = λ shown. HandsSome old new shown.sent in
+ends_handing old new relay sender finished said same all over =
+    let A : SenderValue → Type 0 = λ v. HandsAll old new v.sent in
+    let S : SenderValue → Type 0 = λ v. HandsSome old new v.sent in
     record {
-      relay_is = if_some_on is (λ shown. shown.relay ≡ relay) finished.shown (λ x e. ap (λ (p : SenderValue). p.relay) e ∙ same) shown;
-      some = if_some_on is S finished.shown (λ x e. subst S (sym e) (all_some old new sender.sent all)) shown;
-      all = λ ended. if_some_on is A finished.shown (λ x e. subst A (sym e) all) shown;
+      relay_is = ap (λ (v : SenderValue). v.relay) said ∙ same;
+      some = subst S (sym said) (all_some old new sender.sent all);
+      all = λ ended. subst A (sym said) all;
       over = λ ended. over;
     }
 
 -- the run was over before
-pub cuts_handing : (old new : StationValue) (relay : RelayId) (sender : SenderValue) (finished : FinishedValue) → IfSome finished.shown (λ shown. shown ≡ sender) → sender.relay ≡ relay → HandsSome old new sender.sent → finished.is_ended ≡ false
+pub cuts_handing : (old new : StationValue) (relay : RelayId) (sender : SenderValue) (finished : FinishedValue) → finished.sender ≡ sender → sender.relay ≡ relay → HandsSome old new sender.sent → finished.is_ended ≡ false
     → IsHandedOn old new relay finished
-cuts_handing old new relay sender finished shown same some unmarked =
-    let is : SenderValue → Type 0 = λ shown. shown ≡ sender in
-    let S : SenderValue → Type 0 = λ shown. HandsSome old new shown.sent in
+cuts_handing old new relay sender finished said same some unmarked =
+    let S : SenderValue → Type 0 = λ v. HandsSome old new v.sent in
     record {
-      relay_is = if_some_on is (λ shown. shown.relay ≡ relay) finished.shown (λ x e. ap (λ (p : SenderValue). p.relay) e ∙ same) shown;
-      some = if_some_on is S finished.shown (λ x e. subst S (sym e) some) shown;
+      relay_is = ap (λ (v : SenderValue). v.relay) said ∙ same;
+      some = subst S (sym said) some;
       all = λ ended. absurd (false≢true (sym unmarked ∙ ended));
       over = λ ended. absurd (false≢true (sym unmarked ∙ ended));
     }
 
 -- the sender and the receiver are of one relay
-pub one_relay : (old new : StationValue) (relay : RelayId) (finished : FinishedValue) (receiver : ReceiverValue) → IsHandedOn old new relay finished → receiver.relay ≡ relay → IfSome finished.shown (λ shown. shown.relay ≡ receiver.relay)
-one_relay old new relay finished receiver handed same =
-    let S : SenderValue → Type 0 = λ shown. shown.relay ≡ relay in
-    let R : SenderValue → Type 0 = λ shown. shown.relay ≡ receiver.relay in
-    if_some_on S R finished.shown (λ x e. e ∙ sym same) handed.relay_is
+pub one_relay : (old new : StationValue) (relay : RelayId) (finished : FinishedValue) (receiver : ReceiverValue) → IsHandedOn old new relay finished → receiver.relay ≡ relay → finished.sender.relay ≡ receiver.relay
+one_relay old new relay finished receiver handed same = handed.relay_is ∙ sym same
 
 -- What was handed on was written, or a beginning of it.
 

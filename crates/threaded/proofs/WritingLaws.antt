@@ -234,3 +234,73 @@ writes_flushed {W} {T} contents failures old a mid b new c r w came stays all pa
           let both = flush_failed r Write e failed in
           subst F w.unfailed both.1);
     }
+
+-- Nothing came, and what waited in the buffer was written, or not.
+
+waiting_sent : (contents_a contents_b contents_c : Option (List ℕ)) (given waiting now : List ℕ) → Sends contents_a contents_b given waiting → Sends contents_b contents_c (waiting ++ bytes_of []) now → Sends contents_a contents_c given now
+waiting_sent contents_a contents_b contents_c given waiting now first second =
+    let S : List ℕ → Type 0 = λ v. Sends contents_a contents_c v now in
+    subst S (append-nil given) (sends_on contents_a contents_b contents_c given waiting [] now first second)
+
+pub put_none : {W T : Type 0} (contents : W → Option (List ℕ)) (failures : W → ℕ) (a : Outlet W) (x : T) → IsPut contents failures a [] a (Ok x)
+put_none contents failures a x = puts_all contents failures a [] a x (puts_nothing contents failures a)
+
+pub puts_flushed : {W T : Type 0} (contents : W → Option (List ℕ)) (failures : W → ℕ) (a c : Outlet W) (r : Result T RunFault) → c.output ≡ record a.output { writer = [] }
+    → OnOk r (Appends (contents a.sink) (contents c.sink) a.output.writer) → OnErr r (SendsBeginning (contents a.sink) (contents c.sink) a.output.writer)
+    → OnOk r (failures c.sink ≡ failures a.sink) → OnErr r ((r ≡ Err Write) × FailsOnce (failures a.sink) (failures c.sink))
+    → IsPut contents failures a [] c r
+puts_flushed {W} {T} contents failures a c r stays all part same failed =
+    let waiting = a.output.writer in
+    let none : [] ≡ c.output.writer = ap (λ (o : SlotWriter). o.writer) (sym stays) in
+    let B : List ℕ → Type 0 = SendsBeginning (contents a.sink) (contents c.sink) in
+    record {
+      analysed = on_ok_always r
+          (λ rate period slots is.
+          let P : List (List ℕ) → Type 0 = HasAnalysed c.output rate period in
+          subst P (sym (append-nil slots)) (analysed_flushed a.output c.output rate period slots stays is));
+      written = on_ok_weaker r (λ out. (waiting, out, ap (λ v. waiting ++ v) none)) all;
+      begun = on_err_weaker r (λ out. subst B (sym (append-nil waiting)) out) part;
+      unfailed = same;
+      memory = λ e. (let both = flush_failed r Memory e failed in absurd (not_write both.0));
+      failed = λ e. (flush_failed r Write e failed).1;
+    }
+
+pub writes_waiting : {W T : Type 0} (contents : W → Option (List ℕ)) (failures : W → ℕ) (old : ReceiverValue) (a : Outlet W) (mid : ReceiverValue) (b : Outlet W) (new : ReceiverValue) (c : Outlet W) (put : Result T RunFault) (done : T)
+    → Writes contents failures old a mid b → new ≡ mid → put ≡ Ok done → IsPut contents failures b [] c put → Writes contents failures old a new c
+writes_waiting contents failures old a mid b new c put done w still is put_is =
+    let sends = is_fine put done is put_is.written in
+    let more = is_fine put done is put_is.analysed in
+    record {
+      taken = w.taken;
+      relay = ap (λ (e : ReceiverValue). e.relay) still ∙ w.relay;
+      received = ap (λ (e : ReceiverValue). e.received) still ∙ w.received;
+      analysed = λ rate period slots is'.
+          (let P : List (List ℕ) → Type 0 = HasAnalysed c.output rate period in
+          let all = slots ++ packets_in w.taken in
+          subst P (append-nil all) (more rate period all (w.analysed rate period slots is')));
+      written = waiting_sent (contents a.sink) (contents b.sink) (contents c.sink) (a.output.writer ++ bytes_of (packets_in w.taken)) b.output.writer c.output.writer w.written sends;
+      unfailed = is_fine put done is put_is.unfailed ∙ w.unfailed;
+    }
+
+-- this is answered where it failed
+pub fails_waiting : {W T S : Type 0} (contents : W → Option (List ℕ)) (failures : W → ℕ) (old : ReceiverValue) (a : Outlet W) (mid : ReceiverValue) (b : Outlet W) (new : ReceiverValue) (c : Outlet W) (put : Result T RunFault) (fault : RunFault) (r : Result S RunFault)
+    → Writes contents failures old a mid b → new ≡ mid → put ≡ Err fault → r ≡ Err fault → IsPut contents failures b [] c put → IsWritten contents failures old a new c r
+fails_waiting {W} {T} {S} contents failures old a mid b new c put fault r w still is answered put_is =
+    let part = is_failed put fault is put_is.begun in
+    let B : List ℕ → Type 0 = SendsBeginning (contents a.sink) (contents c.sink) in
+    let given = a.output.writer ++ bytes_of (packets_in w.taken) in
+    let sent : B given = (part.0, waiting_sent (contents a.sink) (contents b.sink) (contents c.sink) given b.output.writer part.0 w.written part.1) in
+    let O : Result S RunFault → Type 0 = λ v. OnErr v (B given) in
+    let same : (f : RunFault) → r ≡ Err f → put ≡ Err f = λ f e. is ∙ ap Err (same_err r fault f answered e) in
+    record {
+      taken = w.taken;
+      relay = ap (λ (e : ReceiverValue). e.relay) still ∙ w.relay;
+      received = ap (λ (e : ReceiverValue). e.received) still ∙ w.received;
+      ended = not_ok _ r fault answered;
+      analysed = not_ok _ r fault answered;
+      written = not_ok _ r fault answered;
+      begun = subst O (sym answered) sent;
+      unfailed = not_ok _ r fault answered;
+      memory = λ e. put_is.memory (same Memory e) ∙ w.unfailed;
+      failed = λ e. (let F : ℕ → Type 0 = λ n. FailsOnce n (failures c.sink) in subst F w.unfailed (put_is.failed (same Write e)));
+    }

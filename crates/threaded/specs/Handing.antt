@@ -1,5 +1,5 @@
 -- How what a run sent is handed on to its output (profile).
-use Rattle.std.specs.Prelude.{◌≡◌, ℕ, List, ◌++◌, true, IfSome}
+use Rattle.std.specs.Prelude.{◌≡◌, ℕ, List, ◌++◌, true}
 use Rattle.mux.specs.History.{emitted}
 use Rattle.relay.specs.Relays.{RelayId, FinishedValue}
 use Rattle.serial.specs.Running.{IsOver}
@@ -30,7 +30,7 @@ pub record HandsAllBut (old new : StationValue) (blocks : List (List (List ℕ))
 -- The run went on, and the sender of this relay sent the first of the packets that it sent meanwhile. Where the sender sent the end
 -- mark it sent all of them, and the run went on to its end.
 pub record IsHandedOn (old new : StationValue) (relay : RelayId) (finished : FinishedValue) : Type 0 where
-  pub relay_is : IfSome finished.shown (λ shown. shown.relay ≡ relay)
-  pub some : IfSome finished.shown (λ shown. HandsSome old new shown.sent)
-  pub all : finished.is_ended ≡ true → IfSome finished.shown (λ shown. HandsAll old new shown.sent)
+  pub relay_is : finished.sender.relay ≡ relay
+  pub some : HandsSome old new finished.sender.sent
+  pub all : finished.is_ended ≡ true → HandsAll old new finished.sender.sent
   pub over : finished.is_ended ≡ true → IsOver new.history.run new.history.events

@@ -122,9 +122,9 @@ pub record HasBegun {R : Type 0} (remaining : R → Option (List ℕ)) (failures
   -- it takes what the inputs give, each input's packets in their order
   pub faithful : AreKnown (map remaining readers)
       → TakesWhatCame h.run.plan (map remaining readers) (map (λ left. remaining left.0) lefts) (map (λ left. left.1) lefts) h.events
-  -- a worker's want of memory is told as that, whatever the writer did
+  -- of these labels, which nothing ties to the workers of the run: where one wanted memory that is told, whatever the writer did
   pub refused : (i : ℕ) (left : R × Option Stop) → slice_get lefts i ≡ Some left → left.1 ≡ Some Memory → fault ≡ run_faults.Memory
-  -- and where a write failed nothing but that is told so
+  -- and where a write failed memory is told only where one did
   pub wanted : fault ≡ run_faults.Memory → (failed_after ≡ failed_before)
       ⊎ ((i : ℕ) × (left : R × Option Stop) × (slice_get lefts i ≡ Some left) × (left.1 ≡ Some Memory))
 
@@ -149,7 +149,7 @@ pub record RunsThrough {R G : Type 0} (remaining : R → Option (List ℕ)) (fai
 pub record IsCutShort {R G : Type 0} (remaining : R → Option (List ℕ)) (failures : R → ℕ) (limit : InputLimit) (p : PlanValue) (opened : StationValue) (seats : List ((R × G) × PortValue)) (output : SlotWriter) (before after : Option (List ℕ)) (failed_before failed_after : ℕ) (fault : RunFault) : Type 0 where
   pub station : StationValue
   pub stopped : ((ended : List (Ended R G)) × HaveWorked remaining failures limit p station seats ended) ⊎ (station ≡ opened)
-  -- a failed write is told where no worker wanted memory, and want of memory at a failed write where one did
+  -- of such workers: a failed write is told where none wanted memory, and want of memory at a failed write where one did
   pub unwanted : fault ≡ run_faults.Write → (ended : List (Ended R G)) × HaveWorked remaining failures limit p station seats ended × HadMemory ended
   pub wanted : fault ≡ run_faults.Memory → (failed_after ≡ failed_before)
       ⊎ ((ended : List (Ended R G)) × HaveWorked remaining failures limit p station seats ended × WantedMemory ended)

@@ -1,6 +1,6 @@
 //! How a run goes on, and how what goes out of it is handed on.
 
-ghost use Rattle.std.specs.Prelude.{◌≡◌, ◌⊎◌, ◌≤◌, ◌++◌, ◌∷◌, [], ℕ, List, true, IfSome, MatchBool, vec_capacity};
+ghost use Rattle.std.specs.Prelude.{◌≡◌, ◌⊎◌, ◌≤◌, ◌++◌, ◌∷◌, [], ℕ, List, true, MatchBool, vec_capacity};
 ghost use Rattle.serial.specs.Running.{IsOver};
 ghost use Rattle.station.specs.Stations.{StationValue};
 ghost use Rattle.threaded.specs.Handing.{HandsAllBut, HandsSome, IsHandedOn};
@@ -157,7 +157,7 @@ fn end<T: Wait + Clock>(
     sender: BlockSender,
     is_over: &Arc<AtomicBool, Global>,
 ) -> FinishedSender
-    ensures { IfSome result.shown (λ shown. shown ≡ sender) }
+    ensures { result.sender ≡ sender }
 {
     let mut sender = sender;
     for _ in rt.forever() {

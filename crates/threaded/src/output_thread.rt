@@ -1,6 +1,6 @@
 //! The thread of the output, from its start to its end.
 
-ghost use Rattle.std.specs.Prelude.{◌≡◌, ◌≤◌, [], Err, IfOk, IfErr, IfSome, OnOk, OnErr, vec_capacity};
+ghost use Rattle.std.specs.Prelude.{◌≡◌, ◌≤◌, [], Err, IfOk, IfErr, OnOk, OnErr, vec_capacity};
 ghost use Rattle.reading.specs.Failures.{FailsOnce};
 ghost use Rattle.relay.specs.Relays.{IsNewRelay};
 ghost use Rattle.threaded.specs.declared.passage.TheConstants.{STEPS, BLOCKS};
@@ -47,7 +47,7 @@ fn start<T: Threads + Wait + Clock + Copy + Send + Drop + 'static, W: Sink + Sen
 ) -> Result<(BlockSender, OutputHandle<W>), (FinishedSender, Written<W>)>
     ensures started { IfOk result (λ s. (s.0 ≡ sender) × (s.1.promise.worker.value ≡ worker)) }
     ensures refused { IfErr result (λ e.
-        IfSome e.0.shown (λ shown. shown ≡ sender) × HasWritten W.contents W.failures worker e.1) }
+        (e.0.sender ≡ sender) × HasWritten W.contents W.failures worker e.1) }
 {
     let promise = OutputOf {
         worker: Snapshot::of(&worker),

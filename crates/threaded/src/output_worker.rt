@@ -1,5 +1,6 @@
 //! Analyses and writes what goes out of a run.
 
+ghost use Rattle.std.specs.Prelude.{◌≡◌, [], true, false};
 ghost use Rattle.threaded.specs.Outputs.{IsPut, IsWritten};
 
 use crate::outlet::Outlet;
@@ -46,7 +47,8 @@ impl<W: Sink + Drop> OutputWorker<W> {
     }
 }
 
-/// Analyses and writes what comes out of a relay, until the end mark comes.
+/// Analyses and writes what comes out of a relay, until the end mark comes. What waits in the buffer is written before the thread has
+/// waited twice in a row for what comes next.
 fn write_all<T: Wait + Clock, W: Sink>(
     rt: &T,
     receiver: &mut BlockReceiver,
@@ -54,17 +56,36 @@ fn write_all<T: Wait + Clock, W: Sink>(
 ) -> Result<(), RunFault>
     ensures { IsWritten W.contents W.failures receiver.old outlet.old receiver.new outlet.new result }
 {
+    let mut has_waited = false;
     for _ in rt.forever() {
         match receiver.next() {
             Some(Message::Block(block)) => {
+                has_waited = false;
                 put_all(block.as_slice(), outlet)?;
                 let _ = receiver.give_back(block);
             }
             Some(Message::End) => return outlet.output.flush(&mut outlet.sink),
-            None => pause(rt),
+            None => {
+                write_waiting(outlet, has_waited)?;
+                has_waited = true;
+                pause(rt);
+            }
         }
     }
     unreachable!()
+}
+
+/// Writes what waits in the buffer where the thread has waited and no block was seen since. Else it writes nothing, so that a busy run
+/// makes no more writes than its buffer wants.
+fn write_waiting<W: Sink>(outlet: &mut Outlet<W>, has_waited: bool) -> Result<(), RunFault>
+    ensures put { IsPut W.contents W.failures outlet.old [] outlet.new result }
+    ensures written { has_waited ≡ true → outlet.new.output.writer ≡ [] }
+    ensures unasked { has_waited ≡ false → outlet.new ≡ outlet.old }
+{
+    if !has_waited {
+        return Ok(());
+    }
+    outlet.output.flush(&mut outlet.sink)
 }
 
 /// Analyses and writes packets, in their order.

@@ -24,7 +24,8 @@ use std::time::Clock;
 
 /// Runs a plan in threads: reads one reader an input, each in a thread of its own and at most as many bytes of each as `limit` says
 /// at the input's format (up to 140,737,488,355,328), and analyses and writes the packet of each slot in one thread more, at most so
-/// many slots (0 to 2^40). It ends where all inputs have ended and nothing waits, or where it has all its slots.
+/// many slots (0 to 2^40). It ends where all inputs have ended and nothing waits, or where it has all its slots. What goes out is
+/// written 65,424 bytes at a time, or sooner: before that thread, which finds no packets to come, sleeps twice in a row.
 ///
 /// Each input has a gate, which is asked before each read, after each packet that went into the input's ring, and after each
 /// packet or end mark that found it full. Where it says no the input is read no further and left open, so a run whose gates

@@ -12,6 +12,7 @@ use Rattle.serial.specs.Feeding.{Feeds, GoesTo}
 use Rattle.reading.specs.declared.packet_reader.PacketReader.{PacketReader}
 use Rattle.serial.proofs.GivingLaws.{order_given, order_closed, order_refused}
 use Rattle.serial.proofs.FeedingLaws.{given_on, given_released, some_held, waited_for, next_may_be_taken, next_goes_to, feeds_closed, feeds_given, given_event, given_limit, given_failures, fewer, few_given}
+use Rattle.serial.proofs.WaitingLaws.{given_written, closed_written}
 use Rattle.serial.proofs.feeding.pull.Goals as goal
 
 -- the packet that is held goes to the stream that was found
@@ -33,13 +34,13 @@ give-requires g c =
     let h = c.args.mux.now in
     let i = c.args.number in
     let old = c.args.input.now in
-    let x = record old { reader = c.find.new.self } in
+    let x = record old { reader = c.find_next.new.reader } in
     let feeds = c.requires.feeds in
     let found = c.in_ok-stream.was ∙ ap Ok c.in-Some.is in
-    let item = some_held x.reader.held (c.find.ensures.found c.in-Some.stream found) in
-    let goes = found_stream g.R.Source.remaining h _ i c.in-Some.stream old c.find.new.self item.0 c.plan.ensures item.1 (c.find.ensures.number c.in-Some.stream found) feeds c.find.ensures.read c.find.ensures.goes.origin c.find.ensures.goes.limit in
+    let item = some_held x.reader.held (c.find_next.ensures.found c.in-Some.stream found) in
+    let goes = found_stream g.R.Source.remaining h _ i c.in-Some.stream old c.find_next.new.reader item.0 c.plan.ensures item.1 (c.find_next.ensures.number c.in-Some.stream found) feeds c.find_next.ensures.read c.find_next.ensures.goes.origin c.find_next.ensures.goes.limit in
     let wait = waited_for h.run.plan i h.events c.requires.unready.unready in
-    let given = given_on g.R.Source.remaining h.run.plan i feeds.0 old x (taken i h.events) feeds.1.given (subst (λ (v : PlanValue). ReadsOn g.R.Source.remaining v old.reader c.find.new.self) c.plan.ensures c.find.ensures.read) c.find.ensures.goes.origin c.find.ensures.goes.limit in
+    let given = given_on g.R.Source.remaining h.run.plan i feeds.0 old x (taken i h.events) feeds.1.given (subst (λ (v : PlanValue). ReadsOn g.R.Source.remaining v old.reader c.find_next.new.reader) c.plan.ensures c.find_next.ensures.read) c.find_next.ensures.goes.origin c.find_next.ensures.goes.limit in
     let released = given_released g.R.Source.remaining h.run.plan i feeds.0 x (taken i h.events) item.0 item.1 given in
     (i, item.0, item.1, goes, next_may_be_taken g.R.Source.remaining h.run.plan h.events i feeds.0 _ item.0 wait.open_ released.0, wait.noted)
 
@@ -47,57 +48,57 @@ pub returns-in-Some-clause-feeds : goal.returns-in-Some-clause-feeds
 returns-in-Some-clause-feeds g c =
     let h = c.args.mux.now in
     let i = c.args.number in
-    let x = record c.args.input.now { reader = c.find.new.self } in
+    let x = record c.args.input.now { reader = c.find_next.new.reader } in
     let found = c.in_ok-stream.was ∙ ap Ok c.in-Some.is in
-    let item = some_held x.reader.held (c.find.ensures.found c.in-Some.stream found) in
-    let goes = found_stream g.R.Source.remaining h _ i c.in-Some.stream c.args.input.now c.find.new.self item.0 c.plan.ensures item.1 (c.find.ensures.number c.in-Some.stream found) c.requires.feeds c.find.ensures.read c.find.ensures.goes.origin c.find.ensures.goes.limit in
+    let item = some_held x.reader.held (c.find_next.ensures.found c.in-Some.stream found) in
+    let goes = found_stream g.R.Source.remaining h _ i c.in-Some.stream c.args.input.now c.find_next.new.reader item.0 c.plan.ensures item.1 (c.find_next.ensures.number c.in-Some.stream found) c.requires.feeds c.find_next.ensures.read c.find_next.ensures.goes.origin c.find_next.ensures.goes.limit in
     let wait = waited_for h.run.plan i h.events c.requires.unready.unready in
     λ start feeds.
     feeds_given g.R.Source.remaining c.args.mux.now.run.plan h c.give.new.mux i start x c.give.new.input item.0 (c.give.ensures i item.0 item.1 goes) item.1
-    (given_on g.R.Source.remaining c.args.mux.now.run.plan i start c.args.input.now x (taken i h.events) feeds.given (subst (λ (v : PlanValue). ReadsOn g.R.Source.remaining v c.args.input.now.reader c.find.new.self) c.plan.ensures c.find.ensures.read) c.find.ensures.goes.origin c.find.ensures.goes.limit)
-    wait.open_ feeds.closed (record { unleft = λ e. feeds.own.unleft (c.find.ensures.goes.unleft e); unrefused = λ e. feeds.own.unrefused (c.in_ok-stream.ensures.unrefused e) })
+    (given_on g.R.Source.remaining c.args.mux.now.run.plan i start c.args.input.now x (taken i h.events) feeds.given (subst (λ (v : PlanValue). ReadsOn g.R.Source.remaining v c.args.input.now.reader c.find_next.new.reader) c.plan.ensures c.find_next.ensures.read) c.find_next.ensures.goes.origin c.find_next.ensures.goes.limit)
+    wait.open_ feeds.closed (record { unleft = λ e. feeds.own.unleft (c.find_next.ensures.goes.unleft e); unrefused = λ e. feeds.own.unrefused (c.in_ok-stream.ensures.unrefused e) })
 
 pub returns-in-Some-clause-event : goal.returns-in-Some-clause-event
 returns-in-Some-clause-event g c =
     let h = c.args.mux.now in
     let i = c.args.number in
-    let x = record c.args.input.now { reader = c.find.new.self } in
+    let x = record c.args.input.now { reader = c.find_next.new.reader } in
     let found = c.in_ok-stream.was ∙ ap Ok c.in-Some.is in
-    let item = some_held x.reader.held (c.find.ensures.found c.in-Some.stream found) in
-    let goes = found_stream g.R.Source.remaining h _ i c.in-Some.stream c.args.input.now c.find.new.self item.0 c.plan.ensures item.1 (c.find.ensures.number c.in-Some.stream found) c.requires.feeds c.find.ensures.read c.find.ensures.goes.origin c.find.ensures.goes.limit in
+    let item = some_held x.reader.held (c.find_next.ensures.found c.in-Some.stream found) in
+    let goes = found_stream g.R.Source.remaining h _ i c.in-Some.stream c.args.input.now c.find_next.new.reader item.0 c.plan.ensures item.1 (c.find_next.ensures.number c.in-Some.stream found) c.requires.feeds c.find_next.ensures.read c.find_next.ensures.goes.origin c.find_next.ensures.goes.limit in
     given_event h c.give.new.mux i x c.give.new.input item.0 (c.give.ensures i item.0 item.1 goes)
 
 pub returns-in-Some-clause-limit : goal.returns-in-Some-clause-limit
 returns-in-Some-clause-limit g c =
     let h = c.args.mux.now in
     let i = c.args.number in
-    let x = record c.args.input.now { reader = c.find.new.self } in
+    let x = record c.args.input.now { reader = c.find_next.new.reader } in
     let found = c.in_ok-stream.was ∙ ap Ok c.in-Some.is in
-    let item = some_held x.reader.held (c.find.ensures.found c.in-Some.stream found) in
-    let goes = found_stream g.R.Source.remaining h _ i c.in-Some.stream c.args.input.now c.find.new.self item.0 c.plan.ensures item.1 (c.find.ensures.number c.in-Some.stream found) c.requires.feeds c.find.ensures.read c.find.ensures.goes.origin c.find.ensures.goes.limit in
-    given_limit h c.give.new.mux i x c.give.new.input item.0 (c.give.ensures i item.0 item.1 goes) ∙ c.find.ensures.goes.limit
+    let item = some_held x.reader.held (c.find_next.ensures.found c.in-Some.stream found) in
+    let goes = found_stream g.R.Source.remaining h _ i c.in-Some.stream c.args.input.now c.find_next.new.reader item.0 c.plan.ensures item.1 (c.find_next.ensures.number c.in-Some.stream found) c.requires.feeds c.find_next.ensures.read c.find_next.ensures.goes.origin c.find_next.ensures.goes.limit in
+    given_limit h c.give.new.mux i x c.give.new.input item.0 (c.give.ensures i item.0 item.1 goes) ∙ c.find_next.ensures.goes.limit
 
 pub returns-in-Some-clause-failures : goal.returns-in-Some-clause-failures
 returns-in-Some-clause-failures g c =
     let h = c.args.mux.now in
     let i = c.args.number in
-    let x = record c.args.input.now { reader = c.find.new.self } in
+    let x = record c.args.input.now { reader = c.find_next.new.reader } in
     let found = c.in_ok-stream.was ∙ ap Ok c.in-Some.is in
-    let item = some_held x.reader.held (c.find.ensures.found c.in-Some.stream found) in
-    let goes = found_stream g.R.Source.remaining h _ i c.in-Some.stream c.args.input.now c.find.new.self item.0 c.plan.ensures item.1 (c.find.ensures.number c.in-Some.stream found) c.requires.feeds c.find.ensures.read c.find.ensures.goes.origin c.find.ensures.goes.limit in
-    λ count tells. given_failures g.R.Source.failures count h c.give.new.mux i x c.give.new.input item.0 (c.give.ensures i item.0 item.1 goes) (c.find.ensures.goes.failures_told count tells)
+    let item = some_held x.reader.held (c.find_next.ensures.found c.in-Some.stream found) in
+    let goes = found_stream g.R.Source.remaining h _ i c.in-Some.stream c.args.input.now c.find_next.new.reader item.0 c.plan.ensures item.1 (c.find_next.ensures.number c.in-Some.stream found) c.requires.feeds c.find_next.ensures.read c.find_next.ensures.goes.origin c.find_next.ensures.goes.limit in
+    λ count tells. given_failures g.R.Source.failures count h c.give.new.mux i x c.give.new.input item.0 (c.give.ensures i item.0 item.1 goes) (c.find_next.ensures.goes.failures_told count tells)
 
 pub returns-in-Some-clause-fewer : goal.returns-in-Some-clause-fewer
 returns-in-Some-clause-fewer g c =
     let h = c.args.mux.now in
     let i = c.args.number in
-    let x = record c.args.input.now { reader = c.find.new.self } in
+    let x = record c.args.input.now { reader = c.find_next.new.reader } in
     let feeds = c.requires.feeds in
     let found = c.in_ok-stream.was ∙ ap Ok c.in-Some.is in
-    let item = some_held x.reader.held (c.find.ensures.found c.in-Some.stream found) in
-    let goes = found_stream g.R.Source.remaining h _ i c.in-Some.stream c.args.input.now c.find.new.self item.0 c.plan.ensures item.1 (c.find.ensures.number c.in-Some.stream found) c.requires.feeds c.find.ensures.read c.find.ensures.goes.origin c.find.ensures.goes.limit in
+    let item = some_held x.reader.held (c.find_next.ensures.found c.in-Some.stream found) in
+    let goes = found_stream g.R.Source.remaining h _ i c.in-Some.stream c.args.input.now c.find_next.new.reader item.0 c.plan.ensures item.1 (c.find_next.ensures.number c.in-Some.stream found) c.requires.feeds c.find_next.ensures.read c.find_next.ensures.goes.origin c.find_next.ensures.goes.limit in
     let wait = waited_for h.run.plan i h.events c.requires.unready.unready in
-    let given = given_on g.R.Source.remaining c.args.mux.now.run.plan i feeds.0 c.args.input.now x (taken i h.events) feeds.1.given (subst (λ (v : PlanValue). ReadsOn g.R.Source.remaining v c.args.input.now.reader c.find.new.self) c.plan.ensures c.find.ensures.read) c.find.ensures.goes.origin c.find.ensures.goes.limit in
+    let given = given_on g.R.Source.remaining c.args.mux.now.run.plan i feeds.0 c.args.input.now x (taken i h.events) feeds.1.given (subst (λ (v : PlanValue). ReadsOn g.R.Source.remaining v c.args.input.now.reader c.find_next.new.reader) c.plan.ensures c.find_next.ensures.read) c.find_next.ensures.goes.origin c.find_next.ensures.goes.limit in
     let released = given_released g.R.Source.remaining c.args.mux.now.run.plan i feeds.0 x (taken i h.events) item.0 item.1 given in
     fewer h c.give.new.mux i x c.give.new.input item.0 (c.give.ensures i item.0 item.1 goes) (few_given g.R.Source.remaining c.args.mux.now.run.plan i feeds.0 _ _ released.0) wait.noted
 
@@ -105,40 +106,40 @@ pub returns-in-None-clause-feeds : goal.returns-in-None-clause-feeds
 returns-in-None-clause-feeds g c =
     let h = c.args.mux.now in
     let i = c.args.number in
-    let x = record c.args.input.now { reader = c.find.new.self } in
-    let done = c.find.ensures.done (c.in_ok-stream.was ∙ ap Ok c.in-None.is) in
+    let x = record c.args.input.now { reader = c.find_next.new.reader } in
+    let done = c.find_next.ensures.done (c.in_ok-stream.was ∙ ap Ok c.in-None.is) in
     λ start feeds.
-    let given = given_on g.R.Source.remaining c.args.mux.now.run.plan i start c.args.input.now x (taken i h.events) feeds.given (subst (λ (v : PlanValue). ReadsOn g.R.Source.remaining v c.args.input.now.reader c.find.new.self) c.plan.ensures c.find.ensures.read) c.find.ensures.goes.origin c.find.ensures.goes.limit in
+    let given = given_on g.R.Source.remaining c.args.mux.now.run.plan i start c.args.input.now x (taken i h.events) feeds.given (subst (λ (v : PlanValue). ReadsOn g.R.Source.remaining v c.args.input.now.reader c.find_next.new.reader) c.plan.ensures c.find_next.ensures.read) c.find_next.ensures.goes.origin c.find_next.ensures.goes.limit in
     let M : History → Type 0 = λ v. Feeds g.R.Source.remaining c.args.mux.now.run.plan v.events i start c.close.new.input in
     let N : SerialInput _ → Type 0 = Feeds g.R.Source.remaining c.args.mux.now.run.plan _ i start in
     subst M (sym c.close.ensures.closed) (subst N (sym c.close.ensures.input) (feeds_closed g.R.Source.remaining c.args.mux.now.run.plan h.events i start x given done
-    (record { unleft = λ e. feeds.own.unleft (c.find.ensures.goes.unleft e); unrefused = λ e. feeds.own.unrefused (c.in_ok-stream.ensures.unrefused e) })))
+    (record { unleft = λ e. feeds.own.unleft (c.find_next.ensures.goes.unleft e); unrefused = λ e. feeds.own.unrefused (c.in_ok-stream.ensures.unrefused e) })))
 
 pub returns-in-Some-clause-order : goal.returns-in-Some-clause-order
 returns-in-Some-clause-order g c =
     let h = c.args.mux.now in
     let i = c.args.number in
     let old = c.args.input.now in
-    let x = record old { reader = c.find.new.self } in
+    let x = record old { reader = c.find_next.new.reader } in
     let feeds = c.requires.feeds in
     let found = c.in_ok-stream.was ∙ ap Ok c.in-Some.is in
-    let item = some_held x.reader.held (c.find.ensures.found c.in-Some.stream found) in
-    let goes = found_stream g.R.Source.remaining h _ i c.in-Some.stream c.args.input.now c.find.new.self item.0 c.plan.ensures item.1 (c.find.ensures.number c.in-Some.stream found) c.requires.feeds c.find.ensures.read c.find.ensures.goes.origin c.find.ensures.goes.limit in
+    let item = some_held x.reader.held (c.find_next.ensures.found c.in-Some.stream found) in
+    let goes = found_stream g.R.Source.remaining h _ i c.in-Some.stream c.args.input.now c.find_next.new.reader item.0 c.plan.ensures item.1 (c.find_next.ensures.number c.in-Some.stream found) c.requires.feeds c.find_next.ensures.read c.find_next.ensures.goes.origin c.find_next.ensures.goes.limit in
     let wait = waited_for h.run.plan i h.events c.requires.unready.unready in
     order_given i h c.give.new.mux old x c.give.new.input item.0 (c.give.ensures i item.0 item.1 goes) item.1
-    (λ some. ap (λ (v : PacketReader _). v.held) (sym (c.find.ensures.stays some)) ∙ item.1) (feeds.1.closed ∙ wait.open_)
+    (λ some. ap (λ (v : PacketReader _). v.held) (sym (c.find_next.ensures.stays some)) ∙ item.1) (feeds.1.closed ∙ wait.open_)
 
 pub returns-in-None-clause-order : goal.returns-in-None-clause-order
 returns-in-None-clause-order g c =
     let h = c.args.mux.now in
     let i = c.args.number in
     let old = c.args.input.now in
-    let x = record old { reader = c.find.new.self } in
+    let x = record old { reader = c.find_next.new.reader } in
     let feeds = c.requires.feeds in
-    let done = c.find.ensures.done (c.in_ok-stream.was ∙ ap Ok c.in-None.is) in
+    let done = c.find_next.ensures.done (c.in_ok-stream.was ∙ ap Ok c.in-None.is) in
     let wait = waited_for h.run.plan i h.events c.requires.unready.unready in
     order_closed i h c.close.new.mux old x c.close.new.input c.close.ensures.closed c.close.ensures.input
-    (λ some. ap (λ (v : PacketReader _). v.held) (sym (c.find.ensures.stays some)) ∙ done.held) (feeds.1.closed ∙ wait.open_)
+    (λ some. ap (λ (v : PacketReader _). v.held) (sym (c.find_next.ensures.stays some)) ∙ done.held) (feeds.1.closed ∙ wait.open_)
 
 pub returns-in_err-stream-clause-order : goal.returns-in_err-stream-clause-order
 returns-in_err-stream-clause-order g c =
@@ -147,8 +148,8 @@ returns-in_err-stream-clause-order g c =
     let old = c.args.input.now in
     let feeds = c.requires.feeds in
     let wait = waited_for h.run.plan i h.events c.requires.unready.unready in
-    order_refused i h.events h.events old (record old { reader = c.find.new.self }) refl
-    (λ some. ap (λ (v : PacketReader _). v.held) (sym (c.find.ensures.stays some))) (feeds.1.closed ∙ wait.open_)
+    order_refused i h.events h.events old (record old { reader = c.find_next.new.reader }) refl
+    (λ some. ap (λ (v : PacketReader _). v.held) (sym (c.find_next.ensures.stays some))) (feeds.1.closed ∙ wait.open_)
 
 pub returns-in_err-stream-clause-given : goal.returns-in_err-stream-clause-given
 returns-in_err-stream-clause-given g c =
@@ -159,8 +160,26 @@ returns-in_err-stream-clause-given g c =
     on_err_always c.from_residual.result
     (λ start feeds.
     record {
-      given = given_on g.R.Source.remaining h.run.plan i start old (record old { reader = c.find.new.self }) (taken i h.events) feeds.given
-          (subst (λ (v : PlanValue). ReadsOn g.R.Source.remaining v old.reader c.find.new.self) c.plan.ensures c.find.ensures.read) c.find.ensures.goes.origin c.find.ensures.goes.limit;
+      given = given_on g.R.Source.remaining h.run.plan i start old (record old { reader = c.find_next.new.reader }) (taken i h.events) feeds.given
+          (subst (λ (v : PlanValue). ReadsOn g.R.Source.remaining v old.reader c.find_next.new.reader) c.plan.ensures c.find_next.ensures.read) c.find_next.ensures.goes.origin c.find_next.ensures.goes.limit;
       closed = feeds.closed;
       over = λ e. absurd (false≢true (sym wait.open_ ∙ sym feeds.closed ∙ e));
     })
+
+pub returns-in-Some-clause-written : goal.returns-in-Some-clause-written
+returns-in-Some-clause-written g c =
+    let h = c.args.mux.now in
+    let i = c.args.number in
+    let x = record c.args.input.now { reader = c.find_next.new.reader } in
+    let found = c.in_ok-stream.was ∙ ap Ok c.in-Some.is in
+    let item = some_held x.reader.held (c.find_next.ensures.found c.in-Some.stream found) in
+    let goes = found_stream g.R.Source.remaining h _ i c.in-Some.stream c.args.input.now c.find_next.new.reader item.0 c.plan.ensures item.1 (c.find_next.ensures.number c.in-Some.stream found) c.requires.feeds c.find_next.ensures.read c.find_next.ensures.goes.origin c.find_next.ensures.goes.limit in
+    given_written h c.give.new.mux i x c.give.new.input item.0 c.args.input.now.reader c.find_next.new.output (c.give.ensures i item.0 item.1 goes) c.find_next.ensures.written
+
+pub returns-in-None-clause-written : goal.returns-in-None-clause-written
+returns-in-None-clause-written g c =
+    let x = record c.args.input.now { reader = c.find_next.new.reader } in
+    closed_written x c.close.new.input c.args.input.now.reader c.find_next.new.output c.close.ensures.input c.find_next.ensures.written
+
+pub returns-in_err-stream-clause-written : goal.returns-in_err-stream-clause-written
+returns-in_err-stream-clause-written g c = c.find_next.ensures.written

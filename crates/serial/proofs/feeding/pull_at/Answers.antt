@@ -1,12 +1,14 @@
-use Rattle.std.proofs.Common.{ℕ, ◌<◌, List, Option, set, sym, subst, length, arith}
-use Rattle.std.proofs.lemmas.Result.{on_ok_weaker}
+use Rattle.std.proofs.Common.{ℕ, ◌≡◌, ◌<◌, ◌⊎◌, List, Option, Some, set, sym, subst, length, arith, inl, inr}
+use Rattle.std.specs.Prelude.{OnErr}
 use Rattle.mux.specs.History.{History}
 use Rattle.serial.specs.Feeding.{Feeds}
 use Rattle.serial.specs.Giving.{KeepOrder}
 use Rattle.serial.specs.Running.{AreFed}
 use Rattle.serial.proofs.FailureLaws.{all_tell}
-use Rattle.serial.proofs.HaltedLaws.{halted_refused, all_limited}
+use Rattle.serial.proofs.HaltedLaws.{halted_looked, unrefused_looked, all_limited}
+use Rattle.reading.specs.declared.stop.Stop.TheVariants.{Memory}
 use Rattle.serial.proofs.SendingLaws.{on_err_three}
+use Rattle.serial.proofs.WaitingLaws.{on_fault}
 use Rattle.serial.proofs.FeedingLaws.{on_ok_two}
 use Rattle.serial.proofs.RunningLaws.{fed_input}
 use Rattle.serial.proofs.GivingLaws.{keep_order, taken_still}
@@ -26,13 +28,12 @@ returns-clause-failures g c befores all =
     all_tell g.R.Source.failures befores c.args.inputs.now.items c.args.number c.index_mut.result.now c.pull.new.input c.index_mut.ensures.value c.pull.ensures.failures all
 
 pub returns-clause-limited : goal.returns-clause-limited
-returns-clause-limited g c =
+returns-clause-limited g c limit p all =
     let l = c.requires.unready.input in
     let within : c.args.number < length c.args.inputs.now.items = omega (arith, l, c.requires.fed.1.count) in
-    on_ok_weaker c.pull.result
-    (λ size limit p all. all_limited limit p c.args.inputs.now.items c.args.number c.index_mut.result.now c.pull.new.input c.index_mut.ensures.value within size all)
-    c.pull.ensures.limit
+    all_limited limit p c.args.inputs.now.items c.args.number c.index_mut.result.now c.pull.new.input c.index_mut.ensures.value within c.pull.ensures.limit all
 
+-- the inputs of a run whose fault ended it at one that was looked at
 pub returns-clause-halted : goal.returns-clause-halted
 returns-clause-halted g c =
     let h = c.args.mux.now in
@@ -43,10 +44,19 @@ returns-clause-halted g c =
     let l = c.requires.unready.input in
     let within : i < length items = omega (arith, l, c.requires.fed.1.count) in
     let waits = c.requires.unready.unready in
-    on_err_three c.pull.result c.pull.ensures.refused c.pull.ensures.given c.pull.ensures.err
-    (λ memory given same limit starts fed limited order.
+    let stopped : OnErr c.pull.result ((y.reader.report.stopped ≡ Some Memory) ⊎ (y.reader.report.stopped ≡ x.reader.report.stopped)) =
+    on_fault c.pull.result (λ e. inl (c.pull.ensures.refused e)) (λ e. inr (c.pull.ensures.unrefused e)) in
+    on_err_three c.pull.result stopped c.pull.ensures.given c.pull.ensures.err
+    (λ stop given same limit starts fed limited order.
     let K : History → Type 0 = λ v. KeepOrder h.events v.events items (set items i y) in
-    halted_refused g.R.Source.remaining limit h.run.plan h.events i starts items x y c.index_mut.ensures.value within waits memory fed limited given (subst K same (returns-clause-order g c)) order)
+    halted_looked g.R.Source.remaining limit h.run.plan h.events i starts items x y c.index_mut.ensures.value within waits stop fed limited given (subst K same (returns-clause-order g c)) order)
+
+pub returns-clause-unrefused : goal.returns-clause-unrefused
+returns-clause-unrefused g c e starts fed =
+    let l = c.requires.unready.input in
+    let within : c.args.number < length c.args.inputs.now.items = omega (arith, l, c.requires.fed.1.count) in
+    unrefused_looked g.R.Source.remaining c.args.mux.now.run.plan c.args.mux.now.events c.args.number starts c.args.inputs.now.items c.index_mut.result.now c.pull.new.input c.index_mut.ensures.value within
+    (c.pull.ensures.unrefused e) fed
 
 pub returns-clause-fed : goal.returns-clause-fed
 returns-clause-fed g c =

@@ -4,7 +4,7 @@ use Rattle.relay.specs.declared.message.Message.{Message}
 use Rattle.relay.specs.Receiving.{IsReceived}
 use Rattle.threaded.specs.Outputs.{IsPut}
 use Rattle.threaded.specs.declared.outlet.Outlet.{Outlet}
-use Rattle.threaded.proofs.WritingLaws.{comes, gave_back, writes_nothing, writes_block, fails_block, writes_flushed}
+use Rattle.threaded.proofs.WritingLaws.{comes, gave_back, writes_nothing, writes_block, fails_block, writes_flushed, writes_waiting, fails_waiting}
 use Rattle.threaded.proofs.output_worker.write_all.Goals as goal
 
 pub loop-init : goal.loop-init
@@ -66,3 +66,23 @@ returns-in-Some-End g c =
     let b : Outlet _ = record { output = c.flush.new.self; sink = c.flush.new.sink } in
     writes_flushed g.W.Sink.contents g.W.Sink.failures c.args.receiver.now c.args.outlet.now c.loop.receiver c.loop.outlet c.next-in-loop.new.self b c.flush.result
     c.loop.invariant.writes r.1 c.flush.ensures.stays c.flush.ensures.ok c.flush.ensures.begun c.flush.ensures.failures c.flush.ensures.failed
+
+pub returns-in_err-write_waiting-in-None-next : goal.returns-in_err-write_waiting-in-None-next
+returns-in_err-write_waiting-in-None-next g c =
+    let mid = c.next-in-loop.new.self in
+    let R : Option Message → Type 0 = λ v. IsReceived c.loop.receiver v mid in
+    let still = subst R c.in-None-next.is c.next-in-loop.ensures.received in
+    let answer = c.from_residual-in_err-write_waiting-in-None-next in
+    let passed = err_from_is_err_and answer.result answer.ensures.1 in
+    fails_waiting g.W.Sink.contents g.W.Sink.failures c.args.receiver.now c.args.outlet.now c.loop.receiver c.loop.outlet mid c.write_waiting.new.outlet c.write_waiting.result passed.0 answer.result
+    c.loop.invariant.writes still (c.in_err-write_waiting-in-None-next.was ∙ ap Err (sym passed.2)) passed.1 c.write_waiting.ensures.put
+
+pub loop-preserved : goal.loop-preserved
+loop-preserved g c =
+    let mid = c.next-in-loop.new.self in
+    let R : Option Message → Type 0 = λ v. IsReceived c.loop.receiver v mid in
+    let still = subst R c.in-None-next.is c.next-in-loop.ensures.received in
+    record {
+      writes = writes_waiting g.W.Sink.contents g.W.Sink.failures c.args.receiver.now c.args.outlet.now c.loop.receiver c.loop.outlet mid c.write_waiting.new.outlet c.write_waiting.result tt
+          c.loop.invariant.writes still c.in_ok-write_waiting-in-None-next.was c.write_waiting.ensures.put;
+    }

@@ -1,4 +1,4 @@
-use Rattle.std.proofs.Common.{◌≡◌, length, refl, ap, ◌∙◌, sym, subst, inl, inr, arith}
+use Rattle.std.proofs.Common.{◌≡◌, length, refl, ap, ◌∙◌, sym, subst, inl, inr, arith, Err}
 use Rattle.std.specs.List.{length_refill}
 use Rattle.std.specs.Vec.{with_items}
 use Rattle.mux.specs.History.{Run, History}
@@ -9,8 +9,10 @@ use Rattle.serial.specs.Feeding.{AreLimited}
 use Rattle.serial.specs.Giving.{TakesInOrder}
 use Rattle.serial.specs.Running.{TakesAsNeeded, IsRunning, AreFed, AreHalted}
 use Rattle.serial.proofs.HaltedLaws.{halted_fed, halted_running, unrefused_running}
-use Rattle.serial.proofs.SendingLaws.{on_err_always}
-use Rattle.serial.proofs.RunningLaws.{runs_sent, fewer_sent, written_sent, unsent_stays, runs_pulled, fewer_pulled, fed_sent, order_sent, needed_sent, sent_begun}
+use Rattle.serial.proofs.SendingLaws.{on_err_always, same_err}
+use Rattle.serial.specs.declared.run_fault.RunFault.TheVariants.{Write}
+use Rattle.std.proofs.lemmas.Result.{err_from_is_err_and}
+use Rattle.serial.proofs.RunningLaws.{runs_sent, fewer_sent, written_sent, unsent_stays, runs_pulled, fewer_pulled, written_pulled, begun_pulled, fed_sent, order_sent, needed_sent, sent_begun}
 use Rattle.serial.proofs.serial_run.SerialRun.step.Goals as goal
 
 pub unwrap-packet-requires : goal.unwrap-packet-requires
@@ -36,15 +38,31 @@ returns-in_ok-pull_at-in-NotReady-clause-runs g c run limit starts is =
     let kept = length_refill old.piece.len old.piece.items c.pull_at.new.piece length_is in
     let some = is.piece in
     runs_pulled g.R.Source.remaining run limit starts old
-    (record old { mux = c.pull_at.new.mux; inputs = c.pull_at.new.inputs; piece = with_items old.piece c.pull_at.new.piece })
-    c.send_next.new.self c.in-NotReady.input is c.in-NotReady.ensures.answer.1.within c.in-NotReady.ensures.answer.2 c.in-NotReady.ensures.answer.0 (omega (arith, some, length_is, kept)) refl
-    c.in_ok-pull_at-in-NotReady.ensures.event c.in_ok-pull_at-in-NotReady.ensures.fed c.in_ok-pull_at-in-NotReady.ensures.limited c.pull_at.ensures.order
+    (record old { mux = c.pull_at.new.mux; inputs = c.pull_at.new.inputs; piece = with_items old.piece c.pull_at.new.piece; output = c.pull_at.new.output })
+    c.send_next.new.self c.in-NotReady.input is c.in-NotReady.ensures.answer.1.within c.in-NotReady.ensures.answer.2 c.in-NotReady.ensures.answer.0 (omega (arith, some, length_is, kept)) c.pull_at.ensures.out.output
+    c.in_ok-pull_at-in-NotReady.ensures.event c.in_ok-pull_at-in-NotReady.ensures.fed c.pull_at.ensures.limited c.pull_at.ensures.order
 
 pub returns-in_ok-pull_at-in-NotReady-clause-fewer :
     goal.returns-in_ok-pull_at-in-NotReady-clause-fewer
 returns-in_ok-pull_at-in-NotReady-clause-fewer g c e =
     fewer_pulled c.args.self.now.mux c.send_next.new.self c.pull_at.new.mux c.in-NotReady.input c.in-NotReady.ensures.answer.0 c.in-NotReady.ensures.answer.2.input
     c.in_ok-pull_at-in-NotReady.ensures.event c.in_ok-pull_at-in-NotReady.ensures.fewer
+
+pub returns-in_ok-pull_at-in-NotReady-clause-written :
+    goal.returns-in_ok-pull_at-in-NotReady-clause-written
+returns-in_ok-pull_at-in-NotReady-clause-written g c before first =
+    let old = c.args.self.now in
+    written_pulled old.mux.run.plan old.mux c.send_next.new.self c.pull_at.new.mux c.in-NotReady.input before (g.W.Sink.contents c.args.sink.now) (g.W.Sink.contents c.pull_at.new.sink) old.output.writer c.pull_at.new.output.writer
+    c.in-NotReady.ensures.answer.0 c.in_ok-pull_at-in-NotReady.ensures.event first c.in_ok-pull_at-in-NotReady.ensures.out.written
+
+pub returns-in_err-pull_at-in-NotReady-clause-sent_begun :
+    goal.returns-in_err-pull_at-in-NotReady-clause-sent_begun
+returns-in_err-pull_at-in-NotReady-clause-sent_begun g c =
+    let old = c.args.self.now in
+    on_err_always c.from_residual-in_err-pull_at-in-NotReady.result
+    (λ before first.
+    begun_pulled old.mux.run.plan old.mux c.pull_at.new.mux before (g.W.Sink.contents c.args.sink.now) (g.W.Sink.contents c.pull_at.new.sink) old.output.writer
+    (c.in_err-pull_at-in-NotReady.ensures.err ∙ c.in-NotReady.ensures.answer.0) first c.pull_at.ensures.out.begun)
 
 pub returns-in_err-put-in-Sent-clause-halted : goal.returns-in_err-put-in-Sent-clause-halted
 returns-in_err-put-in-Sent-clause-halted g c =
@@ -87,6 +105,22 @@ returns-in_err-pull_at-in-NotReady-clause-halted g c =
     let L : PlanValue → Type 0 = λ p. AreLimited limit p old.inputs.items in
     let halted = c.in_err-pull_at-in-NotReady.ensures.halted limit starts (subst F (sym same) (subst G (sym plan) is.fed)) (subst L (sym plan) is.limited) (subst T (sym same) is.in_order) in
     (subst B (sym err) (subst A plan halted), subst N (sym err) (subst N (sym same) is.needed)))
+
+pub returns-in_err-pull_at-in-NotReady-clause-unrefused :
+    goal.returns-in_err-pull_at-in-NotReady-clause-unrefused
+returns-in_err-pull_at-in-NotReady-clause-unrefused g c e =
+    let old = c.args.self.now in
+    let between = c.send_next.new.self in
+    let goes = c.requires in
+    let is = goes.3 in
+    let same : between ≡ old.mux = c.in-NotReady.ensures.answer.0 in
+    let plan : between.run.plan ≡ goes.0.plan = ap (λ (v : History). v.run.plan) same ∙ ap (λ (r : Run). r.plan) is.run_is in
+    let F : History → Type 0 = λ v. AreFed g.R.Source.remaining between.run.plan v.events goes.2 old.inputs.items in
+    let G : PlanValue → Type 0 = λ p. AreFed g.R.Source.remaining p old.mux.events goes.2 old.inputs.items in
+    let answer = c.from_residual-in_err-pull_at-in-NotReady in
+    let passed = err_from_is_err_and answer.result answer.ensures.1 in
+    let write : passed.0 ≡ Write = same_err answer.result passed.0 Write passed.1 e in
+    c.pull_at.ensures.unrefused (c.in_err-pull_at-in-NotReady.was ∙ ap Err (sym passed.2 ∙ write)) goes.2 (subst F (sym same) (subst G (sym plan) is.fed))
 
 pub returns-in-Memory-clause-halted : goal.returns-in-Memory-clause-halted
 returns-in-Memory-clause-halted g c run limit starts is =
