@@ -83,6 +83,27 @@ fn parse<'a, S: AsStr>(alloc: Global, words: &'a [S]) -> Result<Option<Command<'
     }
 }
 
+/// How the parser says that a number is none that `--slots` may have.
+const NO_LENGTH: &str = "for '--slots <N>': ";
+
+/// How the parser ends what it says.
+const ADVICE: &str = "\n\nFor more information";
+
+/// The same, behind a word of what longer runs are asked for by.
+const ADVICE_ON_LENGTH: &str =
+    "\n\n  tip: '--all' goes on until the inputs end\n\nFor more information";
+
+/// Why words are refused, by what the parser says: where it is the length of a run, `--all` is mentioned.
+fn refused(alloc: Global, kind: ErrorKind, text: String) -> LineFault {
+    if kind != ErrorKind::ValueValidation || !text.contains(NO_LENGTH) {
+        return LineFault::Refused(text);
+    }
+    match text.replacen(alloc, ADVICE, ADVICE_ON_LENGTH, 1) {
+        Ok(text) => LineFault::Refused(text),
+        Err(_) => LineFault::Memory,
+    }
+}
+
 /// What the parser tells, as text.
 fn fault_of(alloc: Global, error: &Error) -> LineFault {
     let kind = error.kind();
@@ -93,7 +114,7 @@ fn fault_of(alloc: Global, error: &Error) -> LineFault {
         Ok(text) if matches!(kind, ErrorKind::DisplayHelp | ErrorKind::DisplayVersion) => {
             LineFault::Help(text)
         }
-        Ok(text) => LineFault::Refused(text),
+        Ok(text) => refused(alloc, kind, text),
         Err(_) => LineFault::Memory,
     }
 }

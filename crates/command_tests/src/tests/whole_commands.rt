@@ -236,6 +236,27 @@ fn words_are_judged_first(rt: HostRuntime) -> Result<(), Fail> {
     Ok(())
 }
 
+/// A run that is to be longer than `--slots` may say is told of `--all`; an analysis has no such word.
+#[test]
+fn too_many_slots_are_refused_with_a_word_of_all(rt: HostRuntime) -> Result<(), Fail> {
+    let alloc = rt.alloc();
+    let words = [
+        "run", "--plan", "x.toml", "--out", "o", "--slots", "2000000",
+    ];
+    let done = does(rt, &words, &mut MemoryFiles::new(alloc)?)?;
+    let told = "error: invalid value '2000000' for '--slots <N>': 2000000 is not in 1..=1000000
+
+  tip: '--all' goes on until the inputs end
+
+For more information, try '--help'.
+";
+    ends(&rt, &done, 2, "", told);
+    let words = ["analyse", "--rate", "500000", "--period", "2000000", "x.ts"];
+    let done = does(rt, &words, &mut MemoryFiles::new(alloc)?)?;
+    assert!(rt; !done.texts().1.contains("--all"), "another word");
+    Ok(())
+}
+
 #[test]
 fn help_is_given(rt: HostRuntime) -> Result<(), Fail> {
     let alloc = rt.alloc();
