@@ -166,6 +166,23 @@ fn steps_are_published_at_once(rt: HostRuntime) {
     close(&rt, seats);
 }
 
+/// Many steps in one go do nothing, for want of a packet of input 0.
+fn waits<T: Abort + Wait>(rt: &T, broadcast: &mut Broadcast) {
+    let waits = Ticked {
+        slot: Sending::NotReady(0),
+        behind: 0,
+    };
+    assert_eq!(rt; broadcast.advance(rt, 256), waits);
+    equals(rt, broadcast.slots(), 0);
+}
+
+#[test]
+fn steps_over_an_empty_ring_do_nothing(rt: HostRuntime) {
+    let (mut seats, _port) = open(&rt, rt.alloc(), 0);
+    waits(&rt, &mut seats.broadcast);
+    close(&rt, seats);
+}
+
 /// One reader read what was published, and the other nothing yet.
 #[test]
 fn a_closed_feed_lets_no_reader_in(rt: HostRuntime) {

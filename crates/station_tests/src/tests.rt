@@ -4,7 +4,9 @@
 mod asking;
 mod opening;
 
-use crate::tests::asking::{delayed, ends, is_open, offers, refuses, shows, ticks};
+use crate::tests::asking::{
+    delayed, ends, is_open, offers, refuses, shows, ticks, waits, waits_behind,
+};
 use crate::tests::opening::open;
 use mux::{Sending, Totals};
 use station::Settled;
@@ -85,4 +87,16 @@ fn a_packet_is_taken_where_no_slot_can_be_sent(rt: HostRuntime) {
         queued: 1,
     };
     assert_eq!(rt; station.totals(0), waits);
+}
+
+/// The ring is empty before a packet comes, and again behind the one that was taken.
+#[test]
+fn steps_over_an_empty_ring_do_nothing(rt: HostRuntime) {
+    let (mut station, mut port) = open(&rt, rt.alloc(), 64, 4);
+    waits(&rt, rt.alloc(), &mut station);
+    waits_behind(&rt, rt.alloc(), &mut station);
+    offers(&rt, &mut port, 0);
+    ticks(&rt, &mut station, Sending::NotReady(0));
+    waits(&rt, rt.alloc(), &mut station);
+    waits_behind(&rt, rt.alloc(), &mut station);
 }

@@ -1,18 +1,25 @@
-//! A worker at a full ring, beside a gate that holds the ring's other end: each packet and the end mark wait for a place.
+//! A worker at a full ring, beside a gate that holds the ring's other end: each packet and the end mark wait for a place. And one
+//! whose gate says no before a read.
 
 mod emptying_gate;
 mod full_gate;
 mod given_bytes;
+mod null_packets;
+mod read_gate;
 mod starting;
 mod taking_thread;
 
 use crate::tests::emptying_gate::EmptyingGate;
 use crate::tests::full_gate::FullGate;
-use crate::tests::starting::{ring, run};
+use crate::tests::null_packets::NullPackets;
+use crate::tests::read_gate::ReadGate;
+use crate::tests::starting::{ring, run, run_over};
 use crate::tests::taking_thread::run_beside;
 use anyhow::Result;
 use port::Arrival;
 use reading::Stop;
+use std::sync::Arc;
+use std::sync::atomic::{AtomicU64, Ordering};
 use std::test::Fail;
 
 /// The ring has one place. Packet 0 finds it free, and each of the 199 others and the end mark find it full so many times: once, twice
@@ -94,5 +101,45 @@ fn a_gate_stops_an_end_mark_that_waits(rt: HostRuntime) -> Result<(), Fail> {
             assert!(rt; end.next().is_none());
         }
     }
+    Ok(())
+}
+
+/// The gate says no before the third read. The plan names no packet of the first two, so it was asked nowhere else.
+#[test]
+fn a_gate_stops_a_read(rt: HostRuntime) -> Result<(), Fail> {
+    let (port, mut end) = ring(rt.alloc(), 5)?;
+    let reads = Arc::new(rt.alloc(), AtomicU64::new(0))?;
+    let reader = NullPackets {
+        reads: Arc::try_clone(&reads)?,
+    };
+    let (report, finished, gate) = run_over(&rt, rt.alloc(), port, ReadGate::new(2), reader)?;
+    assert_eq!(rt; report.stopped, Some(Stop::Gate));
+    assert_eq!(rt; reads.load(Ordering::SeqCst), 2);
+    assert_eq!(rt; (report.framed, report.unmapped), (10, 10));
+    assert!(rt; !finished.is_ended());
+    assert_eq!(rt; (gate.asked, gate.stops), (3, 1));
+    assert!(rt; end.next().is_none());
+    Ok(())
+}
+
+/// Each of the eleven reads to the end is asked for.
+#[test]
+fn a_gate_is_asked_before_each_read(rt: HostRuntime) -> Result<(), Fail> {
+    let (port, _end) = ring(rt.alloc(), 5)?;
+    let reads = Arc::new(rt.alloc(), AtomicU64::new(0))?;
+    let reader = NullPackets {
+        reads: Arc::try_clone(&reads)?,
+    };
+    let (report, finished, gate) = run_over(
+        &rt,
+        rt.alloc(),
+        port,
+        ReadGate::new(u32::MAX),
+        reader,
+    )?;
+    assert_eq!(rt; report.stopped, None);
+    assert_eq!(rt; reads.load(Ordering::SeqCst), 11);
+    assert!(rt; finished.is_ended());
+    assert_eq!(rt; (gate.asked, gate.stops), (11, 0));
     Ok(())
 }

@@ -5,24 +5,34 @@ use std::io::{ErrorKind, Read, Write};
 use std::time::{Clock, Duration};
 use std::{io, thread};
 
-/// Gives its bytes, those of one packet a read, and then ends.
+/// Gives its bytes, at most so many a read, and then ends.
 #[derive(Drop)]
 pub struct GivenBytes {
     bytes: Vec<u8>,
+    piece: usize,
     at: usize,
 }
 
 impl GivenBytes {
-    /// One that gave nothing.
+    /// One that gives those of one packet a read.
     pub fn new(bytes: Vec<u8>) -> GivenBytes {
-        GivenBytes { bytes, at: 0 }
+        GivenBytes::in_pieces(bytes, 188)
+    }
+
+    /// One that gives so many a read.
+    pub fn in_pieces(bytes: Vec<u8>, piece: usize) -> GivenBytes {
+        GivenBytes {
+            bytes,
+            piece,
+            at: 0,
+        }
     }
 }
 
 impl Read for GivenBytes {
     fn read(&mut self, buf: &mut [u8]) -> io::Result<usize> {
         let rest = self.bytes.get(self.at..).unwrap_or(&[]);
-        let count = rest.len().min(buf.len()).min(188);
+        let count = rest.len().min(buf.len()).min(self.piece);
         for (to, from) in buf.iter_mut().zip(rest.iter().take(count)) {
             *to = *from;
         }

@@ -8,11 +8,11 @@ use std::sync::atomic::{AtomicBool, AtomicU64, Ordering};
 use std::time::{Clock, Duration};
 use std::{io, thread};
 
-/// How many packets were given, how many writes came, and whether a reader that waited for writes saw them.
+/// How many reads gave something, how many bytes came to the writer, and whether a reader that waited for these saw them.
 #[derive(Drop)]
 pub struct Meters {
     given: Arc<AtomicU64, Global>,
-    writes: Arc<AtomicU64, Global>,
+    written: Arc<AtomicU64, Global>,
     saw_writes: Arc<AtomicBool, Global>,
 }
 
@@ -21,7 +21,7 @@ impl Meters {
     pub fn new(alloc: Global) -> Result<Meters, AllocError> {
         Ok(Meters {
             given: Arc::new(alloc, AtomicU64::new(0))?,
-            writes: Arc::new(alloc, AtomicU64::new(0))?,
+            written: Arc::new(alloc, AtomicU64::new(0))?,
             saw_writes: Arc::new(alloc, AtomicBool::new(false))?,
         })
     }
@@ -30,12 +30,24 @@ impl Meters {
     pub fn another(&self) -> Result<Meters, AllocError> {
         Ok(Meters {
             given: Arc::try_clone(&self.given)?,
-            writes: Arc::try_clone(&self.writes)?,
+            written: Arc::try_clone(&self.written)?,
             saw_writes: Arc::try_clone(&self.saw_writes)?,
         })
     }
 
-    /// Whether a reader that waited for writes saw them.
+    /// How many reads gave something.
+    pub fn given(&self) -> u64 {
+        self.given.load(Ordering::SeqCst)
+    }
+
+    /// So many bytes more came to the writer.
+    pub fn note_write(&self, count: usize) {
+        let written = self.written.load(Ordering::SeqCst);
+        let written = written.saturating_add(count as u64);
+        self.written.store(written, Ordering::SeqCst);
+    }
+
+    /// Whether a reader that waited for bytes to come to the writer saw them.
     pub fn saw_writes(&self) -> bool {
         self.saw_writes.load(Ordering::SeqCst)
     }
@@ -52,38 +64,39 @@ fn rest(clock: &impl Clock) {
     thread::sleep(clock, Duration::from_millis(1));
 }
 
-/// Gives one packet a read. Behind so many packets it waits until so many writes came.
+/// Gives what another reader gives. Behind so many reads it waits until so many bytes came to the
+/// writer.
 #[derive(Drop)]
 pub struct MeteredReader<T> {
     clock: T,
     reader: GivenBytes,
     meters: Meters,
     waits_behind: u64,
-    writes: u64,
+    wanted: u64,
 }
 
 impl<T: Clock> MeteredReader<T> {
-    /// One that gives these bytes.
+    /// One that was not read yet.
     pub fn new(
         clock: T,
-        bytes: Vec<u8>,
+        reader: GivenBytes,
         meters: Meters,
         waits_behind: u64,
-        writes: u64,
+        wanted: u64,
     ) -> MeteredReader<T> {
         MeteredReader {
             clock,
-            reader: GivenBytes::new(bytes),
+            reader,
             meters,
             waits_behind,
-            writes,
+            wanted,
         }
     }
 
     /// Waits for the writer, until all turns are used up.
     fn wait(&self) {
         for _ in 0..TURNS {
-            if self.meters.writes.load(Ordering::SeqCst) >= self.writes {
+            if self.meters.written.load(Ordering::SeqCst) >= self.wanted {
                 self.meters.saw_writes.store(true, Ordering::SeqCst);
                 return;
             }
@@ -108,14 +121,14 @@ impl<T: Clock> Read for MeteredReader<T> {
     }
 }
 
-/// Keeps bytes. Its first write waits until so many packets were given, or, where no number is said, until no more are.
+/// Keeps bytes. Its first write waits until so many reads gave something, or, where no number is said, until no more do.
 #[derive(Drop)]
 pub struct StallingWriter<T> {
     clock: T,
     pub writer: KeptBytes,
     meters: Meters,
     wanted: Option<u64>,
-    /// How many were given when it went on; none where nothing was written.
+    /// How many reads had given something when it went on; none where nothing was written.
     pub given: Option<u64>,
 }
 
@@ -136,7 +149,7 @@ impl<T: Clock> StallingWriter<T> {
         }
     }
 
-    /// Waits, and answers how many packets were given.
+    /// Waits, and answers how many reads gave something.
     fn wait(&self) -> u64 {
         let mut last = 0;
         let mut still = 0_u32;
@@ -163,10 +176,7 @@ impl<T: Clock> Write for StallingWriter<T> {
             self.given = Some(self.wait());
         }
         let count = self.writer.write(buf)?;
-        let writes = self.meters.writes.load(Ordering::SeqCst);
-        self.meters
-            .writes
-            .store(writes.saturating_add(1), Ordering::SeqCst);
+        self.meters.note_write(count);
         Ok(count)
     }
 

@@ -1,11 +1,12 @@
 //! What the tests ask of a station and of a port: each is lent, so that a test owns nothing where an answer is compared.
 
-ghost use Rattle.std.specs.Prelude.{◌≡◌, ◌<◌, length, IfSome};
+ghost use Rattle.std.specs.Prelude.{◌≡◌, ◌<◌, length};
 ghost use Rattle.station.specs.Stations.{rings_of};
 
 use mux::Sending;
 use port::{FinishedPort, Port};
 use station::Station;
+use std::alloc::Global;
 use std::process::Abort;
 use tspkt::{Packet, Stamped};
 
@@ -38,7 +39,7 @@ pub fn refuses(rt: &impl Abort, port: &mut Port, k: u8, stamp: u64)
 
 /// The port ends.
 pub fn ends(rt: &impl Abort, port: Port) -> FinishedPort
-    ensures { IfSome result.shown (λ shown. shown ≡ port) }
+    ensures { result.port ≡ port }
 {
     port.end().ok().expect(rt, "room for the end mark")
 }
@@ -49,6 +50,21 @@ pub fn ticks(rt: &impl Abort, station: &mut Station, answer: Sending)
     ensures run { station.new.history.run ≡ station.old.history.run }
 {
     assert_eq!(rt; station.tick(), answer);
+}
+
+/// Many steps in one go do nothing, for want of a packet of input 0.
+pub fn waits(rt: &impl Abort, alloc: Global, station: &mut Station) {
+    let mut sent = Vec::with_capacity(alloc, 16).expect(rt, "memory");
+    assert_eq!(rt; station.advance(16, &mut sent), Sending::NotReady(0));
+    assert!(rt; sent.is_empty());
+}
+
+/// The same where what goes out would come behind other packets.
+pub fn waits_behind(rt: &impl Abort, alloc: Global, station: &mut Station) {
+    let mut sent = Vec::with_capacity(alloc, 16).expect(rt, "memory");
+    sent.push(tspkt::null()).expect(rt, "memory");
+    assert_eq!(rt; station.advance_behind(15, &mut sent), Sending::NotReady(0));
+    assert_eq!(rt; sent.len(), 1);
 }
 
 /// The packet that was sent last has this PID and this counter.

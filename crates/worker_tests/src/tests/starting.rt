@@ -1,4 +1,4 @@
-//! Workers over packets in memory.
+//! Workers over what a reader gives.
 
 ghost use Rattle.std.specs.Prelude.{◌≡◌, [], IfOk};
 
@@ -8,6 +8,7 @@ use example::{packets, plan_of};
 use port::{FinishedPort, Gate, Port, RingEnd, ports};
 use reading::{InputLimit, ReadSource, Report};
 use std::alloc::Global;
+use std::io::Read;
 use std::sync::Wait;
 use std::time::Clock;
 use worker::Worker;
@@ -33,16 +34,29 @@ pub fn run<T: Wait + Clock, G: Gate + Drop>(
 ) -> Result<(Report, FinishedPort, G)>
     requires { port.sent ≡ [] }
 {
-    let plan = plan_of(alloc, 64, &[0])?;
-    if plan.inputs().is_empty() {
-        bail!("no input");
-    }
     let mut counters = Vec::new(alloc);
     for counter in 0..count {
         counters.push(counter)?;
     }
     let bytes = packets(alloc, &counters)?;
-    let source = ReadSource::new(GivenBytes { bytes, at: 0 });
+    run_over(rt, alloc, port, gate, GivenBytes { bytes, at: 0 })
+}
+
+/// Runs a worker of the example's first input over what a reader gives.
+pub fn run_over<T: Wait + Clock, R: Read + Drop, G: Gate + Drop>(
+    rt: &T,
+    alloc: Global,
+    port: Port,
+    gate: G,
+    reader: R,
+) -> Result<(Report, FinishedPort, G)>
+    requires { port.sent ≡ [] }
+{
+    let plan = plan_of(alloc, 64, &[0])?;
+    if plan.inputs().is_empty() {
+        bail!("no input");
+    }
+    let source = ReadSource::new(reader);
     let worker = Worker::new(alloc, source, gate, port, plan, 0, InputLimit::OfFormat);
     let (report, finished, _, gate) = worker.run(rt);
     Ok((report, finished, gate))
