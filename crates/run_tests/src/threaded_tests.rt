@@ -6,6 +6,7 @@ mod full_ring;
 mod gates;
 mod limits;
 mod meeting;
+mod random_turns;
 mod runs;
 mod shared_station;
 mod slow_writer;

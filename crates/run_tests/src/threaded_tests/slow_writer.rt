@@ -10,6 +10,7 @@ use reading::InputLimit;
 use serial::WriteSink;
 use std::alloc::Global;
 use std::io::Write;
+use std::ops::Range;
 use std::process::Abort;
 use std::sync::Wait;
 use std::test::Fail;
@@ -24,9 +25,6 @@ const BEGINS: u64 = 243_000_000;
 
 /// How many slots a run has at most.
 const SLOTS: u64 = 10_000;
-
-/// How many runs go through rings of one size.
-const RUNS: u64 = 20;
 
 /// A writer that sleeps at each fourth write.
 #[derive(Drop)]
@@ -81,31 +79,52 @@ fn written<T: Threads + Wait + Clock + Abort + Copy + Send + Drop + 'static>(
     Ok(sink.into_inner().writer.bytes)
 }
 
-/// Many runs over a plan write these bytes.
+/// The runs with these numbers over a plan write these bytes.
 fn write_all<T: Threads + Wait + Clock + Abort + Copy + Send + Drop + 'static>(
     alloc: Global,
     rt: T,
     plan: &Plan,
     serial_bytes: &[u8],
+    runs: Range<u64>,
 ) -> Result<()> {
-    for run in 0..RUNS {
+    for run in runs {
         let bytes = written(alloc, rt, plan, run)?;
         assert!(rt; bytes.as_slice() == serial_bytes, "run {run}");
     }
     Ok(())
 }
 
-/// Blocks are used again and again in these runs. Whether the thread that ticks waits for one depends on the machine; in the runs of
-/// the crate `stall_tests` it does on each.
+/// The runs with these numbers, through queues and rings of so many packets. Blocks are used again and again in them. Whether the
+/// thread that ticks waits for one depends on the machine; in the runs of the crate `stall_tests` it does on each.
+fn run_slowly<T: Threads + Wait + Clock + Abort + Copy + Send + Drop + 'static>(
+    alloc: Global,
+    rt: T,
+    room: usize,
+    runs: Range<u64>,
+) -> Result<()> {
+    let plan = plan_with_rings(alloc, room, room, &[0, BEGINS])?;
+    let readers = readers(alloc, false)?;
+    let (serial_bytes, _) = run_one(alloc, plan.copy(alloc)?, SLOTS, readers)?;
+    assert!(rt; serial_bytes.len() > 9_000 * 188);
+    write_all(alloc, rt, &plan, &serial_bytes, runs)
+}
+
 #[test]
-fn each_run_that_waits_for_its_writer_writes_the_same(rt: HostRuntime) -> Result<(), Fail> {
-    let alloc = rt.alloc();
-    for room in [1, 64] {
-        let plan = plan_with_rings(alloc, room, room, &[0, BEGINS])?;
-        let readers = readers(alloc, false)?;
-        let (serial_bytes, _) = run_one(alloc, plan.copy(alloc)?, SLOTS, readers)?;
-        assert!(rt; serial_bytes.len() > 9_000 * 188);
-        write_all(alloc, rt, &plan, &serial_bytes)?;
-    }
-    Ok(())
+fn runs_0_to_9_through_rings_of_one_packet_write_the_same(rt: HostRuntime) -> Result<(), Fail> {
+    Ok(run_slowly(rt.alloc(), rt, 1, 0..10)?)
+}
+
+#[test]
+fn runs_10_to_19_through_rings_of_one_packet_write_the_same(rt: HostRuntime) -> Result<(), Fail> {
+    Ok(run_slowly(rt.alloc(), rt, 1, 10..20)?)
+}
+
+#[test]
+fn runs_0_to_9_through_rings_of_all_packets_write_the_same(rt: HostRuntime) -> Result<(), Fail> {
+    Ok(run_slowly(rt.alloc(), rt, 64, 0..10)?)
+}
+
+#[test]
+fn runs_10_to_19_through_rings_of_all_packets_write_the_same(rt: HostRuntime) -> Result<(), Fail> {
+    Ok(run_slowly(rt.alloc(), rt, 64, 10..20)?)
 }

@@ -1,7 +1,7 @@
 //! Runs whose threads come in other turns: each writes what the run in one thread writes.
 
 use crate::threaded_tests::runs::{readers, run_gated, run_in_one};
-use crate::threaded_tests::turn_gates::{RandomGate, YieldGate};
+use crate::threaded_tests::turn_gates::YieldGate;
 use anyhow::Result;
 use example::plan_with_rings;
 use plan::Plan;
@@ -16,11 +16,8 @@ use std::time::Clock;
 /// How often a gate lets other threads go first.
 const TURNS: [u32; 3] = [0, 1, 7];
 
-/// How many runs go through rings of one size.
-const RUNS: u64 = 250;
-
 /// The bytes that a run of two inputs with these gates writes, which ends well.
-fn written<
+pub fn written<
     T: Threads + Wait + Clock + Copy + Send + Drop + 'static,
     G: Gate + Send + Drop + 'static,
 >(alloc: Global, rt: T, plan: &Plan, gates: Vec<G>) -> Result<Vec<u8>> {
@@ -32,7 +29,7 @@ fn written<
 }
 
 /// The bytes that the run in one thread writes.
-fn written_in_one(alloc: Global, plan: &Plan) -> Result<Vec<u8>> {
+pub fn written_in_one(alloc: Global, plan: &Plan) -> Result<Vec<u8>> {
     let (bytes, _) = run_in_one(alloc, plan.copy(alloc)?)?;
     Ok(bytes)
 }
@@ -78,50 +75,4 @@ fn each_pair_of_gates_through_rings_of_all_packets_writes_the_same(
     rt: HostRuntime,
 ) -> Result<(), Fail> {
     Ok(run_pairs(rt.alloc(), rt, 64)?)
-}
-
-/// So many runs with random gates, through queues and rings of so many packets.
-fn run_random<T: Threads + Wait + Clock + Abort + Copy + Send + Drop + 'static>(
-    alloc: Global,
-    rt: T,
-    room: usize,
-) -> Result<()> {
-    let plan = plan_with_rings(alloc, room, room, &[0, 0])?;
-    let serial_bytes = written_in_one(alloc, &plan)?;
-    write_random(alloc, rt, &plan, &serial_bytes)
-}
-
-/// So many runs over a plan with random gates write these bytes.
-fn write_random<T: Threads + Wait + Clock + Abort + Copy + Send + Drop + 'static>(
-    alloc: Global,
-    rt: T,
-    plan: &Plan,
-    serial_bytes: &[u8],
-) -> Result<()> {
-    for run in 0..RUNS {
-        let gates = vec![in alloc; RandomGate::new(run, 0), RandomGate::new(run, 1)]?;
-        let bytes = written(alloc, rt, plan, gates)?;
-        assert!(rt; bytes.as_slice() == serial_bytes, "run {run}");
-    }
-    Ok(())
-}
-
-#[test]
-fn each_run_through_rings_of_one_packet_writes_the_same(rt: HostRuntime) -> Result<(), Fail> {
-    Ok(run_random(rt.alloc(), rt, 1)?)
-}
-
-#[test]
-fn each_run_through_rings_of_two_packets_writes_the_same(rt: HostRuntime) -> Result<(), Fail> {
-    Ok(run_random(rt.alloc(), rt, 2)?)
-}
-
-#[test]
-fn each_run_through_rings_of_four_packets_writes_the_same(rt: HostRuntime) -> Result<(), Fail> {
-    Ok(run_random(rt.alloc(), rt, 4)?)
-}
-
-#[test]
-fn each_run_through_rings_of_all_packets_writes_the_same(rt: HostRuntime) -> Result<(), Fail> {
-    Ok(run_random(rt.alloc(), rt, 64)?)
 }

@@ -1,0 +1,161 @@
+//! Runs whose gates hold their inputs back by random numbers: each writes what the run in one thread writes. A test makes 50 of
+//! them, so that it ends in time on a machine that is busy.
+
+use crate::threaded_tests::turn_gates::RandomGate;
+use crate::threaded_tests::turns::{written, written_in_one};
+use anyhow::Result;
+use example::plan_with_rings;
+use plan::Plan;
+use std::alloc::Global;
+use std::ops::Range;
+use std::process::Abort;
+use std::sync::Wait;
+use std::test::Fail;
+use std::thread::Threads;
+use std::time::Clock;
+
+/// The runs with these numbers, through queues and rings of so many packets.
+fn run_random<T: Threads + Wait + Clock + Abort + Copy + Send + Drop + 'static>(
+    alloc: Global,
+    rt: T,
+    room: usize,
+    runs: Range<u64>,
+) -> Result<()> {
+    let plan = plan_with_rings(alloc, room, room, &[0, 0])?;
+    let serial_bytes = written_in_one(alloc, &plan)?;
+    write_random(alloc, rt, &plan, &serial_bytes, runs)
+}
+
+/// The runs with these numbers over a plan write these bytes.
+fn write_random<T: Threads + Wait + Clock + Abort + Copy + Send + Drop + 'static>(
+    alloc: Global,
+    rt: T,
+    plan: &Plan,
+    serial_bytes: &[u8],
+    runs: Range<u64>,
+) -> Result<()> {
+    for run in runs {
+        let gates = vec![in alloc; RandomGate::new(run, 0), RandomGate::new(run, 1)]?;
+        let bytes = written(alloc, rt, plan, gates)?;
+        assert!(rt; bytes.as_slice() == serial_bytes, "run {run}");
+    }
+    Ok(())
+}
+
+#[test]
+fn runs_0_to_49_through_rings_of_one_packet_write_the_same(rt: HostRuntime) -> Result<(), Fail> {
+    Ok(run_random(rt.alloc(), rt, 1, 0..50)?)
+}
+
+#[test]
+fn runs_50_to_99_through_rings_of_one_packet_write_the_same(rt: HostRuntime) -> Result<(), Fail> {
+    Ok(run_random(rt.alloc(), rt, 1, 50..100)?)
+}
+
+#[test]
+fn runs_100_to_149_through_rings_of_one_packet_write_the_same(rt: HostRuntime) -> Result<(), Fail> {
+    Ok(run_random(rt.alloc(), rt, 1, 100..150)?)
+}
+
+#[test]
+fn runs_150_to_199_through_rings_of_one_packet_write_the_same(rt: HostRuntime) -> Result<(), Fail> {
+    Ok(run_random(rt.alloc(), rt, 1, 150..200)?)
+}
+
+#[test]
+fn runs_200_to_249_through_rings_of_one_packet_write_the_same(rt: HostRuntime) -> Result<(), Fail> {
+    Ok(run_random(rt.alloc(), rt, 1, 200..250)?)
+}
+
+#[test]
+fn runs_0_to_49_through_rings_of_two_packets_write_the_same(rt: HostRuntime) -> Result<(), Fail> {
+    Ok(run_random(rt.alloc(), rt, 2, 0..50)?)
+}
+
+#[test]
+fn runs_50_to_99_through_rings_of_two_packets_write_the_same(rt: HostRuntime) -> Result<(), Fail> {
+    Ok(run_random(rt.alloc(), rt, 2, 50..100)?)
+}
+
+#[test]
+fn runs_100_to_149_through_rings_of_two_packets_write_the_same(
+    rt: HostRuntime,
+) -> Result<(), Fail> {
+    Ok(run_random(rt.alloc(), rt, 2, 100..150)?)
+}
+
+#[test]
+fn runs_150_to_199_through_rings_of_two_packets_write_the_same(
+    rt: HostRuntime,
+) -> Result<(), Fail> {
+    Ok(run_random(rt.alloc(), rt, 2, 150..200)?)
+}
+
+#[test]
+fn runs_200_to_249_through_rings_of_two_packets_write_the_same(
+    rt: HostRuntime,
+) -> Result<(), Fail> {
+    Ok(run_random(rt.alloc(), rt, 2, 200..250)?)
+}
+
+#[test]
+fn runs_0_to_49_through_rings_of_four_packets_write_the_same(rt: HostRuntime) -> Result<(), Fail> {
+    Ok(run_random(rt.alloc(), rt, 4, 0..50)?)
+}
+
+#[test]
+fn runs_50_to_99_through_rings_of_four_packets_write_the_same(rt: HostRuntime) -> Result<(), Fail> {
+    Ok(run_random(rt.alloc(), rt, 4, 50..100)?)
+}
+
+#[test]
+fn runs_100_to_149_through_rings_of_four_packets_write_the_same(
+    rt: HostRuntime,
+) -> Result<(), Fail> {
+    Ok(run_random(rt.alloc(), rt, 4, 100..150)?)
+}
+
+#[test]
+fn runs_150_to_199_through_rings_of_four_packets_write_the_same(
+    rt: HostRuntime,
+) -> Result<(), Fail> {
+    Ok(run_random(rt.alloc(), rt, 4, 150..200)?)
+}
+
+#[test]
+fn runs_200_to_249_through_rings_of_four_packets_write_the_same(
+    rt: HostRuntime,
+) -> Result<(), Fail> {
+    Ok(run_random(rt.alloc(), rt, 4, 200..250)?)
+}
+
+#[test]
+fn runs_0_to_49_through_rings_of_all_packets_write_the_same(rt: HostRuntime) -> Result<(), Fail> {
+    Ok(run_random(rt.alloc(), rt, 64, 0..50)?)
+}
+
+#[test]
+fn runs_50_to_99_through_rings_of_all_packets_write_the_same(rt: HostRuntime) -> Result<(), Fail> {
+    Ok(run_random(rt.alloc(), rt, 64, 50..100)?)
+}
+
+#[test]
+fn runs_100_to_149_through_rings_of_all_packets_write_the_same(
+    rt: HostRuntime,
+) -> Result<(), Fail> {
+    Ok(run_random(rt.alloc(), rt, 64, 100..150)?)
+}
+
+#[test]
+fn runs_150_to_199_through_rings_of_all_packets_write_the_same(
+    rt: HostRuntime,
+) -> Result<(), Fail> {
+    Ok(run_random(rt.alloc(), rt, 64, 150..200)?)
+}
+
+#[test]
+fn runs_200_to_249_through_rings_of_all_packets_write_the_same(
+    rt: HostRuntime,
+) -> Result<(), Fail> {
+    Ok(run_random(rt.alloc(), rt, 64, 200..250)?)
+}
