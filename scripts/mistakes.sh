@@ -332,6 +332,10 @@ END
 answer 'a run of no slots' 2 run --plan plan.toml --out out.ts --slots 0 << 'END'
 error: invalid value '0' for '--slots <N>': 0 is not in 1..=1000000
 END
+answer 'a run of too many slots' 2 run --plan plan.toml --out out.ts --slots 2000000 << 'END'
+error: invalid value '2000000' for '--slots <N>': 2000000 is not in 1..=1000000
+  tip: '--all' goes on until the inputs end
+END
 
 echo "$passed passed, $failed failed"
 [ "$failed" = 0 ]
