@@ -1,4 +1,4 @@
-//! Runs whose gates hold their inputs back by random numbers: each writes what the run in one thread writes. A test makes 50 of
+//! Runs whose gates hold their inputs back by random numbers: each writes what the run in one thread writes. A test makes 125 of
 //! them, so that it ends in time on a machine that is busy.
 
 use crate::threaded_tests::turn_gates::RandomGate;
@@ -43,119 +43,47 @@ fn write_random<T: Threads + Wait + Clock + Abort + Copy + Send + Drop + 'static
 }
 
 #[test]
-fn runs_0_to_49_through_rings_of_one_packet_write_the_same(rt: HostRuntime) -> Result<(), Fail> {
-    Ok(run_random(rt.alloc(), rt, 1, 0..50)?)
+fn runs_0_to_124_through_rings_of_one_packet_write_the_same(rt: HostRuntime) -> Result<(), Fail> {
+    Ok(run_random(rt.alloc(), rt, 1, 0..125)?)
 }
 
 #[test]
-fn runs_50_to_99_through_rings_of_one_packet_write_the_same(rt: HostRuntime) -> Result<(), Fail> {
-    Ok(run_random(rt.alloc(), rt, 1, 50..100)?)
+fn runs_125_to_249_through_rings_of_one_packet_write_the_same(rt: HostRuntime) -> Result<(), Fail> {
+    Ok(run_random(rt.alloc(), rt, 1, 125..250)?)
 }
 
 #[test]
-fn runs_100_to_149_through_rings_of_one_packet_write_the_same(rt: HostRuntime) -> Result<(), Fail> {
-    Ok(run_random(rt.alloc(), rt, 1, 100..150)?)
+fn runs_0_to_124_through_rings_of_two_packets_write_the_same(rt: HostRuntime) -> Result<(), Fail> {
+    Ok(run_random(rt.alloc(), rt, 2, 0..125)?)
 }
 
 #[test]
-fn runs_150_to_199_through_rings_of_one_packet_write_the_same(rt: HostRuntime) -> Result<(), Fail> {
-    Ok(run_random(rt.alloc(), rt, 1, 150..200)?)
-}
-
-#[test]
-fn runs_200_to_249_through_rings_of_one_packet_write_the_same(rt: HostRuntime) -> Result<(), Fail> {
-    Ok(run_random(rt.alloc(), rt, 1, 200..250)?)
-}
-
-#[test]
-fn runs_0_to_49_through_rings_of_two_packets_write_the_same(rt: HostRuntime) -> Result<(), Fail> {
-    Ok(run_random(rt.alloc(), rt, 2, 0..50)?)
-}
-
-#[test]
-fn runs_50_to_99_through_rings_of_two_packets_write_the_same(rt: HostRuntime) -> Result<(), Fail> {
-    Ok(run_random(rt.alloc(), rt, 2, 50..100)?)
-}
-
-#[test]
-fn runs_100_to_149_through_rings_of_two_packets_write_the_same(
+fn runs_125_to_249_through_rings_of_two_packets_write_the_same(
     rt: HostRuntime,
 ) -> Result<(), Fail> {
-    Ok(run_random(rt.alloc(), rt, 2, 100..150)?)
+    Ok(run_random(rt.alloc(), rt, 2, 125..250)?)
 }
 
 #[test]
-fn runs_150_to_199_through_rings_of_two_packets_write_the_same(
+fn runs_0_to_124_through_rings_of_four_packets_write_the_same(rt: HostRuntime) -> Result<(), Fail> {
+    Ok(run_random(rt.alloc(), rt, 4, 0..125)?)
+}
+
+#[test]
+fn runs_125_to_249_through_rings_of_four_packets_write_the_same(
     rt: HostRuntime,
 ) -> Result<(), Fail> {
-    Ok(run_random(rt.alloc(), rt, 2, 150..200)?)
+    Ok(run_random(rt.alloc(), rt, 4, 125..250)?)
 }
 
 #[test]
-fn runs_200_to_249_through_rings_of_two_packets_write_the_same(
+fn runs_0_to_124_through_rings_of_all_packets_write_the_same(rt: HostRuntime) -> Result<(), Fail> {
+    Ok(run_random(rt.alloc(), rt, 64, 0..125)?)
+}
+
+#[test]
+fn runs_125_to_249_through_rings_of_all_packets_write_the_same(
     rt: HostRuntime,
 ) -> Result<(), Fail> {
-    Ok(run_random(rt.alloc(), rt, 2, 200..250)?)
-}
-
-#[test]
-fn runs_0_to_49_through_rings_of_four_packets_write_the_same(rt: HostRuntime) -> Result<(), Fail> {
-    Ok(run_random(rt.alloc(), rt, 4, 0..50)?)
-}
-
-#[test]
-fn runs_50_to_99_through_rings_of_four_packets_write_the_same(rt: HostRuntime) -> Result<(), Fail> {
-    Ok(run_random(rt.alloc(), rt, 4, 50..100)?)
-}
-
-#[test]
-fn runs_100_to_149_through_rings_of_four_packets_write_the_same(
-    rt: HostRuntime,
-) -> Result<(), Fail> {
-    Ok(run_random(rt.alloc(), rt, 4, 100..150)?)
-}
-
-#[test]
-fn runs_150_to_199_through_rings_of_four_packets_write_the_same(
-    rt: HostRuntime,
-) -> Result<(), Fail> {
-    Ok(run_random(rt.alloc(), rt, 4, 150..200)?)
-}
-
-#[test]
-fn runs_200_to_249_through_rings_of_four_packets_write_the_same(
-    rt: HostRuntime,
-) -> Result<(), Fail> {
-    Ok(run_random(rt.alloc(), rt, 4, 200..250)?)
-}
-
-#[test]
-fn runs_0_to_49_through_rings_of_all_packets_write_the_same(rt: HostRuntime) -> Result<(), Fail> {
-    Ok(run_random(rt.alloc(), rt, 64, 0..50)?)
-}
-
-#[test]
-fn runs_50_to_99_through_rings_of_all_packets_write_the_same(rt: HostRuntime) -> Result<(), Fail> {
-    Ok(run_random(rt.alloc(), rt, 64, 50..100)?)
-}
-
-#[test]
-fn runs_100_to_149_through_rings_of_all_packets_write_the_same(
-    rt: HostRuntime,
-) -> Result<(), Fail> {
-    Ok(run_random(rt.alloc(), rt, 64, 100..150)?)
-}
-
-#[test]
-fn runs_150_to_199_through_rings_of_all_packets_write_the_same(
-    rt: HostRuntime,
-) -> Result<(), Fail> {
-    Ok(run_random(rt.alloc(), rt, 64, 150..200)?)
-}
-
-#[test]
-fn runs_200_to_249_through_rings_of_all_packets_write_the_same(
-    rt: HostRuntime,
-) -> Result<(), Fail> {
-    Ok(run_random(rt.alloc(), rt, 64, 200..250)?)
+    Ok(run_random(rt.alloc(), rt, 64, 125..250)?)
 }
