@@ -1,9 +1,5 @@
-//! Small streams, worked out by hand from ETSI TR 101 290, 5.2.1, and ISO/IEC 13818-1, 2.4.3.3.
+//! The analyser where memory is wanted, and the texts of its faults.
 
-mod analysing;
-mod generated;
-mod made;
 mod memory;
-mod plain;
 mod printing;
 mod streams;

@@ -1,13 +1,9 @@
-//! Tests of packets, sections, tables, acquisition and the analyser, by what these crates offer to others. Nothing else stands
-//! here, so that each of those crates is proved without its tests.
+//! Tests of framing, tables and the analyser where memory is refused, of texts, and of tables that are built rather than read, by what
+//! these crates offer to others. Their vectors are in the crate `vectors`.
 #![tactic(auto)]
 
 #[cfg(test)]
-mod acquire_tests;
-#[cfg(test)]
 mod analyse_tests;
-#[cfg(test)]
-mod section_tests;
 #[cfg(test)]
 mod tables_tests;
 #[cfg(test)]

@@ -1,7 +1,6 @@
-//! Slots of which tests make streams, and what an analyser tells of them.
+//! Slots of which tests make streams, and faults.
 
-use analyse::{Analyser, Fault, FaultKind};
-use std::alloc::{AllocError, Global};
+use analyse::{Fault, FaultKind};
 
 /// A section of a PAT: transport stream 1, network PID 0x0010, program 500 on PID 0x0100.
 pub const PAT: &[u8] = &[
@@ -39,19 +38,4 @@ pub fn section(pid: u16, counter: u8, section: &[u8]) -> [u8; 188] {
 /// The fault of a kind that is told at a slot, of a PID where there is one.
 pub fn fault(slot: u64, kind: FaultKind, pid: Option<u16>) -> Fault {
     Fault { slot, kind, pid }
-}
-
-/// The faults of a stream of `rate` bits a second, where PIDs have to come within `period` slots.
-pub fn faults_of(
-    alloc: Global,
-    rate: u64,
-    period: u64,
-    slots: &[[u8; 188]],
-) -> Result<Vec<Fault>, AllocError> {
-    let mut analyser = Analyser::new(alloc, rate, period);
-    let mut told = Vec::new(alloc);
-    for slot in slots {
-        analyser.push(slot, &mut told)?;
-    }
-    Ok(told)
 }

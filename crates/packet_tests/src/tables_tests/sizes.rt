@@ -6,7 +6,9 @@ ghost use Rattle.tables.specs.Header.{IsHeader};
 ghost use Rattle.tables.specs.Pat.{IsPatRow};
 ghost use Rattle.tables.specs.Sdt.{IsSdtRow};
 
-use super::*;
+use std::alloc::{AllocError, Global};
+use std::test::Fail;
+use tables::{DescriptorLoop, Header, Pat, PatRow, Sdt, SdtRow, WriteFault};
 
 fn header() -> Header
     ensures { IsHeader result }
