@@ -7,7 +7,8 @@ line counts; the status is 1 where something failed.
 import sys
 import tempfile
 
-from failures import EIGHT, eight_packets, run
+from failures import EIGHT_PLAN, run
+from small import EIGHT
 
 
 def ran(folder, way):
@@ -30,24 +31,23 @@ def judged(folder, whole):
 
 
 def main():
-    packets = eight_packets()
     wrong = 0
     with tempfile.TemporaryDirectory() as folder:
         with open(f"{folder}/eight.toml", "w") as file:
-            file.write(EIGHT)
+            file.write(EIGHT_PLAN)
         with open(f"{folder}/eight.ts", "wb") as file:
-            file.write(packets)
+            file.write(EIGHT)
         whole = ran(folder, [])[3]
         if whole is None or len(whole) != 1692:
             sys.exit("the run over the whole file failed")
-        for cut in range(len(packets) + 1):
+        for cut in range(len(EIGHT) + 1):
             with open(f"{folder}/eight.ts", "wb") as file:
-                file.write(packets[:cut])
+                file.write(EIGHT[:cut])
             fault = judged(folder, whole)
             if fault:
                 wrong += 1
                 print(f"{cut} bytes: {fault}")
-    print(f"{len(packets) + 1} cuts, {wrong} were wrong")
+    print(f"{len(EIGHT) + 1 - wrong} passed, {wrong} failed")
     return 1 if wrong else 0
 
 

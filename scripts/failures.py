@@ -1,10 +1,11 @@
 #!/usr/bin/env python3
 """Makes each request for memory, each read and each write of whole commands fail in turn, and looks at what becomes of the run:
-over the example's plan and over a file of eight packets, in threads and in one thread. Each line: what failed, the status, and
-whether what was written begins the right bytes. From anywhere: scripts/failures.py. It needs a C compiler; REMUX names another
-program than the built one. The last line counts; the status is 1 where a run was wrong.
+over the example's plan and over a file of eight packets, in threads and in one thread. A wrong run has a line, and with -v each
+run: what failed, the status, and whether what was written begins the right bytes. From anywhere: scripts/failures.py [-v]. It needs
+a C compiler; REMUX names another program than the built one. The last line counts; the status is 1 where a run was wrong.
 
-A run is wrong where it ends by a signal or isn't over within a minute; where its status is another than 0, 4 or 5; where it is 0
+A run is wrong where it ends by a signal or isn't over within a minute; where its status is another than 0, or 5 with
+`fault memory` for want of memory, or else 4; where it is 0
 and the output, or what it printed, isn't that of the run that nothing stopped; where it isn't 0 and an output has the final name,
 or what was written doesn't begin the right bytes, or nothing is said on standard error.
 
@@ -17,61 +18,12 @@ import subprocess
 import sys
 import tempfile
 
+from small import EIGHT, PLAN
+
 top = os.path.dirname(os.path.dirname(os.path.realpath(__file__)))
 program = os.environ.get("REMUX", f"{top}/crates/remux/out/remux")
 
-EIGHT = """rate = 1504000
-period = 100
-watch = 1000
-version = 0
-queue = 64
-ring = 64
-transport_stream_id = 1
-original_network_id = 2
-network_id = 3
-network_name = "N"
-transport_descriptors = ""
-[[input]]
-file = "eight.ts"
-rate = 1504000
-offset = 0
-[[service]]
-input = 0
-program = 100
-service = 500
-pmt = 256
-[[service.stream]]
-pid = 257
-out = 512
-leak = 2000000
-"""
-
-
-def crc(section):
-    """CRC_32 of ISO/IEC 13818-1, annex A."""
-    register = 0xFFFFFFFF
-    for byte in section:
-        for bit in range(7, -1, -1):
-            top_bit = register >> 31 ^ (byte >> bit & 1)
-            register = (register << 1 ^ (0x04C11DB7 if top_bit else 0)) & 0xFFFFFFFF
-    return register.to_bytes(4, "big")
-
-
-def table_packet(pid, section):
-    section = bytes.fromhex(section)
-    start = bytes([0x47, 0x40 | pid >> 8, pid & 0xFF, 0x10, 0]) + section + crc(section)
-    return start.ljust(188, b"\xff")
-
-
-def eight_packets():
-    """A PAT, a PMT, an SDT and five packets of a stream."""
-    tables = [
-        (0x0000, "00b00d0001c100000064e100"),
-        (0x0100, "02b0120064c10000e101f00002e101f000"),
-        (0x0011, "42f0180001c100000002ff0064fc800748050101410142"),
-    ]
-    stream = [bytes([0x47, 0x01, 0x01, 0x10 + counter]) + b"\xaa" * 184 for counter in range(5)]
-    return b"".join([table_packet(pid, section) for pid, section in tables] + stream)
+EIGHT_PLAN = PLAN.replace("x.ts", "eight.ts")
 
 
 def lay(folder):
@@ -80,11 +32,11 @@ def lay(folder):
         shutil.copy(f"{top}/examples/{name}", folder)
     with open(f"{top}/examples/plan.toml") as file:
         plan = file.read().replace("examples/", "")
-    for name, text in (("example.toml", plan), ("eight.toml", EIGHT)):
+    for name, text in (("example.toml", plan), ("eight.toml", EIGHT_PLAN)):
         with open(f"{folder}/{name}", "w") as file:
             file.write(text)
     with open(f"{folder}/eight.ts", "wb") as file:
-        file.write(eight_packets())
+        file.write(EIGHT)
 
 
 def read(path):
@@ -118,7 +70,7 @@ def is_clean(folder, plan):
     return ran.returncode in (0, 1) and last.endswith("rest 0") and all(fault.split()[2] == "1.6" for fault in faults)
 
 
-def judged(right, got, may_end_early, folder, plan):
+def judged(kind, right, got, may_end_early, folder, plan):
     """What is wrong with a run, or nothing, how much it wrote, and what that is."""
     status, _, printed, said, whole, part = got
     _, _, right_print, _, right_bytes, _ = right
@@ -128,8 +80,8 @@ def judged(right, got, may_end_early, folder, plan):
         fault = "" if whole == right_bytes and printed == right_print else "it ended well with another output"
         return fault, len(whole or b""), "all of it"
     written = part or b""
-    if status not in (4, 5):
-        return "the status", len(written), ""
+    if status != (5 if kind == "memory" else 4) or kind == "memory" and not said.startswith(b"fault memory\n"):
+        return "the status, or the word", len(written), ""
     if whole is not None and whole != right_bytes:
         return "an output has the final name", len(whole), ""
     fault = "" if said else "no word"
@@ -160,12 +112,13 @@ def main():
                         if not got[1]:
                             break
                         may_end_early = kind == "read" or kind == "memory" and not way
-                        fault, size, what = judged(right, got, may_end_early, folder, plan)
+                        fault, size, what = judged(kind, right, got, may_end_early, folder, plan)
                         runs, wrong = runs + 1, wrong + bool(fault)
                         way_name = "in one thread" if way else "in threads"
-                        print(f"{job} {way_name}, {kind} {at}: status {got[0]}, {size} of {len(right[4])} bytes, {'WRONG: ' + fault if fault else what}")
+                        if fault or "-v" in sys.argv:
+                            print(f"{job} {way_name}, {kind} {at}: status {got[0]}, {size} of {len(right[4])} bytes, {'WRONG: ' + fault if fault else what}")
                         at += 1
-    print(f"{runs} calls failed, {wrong} runs were wrong")
+    print(f"{runs - wrong} passed, {wrong} failed")
     return 1 if wrong or not runs else 0
 
 

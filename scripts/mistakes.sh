@@ -277,6 +277,7 @@ service 101 (input 0, program 1): the input has no such program; its PAT has no 
 END
 answer 'more descriptors than the NIT has room for' 3 check --plan nit.toml << 'END'
 fault 10 TooLarge
+a table is too large for its section
 section_length of the NIT is 1035, at most 1021
 END
 mistake 'a scrambled service' 3 's|"north.ts"|"scrambled.ts"|' << 'END'

@@ -1,11 +1,8 @@
-//! Runs and whole commands over the example plan, with numbers worked out on paper.
+//! Runs and whole commands over the example plan, with numbers worked out on paper: one test of each command, and the tests in
+//! which a file fails.
+//! What commands print is shown over real files, by `scripts/commands`.
 
-mod delays;
 mod devices;
 mod memory_files;
-mod rates;
-mod refused_plans;
 mod runs;
-mod sizes;
-mod telling;
 mod whole_commands;

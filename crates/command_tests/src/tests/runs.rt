@@ -64,7 +64,7 @@ fn run_two(alloc: Global, queue: usize, step: usize) -> Result<(Vec<u8>, Summary
 }
 
 /// PID and counter of each packet of an output.
-pub fn marks_of(alloc: Global, bytes: &[u8]) -> Result<Vec<(u16, u8)>, AllocError> {
+fn marks_of(alloc: Global, bytes: &[u8]) -> Result<Vec<(u16, u8)>, AllocError> {
     let mut marks = Vec::new(alloc);
     let (packets, _) = bytes.as_chunks::<188>();
     for packet in packets {
