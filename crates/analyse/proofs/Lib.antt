@@ -18,3 +18,4 @@ pub mod TablesLaws
 pub mod StreamLaws
 pub mod FaultsLaws
 pub mod QuietLaws
+pub mod ReportLaws

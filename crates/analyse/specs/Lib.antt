@@ -21,3 +21,6 @@ pub mod StreamWatching
 pub mod Analysed
 pub mod FaultNames
 pub mod Quiet
+pub mod FaultCounts
+pub mod ReportValue
+pub mod FaultReport

@@ -4,13 +4,17 @@
 //! next slot's faults need: `SyncWatch` of the sync bytes, `CounterWatches` of the counters of all PIDs, `PatWatch` of PID
 //! 0x0000 and the programs of the PAT in force, `PmtWatches` of the PMTs of all PIDs, and two `GapWatches` of the PIDs that
 //! carry a PMT and of those to which a PMT refers. A section that is no PMT isn't kept on other PIDs, only counted to its end.
+//!
+//! A `FaultReport` takes the faults one by one, in the order in which they are told: how many there are of each kind, and the first.
 #![tactic(auto)]
 
 mod analyser;
 mod counter_watch;
 mod counter_watches;
 mod fault;
+mod fault_counts;
 mod fault_kind;
+mod fault_report;
 mod gap_watch;
 mod gap_watches;
 mod newest_pmt;
@@ -30,4 +34,6 @@ mod watched_pids;
 
 pub use analyser::Analyser;
 pub use fault::Fault;
+pub use fault_counts::FaultCounts;
 pub use fault_kind::FaultKind;
+pub use fault_report::{FaultReport, MOST_FIRST};

@@ -1,13 +1,10 @@
 //! Whole commands.
 
 use crate::run_command::{Asked, run};
-use analysis::StreamAnalysis;
-use files::Files;
-use input_files::{InputFile, ReadPlan, open_again, read_plan};
+use files::{CommandFault, FileCause, Files, InputFile, ReadPlan, open_again, read_plan};
 use measuring::{Metered, print_measured, read_on, with_meters};
-use messages::{CommandFault, FileCause};
 use plan::Plan;
-use printing::{print_plan, print_rhythm, print_shape};
+use printing::{StreamAnalysis, print_plan, print_rhythm, print_shape};
 use rate_meter::RateMeter;
 use std::alloc::Global;
 use std::convert::AsStr;

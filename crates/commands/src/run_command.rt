@@ -6,10 +6,11 @@ ghost use Rattle.words.specs.Ranges.{IsAllowedLength};
 
 use crate::commands::{end, end_over};
 use crate::whole_run::run_plan;
-use files::{Files, OutputFile, open_output};
-use input_files::{FileIdentity, InputFile, ReadPlan, open_again, read_plan, stopped};
+use files::{
+    CommandFault, FileIdentity, Files, InputFile, OutputFile, ReadPlan, open_again, open_output,
+    read_plan, stopped,
+};
 use measuring::{Metered, print_wrong_rates, with_meters};
-use messages::CommandFault;
 use plan::Plan;
 use printing::{print_delays, print_end, print_faults, print_summary, tell_overfull};
 use rate_meter::Meter;

@@ -1,7 +1,7 @@
 //! The writing of a file.
 
+use crate::FileCause;
 use crate::output_file::OutputFile;
-use messages::FileCause;
 use serial::Sink;
 use std::io;
 use std::io::{ErrorKind, Write};

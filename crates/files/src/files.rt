@@ -1,8 +1,7 @@
 //! Where a command's files come from.
 
 use crate::output_file::OutputFile;
-use input_files::{FileIdentity, Sources};
-use messages::FileCause;
+use crate::{FileCause, FileIdentity, Sources};
 
 /// Gives readers and writers for names, so that a test can stand in for the system's files.
 pub trait Files: Sources {

@@ -1,6 +1,6 @@
 //! A file that is written.
 
-use messages::FileCause;
+use crate::FileCause;
 use serial::Sink;
 
 /// A sink that is a file: it says why it failed.

@@ -1,11 +1,10 @@
 //! The opening of an output.
 
 ghost use Rattle.std.specs.Prelude.{IfOk};
-ghost use Rattle.input_files.specs.Identity.{IsAmong};
+ghost use Rattle.files.specs.Identity.{IsAmong};
 
 use crate::files::Files;
-use input_files::{FileIdentity, is_among};
-use messages::{CommandFault, FileCause};
+use crate::{CommandFault, FileCause, FileIdentity, is_among};
 use std::alloc::Global;
 
 /// A writer to the output with this name, and which file it takes the place of, where that is known: none of those that are

@@ -4,10 +4,9 @@ use crate::file_writer::FileWriter;
 use crate::files::Files;
 use crate::new_file::{NewFile, partial_name};
 use crate::output_place::OutputPlace;
-use input_files::{
-    AgainReader, FileIdentity, FileReader, InputFile, KeptReader, Sources, is_among,
+use crate::{
+    AgainReader, FileCause, FileIdentity, FileReader, InputFile, KeptReader, Sources, is_among,
 };
-use messages::FileCause;
 use std::alloc::Global;
 use std::fs::{File, Metadata, OpenFile, OpenOptions, Permissions};
 use std::io::{Cursor, ErrorKind, Read, Stdout};

@@ -3,8 +3,7 @@
 ghost use Rattle.std.specs.Prelude.{◌≡◌, ◌<◌, length, map, slice_get, Some, IfOk};
 ghost use Rattle.measuring.specs.Metering.{AreNewMeters, formats_of, source_of};
 
-use input_files::{FileIdentity, InputFile};
-use messages::FileCause;
+use files::{FileCause, FileIdentity, InputFile};
 use plan::Plan;
 use rate_meter::{Measured, Meter, RateMeter};
 use reading::Source;

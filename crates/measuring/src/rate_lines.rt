@@ -2,7 +2,7 @@
 
 use crate::metered::Metered;
 use advice::{left_rate, packets_rate};
-use input_files::InputFile;
+use files::InputFile;
 use plan::Plan;
 use rate_meter::{Deviation, Measured, Meter, off_by};
 use request::Stream;

@@ -1,4 +1,5 @@
-//! The lines that commands print of plans, of runs and of streams: what became of them, and what they say to their user.
+//! The lines that commands print of plans, of runs and of streams: what became of them, and what they say to their user. A
+//! `StreamAnalysis` takes a stream in pieces, and its lines are those of its faults.
 #![tactic(auto)]
 
 mod fault_lines;
@@ -6,6 +7,7 @@ mod overfull;
 mod plan_lines;
 mod run_end;
 mod run_lines;
+mod stream_analysis;
 mod stream_line;
 
 pub use fault_lines::print_faults;
@@ -13,4 +15,5 @@ pub use overfull::tell_overfull;
 pub use plan_lines::{print_plan, print_rhythm};
 pub use run_end::print_end;
 pub use run_lines::{print_delays, print_summary};
+pub use stream_analysis::StreamAnalysis;
 pub use stream_line::print_shape;

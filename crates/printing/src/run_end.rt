@@ -1,6 +1,6 @@
 //! Why a run ended, in lines.
 
-use input_files::InputFile;
+use files::InputFile;
 use plan::Plan;
 use reading::{Report, Stop};
 use serial::Summary;

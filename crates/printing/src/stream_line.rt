@@ -1,8 +1,8 @@
 //! What a stream looks like, in a line.
 
+use files::{has_format, shape_of};
 use std::io;
 use std::io::Write;
-use stream_shape::{has_format, shape_of};
 use tspkt::PacketFormat;
 
 /// Prints what a stream looks like that was read at this format and had so many faults, by its name and its first bytes, where it is

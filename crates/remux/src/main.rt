@@ -5,8 +5,7 @@
 #![tactic(auto)]
 
 use commands::command;
-use files::SystemFiles;
-use messages::CommandFault;
+use files::{CommandFault, SystemFiles};
 use std::fs::OpenOptions;
 use std::io::{BufWriter, ErrorKind, Write};
 use std::os::fd::{AsRawFd, IntoRawFd};

@@ -25,8 +25,8 @@ use Rattle.mux.specs.Peaks.{IsPeak}
 use Rattle.mux.specs.Headline.{IsSound}
 use Rattle.mux.proofs.Emitted.{length-emitted}
 use Rattle.analyse.specs.Faults.{faults}
-use Rattle.fault_report.specs.ReportValue.{ReportValue}
-use Rattle.fault_report.specs.FaultReport.{IsReportOf}
+use Rattle.analyse.specs.ReportValue.{ReportValue}
+use Rattle.analyse.specs.FaultReport.{IsReportOf}
 use Rattle.reading.specs.Failures.{FailsOnce}
 use Rattle.reading.specs.Takeable.{OriginValue, stride_at, framed_at, takeable, origin_of, CountsItems, EndsAtTaken}
 use Rattle.reading.specs.InputLimit.{limit_of_input}

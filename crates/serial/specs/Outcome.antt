@@ -7,7 +7,7 @@ use Rattle.tspkt.specs.declared.item.Item.{Item}
 use Rattle.tspkt.specs.declared.stamped.Stamped.{Stamped}
 use Rattle.request.specs.Request.{InputValue}
 use Rattle.analyse.specs.Faults.{faults}
-use Rattle.fault_report.specs.FaultReport.{IsReportOf}
+use Rattle.analyse.specs.FaultReport.{IsReportOf}
 use Rattle.plan.specs.Build.{PlanValue}
 use Rattle.mux.specs.declared.event.Event.{Event}
 use Rattle.mux.specs.History.{History, taken, is_closed, emitted}

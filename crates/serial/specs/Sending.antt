@@ -3,7 +3,7 @@ use Rattle.std.specs.Prelude.{◌≡◌, ◌⊎◌, ℕ, min, List, [], length, 
 use Rattle.std.specs.List.{flat_map}
 use Rattle.analyse.specs.Faults.{faults}
 use Rattle.analyse.specs.Analysed.{HasAccepted}
-use Rattle.fault_report.specs.FaultReport.{IsReportOf}
+use Rattle.analyse.specs.FaultReport.{IsReportOf}
 use Rattle.reading.specs.Failures.{FailsOnce}
 use Rattle.reading.specs.declared.packet_reader.PacketReader.{PacketReader}
 use Rattle.serial.specs.Written.{Sends, SendsBeginning}

@@ -3,8 +3,7 @@
 use crate::packet_writer::PacketWriter;
 use crate::run_fault::RunFault;
 use crate::sink::Sink;
-use analyse::{Analyser, Fault};
-use fault_report::FaultReport;
+use analyse::{Analyser, Fault, FaultReport};
 use std::alloc::{AllocError, Global};
 use tspkt::Packet;
 

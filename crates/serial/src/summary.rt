@@ -1,6 +1,6 @@
 //! What became of a run.
 
-use fault_report::FaultReport;
+use analyse::FaultReport;
 use mux::{Counts, Peak, Totals};
 use reading::Report;
 

@@ -16,8 +16,8 @@ use Rattle.mux.specs.History.{Run, History, slots, emitted}
 use Rattle.mux.specs.Plans.{IsMultiplexPlan}
 use Rattle.mux.proofs.Emitted.{length-emitted}
 use Rattle.analyse.specs.Faults.{faults}
-use Rattle.fault_report.specs.ReportValue.{ReportValue}
-use Rattle.fault_report.specs.FaultReport.{IsReportOf}
+use Rattle.analyse.specs.ReportValue.{ReportValue}
+use Rattle.analyse.specs.FaultReport.{IsReportOf}
 use Rattle.port.specs.Rings.{RingId, PortValue}
 use Rattle.worker.specs.declared.worker.Worker.{Worker}
 use Rattle.station.specs.Stations.{StationValue, IsLawfulStation, rings_of}

@@ -2,9 +2,7 @@
 
 use crate::tests::devices::{TestReader, TestWriter};
 use commands::command;
-use files::{FileWriter, Files};
-use input_files::{FileIdentity, FileReader, Sources};
-use messages::FileCause;
+use files::{FileCause, FileIdentity, FileReader, FileWriter, Files, Sources};
 use std::alloc::{AllocError, Global};
 use std::io::ErrorKind;
 use std::process::Abort;

@@ -2,7 +2,7 @@ use Rattle.std.proofs.Common.{◌+◌, min, List, [], ◌∷◌, ◌++◌, ◌�
 use Rattle.analyse.specs.declared.fault.Fault.{Fault}
 use Rattle.analyse.specs.Faults.{faults, faults_at}
 use Rattle.analyse.proofs.FaultsLaws.{faults_more}
-use Rattle.fault_report.specs.FaultReport.{IsReportOf}
+use Rattle.analyse.specs.FaultReport.{IsReportOf}
 use Rattle.serial.proofs.SendingLaws.{counted_more}
 use Rattle.serial.proofs.slot_writer.SlotWriter.analyse.Goals as goal
 

@@ -1,3 +1,0 @@
-pub mod FaultCounts
-pub mod ReportValue
-pub mod FaultReport

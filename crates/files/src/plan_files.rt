@@ -1,0 +1,304 @@
+//! A plan from its file and the files of its inputs.
+
+ghost use Rattle.std.specs.Prelude.{◌≡◌, ◌≤◌, ◌++◌, [], Ok, Some, true, false, length, map, is_some, IfOk, IfSome, OnOk};
+ghost use Rattle.acquire.specs.Seen.{findings_of};
+ghost use Rattle.plan.specs.Build.{build_fault_of};
+ghost use Rattle.plan_causes.specs.Causes.{IsCauseOf, fault_of};
+
+use crate::file_identity::FileIdentity;
+use crate::input_file::InputFile;
+use crate::pat_programs::PatPrograms;
+use crate::placed_cause::PlacedCause;
+use crate::plan_read::ReadPlan;
+use crate::sources::Sources;
+use crate::{CommandFault, FileCause, StreamShape, has_format, shape_of};
+use acquire::{Acquire, Found};
+use plan::Plan;
+use plan_causes::{PlanCause, cause_of};
+use reading::{Source, Stop, StreamReader};
+use request::{Input, PlanFault, Request};
+use selection::seek;
+use std::alloc::{AllocError, Global};
+use std::str;
+use text_causes::{bytes_cause, text_cause};
+use tspkt::{Item, Packet, PacketFormat};
+
+/// How many bytes are read at once.
+const PIECE: usize = 1 << 16;
+/// The most bytes of a plan's file.
+const PLAN_LIMIT: usize = 1_048_576;
+
+/// Adds bytes that were read of a plan's file to those before them, if there are no more than a mebibyte.
+fn add_read(bytes: &mut Vec<u8>, read: &[u8]) -> Result<(), Stop>
+    ensures added { OnOk result (bytes.new.items ≡ bytes.old.items ++ read.now) }
+    ensures bound { OnOk result (length bytes.new.items ≤ 1048576) }
+{
+    if bytes.extend_from_slice(read).is_err() {
+        return Err(Stop::Memory);
+    }
+    if bytes.len() > PLAN_LIMIT {
+        return Err(Stop::TooMuch);
+    }
+    Ok(())
+}
+
+/// All bytes of a plan's file, at most a mebibyte.
+fn read_text<R: Source>(alloc: Global, source: &mut R) -> Result<Vec<u8>, Stop>
+    ensures { IfOk result (λ bytes. length bytes.items ≤ 1048576) }
+{
+    let Ok(mut piece) = vec![in alloc; 0; PIECE] else {
+        return Err(Stop::Memory);
+    };
+    let mut bytes = Vec::new(alloc);
+    for _ in 0..=PLAN_LIMIT {
+        let Ok(count) = source.read(piece.as_mut_slice()) else {
+            return Err(Stop::ReadFailed);
+        };
+        add_read(&mut bytes, &piece[..count])?;
+        if count == 0 {
+            return Ok(bytes);
+        }
+    }
+    Err(Stop::TooMuch)
+}
+
+/// A reader of the file with this name.
+fn open<F: Sources>(alloc: Global, files: &mut F, name: &str) -> Result<F::Reader, CommandFault> {
+    match files.reader(name) {
+        Ok(reader) => Ok(reader),
+        Err(cause) => Err(CommandFault::file(alloc, name, cause)),
+    }
+}
+
+/// The fault of a file whose reading stopped before its end, which may have so many bytes.
+pub fn stopped<R: InputFile>(
+    alloc: Global,
+    name: &str,
+    reader: &R,
+    stop: Stop,
+    limit: u64,
+) -> CommandFault {
+    match stop {
+        Stop::Memory => CommandFault::Memory,
+        Stop::TooMuch => CommandFault::file(alloc, name, FileCause::TooLong(limit)),
+        _ => CommandFault::file(alloc, name, reader.cause()),
+    }
+}
+
+/// The fault of a plan's text with the words of its cause.
+fn text_fault(alloc: Global, fault: PlanFault, text: &str) -> Result<CommandFault, AllocError> {
+    let words = match PlacedCause::find(alloc, fault, text)? {
+        Some(cause) => Some(format!(in alloc; "{cause}")?),
+        None if fault == PlanFault::BadText => text_cause(alloc, text)?,
+        None => None,
+    };
+    match words {
+        Some(words) => Ok(CommandFault::PlanCause(fault, words)),
+        None => Ok(CommandFault::from(fault)),
+    }
+}
+
+/// The request that a text writes. The fault says why the text is no plan's, or where its values are at fault, where there is
+/// memory for its words.
+fn request_of(alloc: Global, text: &str) -> Result<Request, CommandFault> {
+    match Request::read(alloc, text) {
+        Ok(request) => Ok(request),
+        Err(fault) => Err(text_fault(alloc, fault, text).unwrap_or(CommandFault::from(fault))),
+    }
+}
+
+/// The fault of a plan's file whose bytes are no text, with its cause where there is memory for its words.
+fn no_text_fault(alloc: Global, bytes: &[u8]) -> CommandFault {
+    match bytes_cause(alloc, bytes) {
+        Ok(Some(cause)) => CommandFault::PlanCause(PlanFault::BadText, cause),
+        _ => CommandFault::from(PlanFault::BadText),
+    }
+}
+
+/// The request that a plan's file writes, and which file that is.
+fn read_request<F: Sources>(
+    alloc: Global,
+    files: &mut F,
+    name: &str,
+) -> Result<(Request, Option<FileIdentity>), CommandFault> {
+    let mut source = open(alloc, files, name)?;
+    match read_text(alloc, &mut source) {
+        Ok(bytes) => match str::from_utf8(&bytes) {
+            Ok(text) => Ok((request_of(alloc, text)?, source.identity())),
+            Err(_) => Err(no_text_fault(alloc, &bytes)),
+        },
+        Err(stop) => Err(stopped(alloc, name, &source, stop, PLAN_LIMIT as u64)),
+    }
+}
+
+/// Pushes the packet of an item, where it is one, and answers whether all that is wanted was found.
+fn push_item(acquire: &mut Acquire, item: &Item) -> Result<bool, AllocError> {
+    if let Item::Packet(_, bytes) = item
+        && let Ok(packet) = Packet::read(bytes)
+    {
+        return acquire.push(&packet);
+    }
+    Ok(false)
+}
+
+/// Pushes the packets among the items that a stream has told, until all that is wanted was found.
+fn push_told<R: Source>(
+    acquire: &mut Acquire,
+    stream: &mut StreamReader<R>,
+) -> Result<bool, AllocError>
+    ensures none { result ≡ Ok false → stream.new.items.ahead ≡ [] }
+    ensures stays { stream.new ≡ record stream.old {
+      items = record stream.old.items { ahead = stream.new.items.ahead };
+    } }
+{
+    while let Some(item) = stream.peek() {
+        let is_found = push_item(acquire, item)?;
+        stream.pass();
+        if is_found {
+            return Ok(true);
+        }
+    }
+    Ok(false)
+}
+
+/// Reads an input of this format until all that is wanted was found or it ends. The answer is its reader, and why it couldn't be read, if it
+/// couldn't.
+fn read_tables<R: Source + Drop>(
+    alloc: Global,
+    acquire: &mut Acquire,
+    format: PacketFormat,
+    source: R,
+) -> Result<(R, Option<Stop>), AllocError> {
+    let mut piece = vec![in alloc; 0; PIECE]?;
+    let mut stream = StreamReader::new(alloc, format, source, format.limit());
+    loop {
+        if push_told(acquire, &mut stream)? || stream.is_over() {
+            return Ok((stream.into_source(), None));
+        }
+        if let Err(stop) = stream.read(piece.as_mut_slice()) {
+            return Ok((stream.into_source(), Some(stop)));
+        }
+    }
+}
+
+/// What is found in the input with this number, the programs of its PAT, and its reader.
+fn find<F: Sources>(
+    alloc: Global,
+    files: &mut F,
+    request: &Request,
+    number: usize,
+    input: &Input,
+) -> Result<(Found, PatPrograms, F::Reader), CommandFault> {
+    let (name, format) = (input.file.as_str(), input.format);
+    let source = open(alloc, files, name)?;
+    let mut acquire = seek(alloc, request, number)?;
+    let (reader, stop) = read_tables(alloc, &mut acquire, format, source)?;
+    let programs = PatPrograms::of(alloc, acquire.pat())?;
+    match stop {
+        None => Ok((acquire.found(), programs, reader)),
+        Some(stop) => Err(stopped(alloc, name, &reader, stop, format.limit())),
+    }
+}
+
+/// Whether programs are sought in an input that has none of them, and whose first bytes aren't packets of its format.
+fn is_no_stream(found: &Found, format: PacketFormat, head: &[u8]) -> bool {
+    !found.pmts.is_empty()
+        && found.pmts.iter().all(|pmt| pmt.is_none())
+        && !has_format(head, format)
+}
+
+/// What an input looks like, in words, and what the plan has to state where it can be read so.
+fn shape_words(alloc: Global, shape: StreamShape) -> Result<String, AllocError> {
+    match shape.format() {
+        Some(format) => format!(in alloc; "{shape}: state size = {}", format.stride()),
+        None => format!(in alloc; "{shape}"),
+    }
+}
+
+/// A cause of this fault of a plan, by what was found in its inputs. There is one wherever they give the plan this fault, and
+/// none of want of memory.
+fn cause_in(fault: PlanFault, request: &Request, found: &[Found]) -> Option<PlanCause>
+    ensures cause { IfSome result (IsCauseOf request.now (map findings_of found.now)) }
+    ensures fault { IfSome result (λ cause. fault_of cause ≡ fault) }
+    ensures some { build_fault_of request.now (map findings_of found.now) ≡ Some fault
+        → is_some result ≡ true }
+{
+    match cause_of(request, found) {
+        Some(cause) if cause.fault() == fault => Some(cause),
+        _ => None,
+    }
+}
+
+/// A cause in words. A program that isn't found is told with what its input's PAT has.
+fn cause_words(
+    alloc: Global,
+    cause: &PlanCause,
+    programs: &[PatPrograms],
+) -> Result<String, AllocError> {
+    if let PlanCause::NoProgram(service) = cause
+        && let Some(programs) = programs.get(service.input)
+    {
+        return if programs.has(service.program) {
+            format!(in alloc; "{service}: the input's PAT has it, and its PMT was not found")
+        } else {
+            format!(in alloc; "{service}: the input has no such program; {programs}")
+        };
+    }
+    format!(in alloc; "{cause}")
+}
+
+/// The fault of a plan, with its cause in words. Where a program isn't there, and an input has none of those that are sought in
+/// it, that is what the input looks like, if it is no stream of packets; else it is where the plan is at fault.
+fn plan_fault<R: InputFile>(
+    alloc: Global,
+    fault: PlanFault,
+    request: &Request,
+    found: &[Found],
+    programs: &[PatPrograms],
+    readers: &[R],
+) -> Result<CommandFault, AllocError> {
+    let read = found.iter().zip(readers.iter());
+    for (number, (input, (found, reader))) in request.inputs().iter().zip(read).enumerate() {
+        let head = reader.head();
+        if fault == PlanFault::NoProgram && is_no_stream(found, input.format, head) {
+            let (file, words) = (&input.file, shape_words(alloc, shape_of(head))?);
+            let cause = format!(in alloc; "input {number}, {file}: {words}")?;
+            return Ok(CommandFault::PlanCause(fault, cause));
+        }
+    }
+    match cause_in(fault, request, found) {
+        Some(cause) => Ok(CommandFault::PlanCause(fault, cause_words(alloc, &cause, programs)?)),
+        None => Ok(CommandFault::from(fault)),
+    }
+}
+
+/// The plan in the file with this name, made by what is found in its inputs, each of which is read from its beginning.
+///
+/// The first fault ends it: of the plan's file, which may have 1,048,576 bytes; of its text; of the inputs in their order; and
+/// of the plan, without its cause where there is no memory for its words.
+pub fn read_plan<F: Sources>(
+    alloc: Global,
+    files: &mut F,
+    name: &str,
+) -> Result<ReadPlan<F::Reader>, CommandFault> {
+    let (request, identity) = read_request(alloc, files, name)?;
+    let mut found = Vec::new(alloc);
+    let mut programs = Vec::new(alloc);
+    let mut readers = Vec::new(alloc);
+    for (number, input) in request.inputs().iter().enumerate() {
+        let (tables, named, reader) = find(alloc, files, &request, number, input)?;
+        found.push(tables)?;
+        programs.push(named)?;
+        readers.push(reader)?;
+    }
+    match Plan::build(alloc, &request, &found) {
+        Ok(plan) => Ok(ReadPlan {
+            plan,
+            plan_file: identity,
+            readers,
+        }),
+        Err(fault) => Err(plan_fault(alloc, fault, &request, &found, &programs, &readers).unwrap_or(
+            CommandFault::from(fault),
+        )),
+    }
+}

@@ -1,9 +1,0 @@
-use Rattle.std.proofs.Common.{◌<◌, length}
-use Rattle.reading.specs.Items.{left_to_read}
-use Rattle.input_files.proofs.plan_files.read_tables.Given as goal
-
-abbrev pub invariant-loop-stream : goal.invariant-loop-stream
-invariant-loop-stream g l = 0 < length l.piece.items
-
-abbrev pub decreases-loop-stream : goal.decreases-loop-stream
-decreases-loop-stream g l = left_to_read l.stream.items

@@ -1,3 +1,0 @@
-pub mod FileReading
-pub mod Identity
-pub mod PatPrograms
