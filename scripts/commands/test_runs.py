@@ -1,6 +1,6 @@
 """What commands print and write over the example's plan and input."""
 from does import ANALYSE, CHECK, ENDED, FILES, LINES, RUN, CommandCase, does_once
-from small import EIGHT, NULL, PAT, PLAN, TABLES, packets
+from small import EIGHT, NULL, PAT, PLAN, TABLES, input_of, packets, service, settings
 
 # Lengths of the input: those round the ends of its packets, and round the fifth sync byte, with which its tables are found.
 CUTS = [0, 1, 187, 188, 189, 564, 751, 752, 753, 754, 939, 940, 941, 1127, 1128, 1129, 1250, 1316, 1317, 1503, 1504]
@@ -45,6 +45,24 @@ slots 8 tables 3 elementary 4 null 1 faults 0
         streams = [(0x0200, counter) for counter in range(5)]
         want = [(0x0000, 0), (0x1FFF, 0), (0x0100, 0), streams[0], (0x0011, 0), *streams[1:]]
         self.assertEqual(marks(self.does(RUN).written), want)
+
+    def test_an_input_that_no_service_uses_is_read_and_closed(self):
+        done = self.does(RUN, {"x.ts": EIGHT, "x.toml": settings() + input_of() + input_of() + service()})
+        first, slots = LINES.splitlines()
+        unused = first.replace("input 0", "input 1").replace("unmapped 3", "unmapped 8").replace("taken 5 sent 5", "taken 0 sent 0")
+        self.ends(done, 0, "\n".join([first, unused, slots, ""]), ENDED)
+        self.assertEqual(done.written, self.does(RUN).written)
+
+    def test_what_is_no_packet_is_counted(self):
+        """Seven packets of the stream, whose sixth has a bad sync byte, behind a byte that is in none; the second has a reserved control.
+        By that byte each comes a slot later, and the fourth slot has a table."""
+        octets = bytearray(b"\0" + TABLES + packets(range(7)))
+        octets[1 + 188 * 4 + 3] = 0x00
+        octets[1 + 188 * 8] = 0x00
+        done = self.does(RUN, {**FILES, "x.ts": bytes(octets)})
+        told = "input 0 framed 9 malformed 1 unmapped 3 bad 1 losses 0 lost 1 taken 5 sent 5 queued 0"
+        faults = "faults: 2 of 1.4 Continuity_count_error\nfaults: slot 6 1.4 0x0200\nfaults: slot 10 1.4 0x0200\n"
+        self.assertEqual((done.out.splitlines()[0], done.err, done.status), (told, ENDED + faults, 0))
 
     def test_a_plan_is_shown(self):
         lines = """rate 1504000 gap 2 period 100 fast 2 slow 2

@@ -7,10 +7,6 @@
 
 mod bucket;
 mod pid_queue;
-#[cfg(test)]
-mod tests;
-#[cfg(test)]
-mod walk;
 
 pub use bucket::{Bucket, TRANSPORT_BUFFER_BYTES};
 pub use pid_queue::PidQueue;

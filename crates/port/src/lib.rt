@@ -15,8 +15,6 @@ mod port;
 mod ring_end;
 mod ring_reader;
 mod rings;
-#[cfg(test)]
-mod tests;
 
 pub use arrival::Arrival;
 pub use arrival_kind::ArrivalKind;
@@ -25,4 +23,4 @@ pub use gate::Gate;
 pub use point::Point;
 pub use port::Port;
 pub use ring_end::RingEnd;
-pub use rings::ports;
+pub use rings::{ports, ring};

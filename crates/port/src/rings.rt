@@ -10,12 +10,8 @@ use crate::ring_reader::RingReader;
 use rtrb::RingBuffer;
 use std::alloc::{AllocError, Global};
 
-/// The ring of an input, with room for so many packets, the end mark among them.
-pub(crate) fn ring(
-    alloc: Global,
-    input: usize,
-    capacity: usize,
-) -> Result<(Port, RingEnd), AllocError>
+/// The ring of an input, with room for so many packets, the end mark among them: its port and its end. `Err` is want of memory.
+pub fn ring(alloc: Global, input: usize, capacity: usize) -> Result<(Port, RingEnd), AllocError>
     ensures { IfOk result (λ r. IsNewRing input r.0 r.1) }
 {
     let (producer, consumer) = RingBuffer::with_protocol::<Global, NothingAfterEnd>(

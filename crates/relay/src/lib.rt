@@ -13,8 +13,6 @@ mod making;
 mod message;
 mod nothing_after_end;
 mod room;
-#[cfg(test)]
-mod tests;
 
 pub use block_receiver::BlockReceiver;
 pub use block_sender::BlockSender;

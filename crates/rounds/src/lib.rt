@@ -10,8 +10,6 @@ mod rounds_fault;
 mod table_place;
 mod table_rounds;
 mod table_turn;
-#[cfg(test)]
-mod tests;
 
 pub use rounds_fault::RoundsFault;
 pub use table_place::TablePlace;

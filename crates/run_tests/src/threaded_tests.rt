@@ -8,7 +8,6 @@ mod limits;
 mod meeting;
 mod random_turns;
 mod runs;
-mod shared_station;
 mod slow_writer;
 mod stops;
 mod turn_gates;

@@ -22,6 +22,8 @@ struct Work {
     packets: u32,
     /// How many steps a lock is held for, or none for a tick.
     steps: Option<usize>,
+    /// How many packets a ring has room for; a queue has it for eight of them at most.
+    room: usize,
 }
 
 /// Offers the next packets of an input, of which it has so many, as long as the ring has room, and the end mark behind them all. The
@@ -193,14 +195,19 @@ fn input_bytes(rt: &impl Abort, alloc: Global, packets: u32) -> Vec<u8> {
 }
 
 /// The example plan with two inputs.
-fn plan_of_two(rt: &impl Abort, alloc: Global) -> Plan {
-    plan_with_rings(alloc, 8, 64, &[0, 0]).expect(rt, "a plan")
+fn plan_of_two(rt: &impl Abort, alloc: Global, room: usize) -> Plan {
+    plan_with_rings(alloc, room.min(8), room, &[0, 0]).expect(rt, "a plan")
 }
 
 /// The bytes of the run in one thread, whose inputs have so many packets.
-fn bytes_in_one_thread(rt: &impl Abort, alloc: Global, packets: u32) -> Vec<u8> {
-    let input = input_bytes(rt, alloc, packets);
-    serial_bytes(rt, alloc, plan_of_two(rt, alloc), input.as_slice())
+fn bytes_in_one_thread(rt: &impl Abort, alloc: Global, work: Work) -> Vec<u8> {
+    let input = input_bytes(rt, alloc, work.packets);
+    serial_bytes(
+        rt,
+        alloc,
+        plan_of_two(rt, alloc, work.room),
+        input.as_slice(),
+    )
 }
 
 /// A broadcast of two inputs, their ports, and three readers.
@@ -211,8 +218,8 @@ struct Seats {
     last: FeedReader,
 }
 
-fn open<T: Abort + Wait>(rt: &T, alloc: Global) -> Seats {
-    let plan = plan_of_two(rt, alloc);
+fn open<T: Abort + Wait>(rt: &T, alloc: Global, room: usize) -> Seats {
+    let plan = plan_of_two(rt, alloc, room);
     let (broadcast, mut ports, mut readers) = Broadcast::open(rt, alloc, plan, 1_000_000, 3).expect(
         rt,
         "a broadcast",
@@ -233,14 +240,14 @@ fn all_read_the_serial_bytes<T: Threads + Wait + Abort + Sync>(
     work: Work,
     slots: u64,
 ) {
-    let bytes = bytes_in_one_thread(rt, alloc, work.packets);
+    let bytes = bytes_in_one_thread(rt, alloc, work);
     let bytes = bytes.as_slice();
     let Seats {
         broadcast,
         ports,
         both,
         last,
-    } = open(rt, alloc);
+    } = open(rt, alloc, work.room);
     let mut broadcast = broadcast_and_poll(rt, alloc, broadcast, ports, both, work, bytes);
     seals(rt, &mut broadcast, slots);
     polls(rt, alloc, last, bytes);
@@ -249,11 +256,14 @@ fn all_read_the_serial_bytes<T: Threads + Wait + Abort + Sync>(
 
 #[test]
 fn readers_poll_while_two_threads_tick(rt: HostRuntime) {
-    let work = Work {
-        packets: 960,
-        steps: None,
-    };
-    all_read_the_serial_bytes(&rt, rt.alloc(), work, 2_000);
+    for room in [1, 64] {
+        let work = Work {
+            packets: 960,
+            steps: None,
+            room,
+        };
+        all_read_the_serial_bytes(&rt, rt.alloc(), work, 2_000);
+    }
 }
 
 #[test]
@@ -261,6 +271,7 @@ fn readers_poll_while_100_000_slots_go_out(rt: HostRuntime) {
     let work = Work {
         packets: 48_000,
         steps: Some(MAX_STEPS),
+        room: 64,
     };
     all_read_the_serial_bytes(&rt, rt.alloc(), work, 100_000);
 }

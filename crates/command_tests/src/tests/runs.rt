@@ -4,7 +4,7 @@ ghost use Rattle.std.specs.Prelude.{◌≤◌};
 
 use crate::tests::devices::{TestReader, TestWriter};
 use anyhow::{Result, bail};
-use example::{add_packets, eight_packets, input, packets, plan_of, service, settings};
+use example::{eight_packets, packets, plan_of};
 use mux::{Counts, Totals};
 use plan::Plan;
 use reading::{ReadSource, Report, Stop};
@@ -74,21 +74,10 @@ fn marks_of(alloc: Global, bytes: &[u8]) -> Result<Vec<(u16, u8)>, AllocError> {
     Ok(marks)
 }
 
-/// The PIDs of an output are these.
-fn has_pids(rt: &impl Abort, alloc: Global, bytes: &[u8], pids: &[u16]) -> Result<(), AllocError> {
-    let mut found = Vec::new(alloc);
-    for (pid, _) in &marks_of(alloc, bytes)? {
-        found.push(*pid)?;
-    }
-    assert_eq!(rt; found.as_slice(), pids);
-    Ok(())
-}
-
-/// A report of an input with so many packets, so many of them not mapped.
-fn found(framed: u64, unmapped: u64, stopped: Option<Stop>) -> Report {
+/// A report of an input with so many packets.
+fn found(framed: u64, stopped: Option<Stop>) -> Report {
     let mut report = Report::new();
     report.framed = framed;
-    report.unmapped = unmapped;
     report.stopped = stopped;
     report
 }
@@ -116,43 +105,15 @@ fn counts(rt: &impl Abort, summary: &Summary, tables: u64, elementary: u64, null
     assert_eq!(rt; summary.counts, want);
 }
 
-/// The PIDs of the slots in which the eight packets go out.
-const PIDS: [u16; 9] = [
-    0x0000, 0x1FFF, 0x0100, 0x0200, 0x0011, 0x0200, 0x0200, 0x0200, 0x0200,
-];
-
 #[test]
-fn eight_packets_are_run(rt: HostRuntime) -> Result<(), Fail> {
-    let alloc = rt.alloc();
-    let (bytes, summary) = run_one(alloc, 1_000_000, TestReader::new(eight_packets(alloc)?))?;
-    assert_eq!(rt; bytes.len(), 1_692);
-    has_pids(&rt, alloc, &bytes, &PIDS)?;
-    reports(&rt, &summary, found(8, 3, None), 5, 5);
-    counts(&rt, &summary, 3, 5, 1);
-    assert_eq!(rt; summary.faults, 0);
-    Ok(())
-}
-
-#[test]
-fn a_run_has_no_more_than_its_slots(rt: HostRuntime) -> Result<(), Fail> {
-    let alloc = rt.alloc();
-    let (bytes, summary) = run_one(alloc, 3, TestReader::new(eight_packets(alloc)?))?;
-    assert_eq!(rt; bytes.len(), 564);
-    has_pids(&rt, alloc, &bytes, &PIDS[..3])?;
-    reports(&rt, &summary, found(4, 3, Some(Stop::Gate)), 1, 0);
-    counts(&rt, &summary, 2, 0, 1);
-    let (bytes, summary) = run_one(alloc, 0, TestReader::new(eight_packets(alloc)?))?;
-    assert_eq!(rt; bytes.len(), 0);
-    reports(&rt, &summary, found(0, 0, Some(Stop::Gate)), 0, 0);
-    Ok(())
-}
-
-#[test]
-fn an_empty_input_makes_an_empty_output(rt: HostRuntime) -> Result<(), Fail> {
+fn an_empty_input_and_a_run_of_no_slot_make_an_empty_output(rt: HostRuntime) -> Result<(), Fail> {
     let alloc = rt.alloc();
     let (bytes, summary) = run_one(alloc, 1_000, TestReader::new(Vec::new(alloc)))?;
     assert_eq!(rt; bytes.len(), 0);
-    reports(&rt, &summary, found(0, 0, None), 0, 0);
+    reports(&rt, &summary, found(0, None), 0, 0);
+    let (bytes, summary) = run_one(alloc, 0, TestReader::new(eight_packets(alloc)?))?;
+    assert_eq!(rt; bytes.len(), 0);
+    reports(&rt, &summary, found(0, Some(Stop::Gate)), 0, 0);
     Ok(())
 }
 
@@ -195,39 +156,6 @@ fn two_inputs_are_run(rt: HostRuntime) -> Result<(), Fail> {
     Ok(())
 }
 
-/// The text of a plan with a second input that no service uses.
-fn with_unused(alloc: Global) -> Result<String, AllocError> {
-    let mut text = settings(alloc, 64)?;
-    text.push_str(&input(alloc, 0)?)?;
-    text.push_str(&input(alloc, 0)?)?;
-    text.push_str(&service(alloc, 0, 0, 100, 0x0101)?)?;
-    Ok(text)
-}
-
-#[test]
-fn an_input_that_no_service_uses_is_read_and_closed(rt: HostRuntime) -> Result<(), Fail> {
-    let alloc = rt.alloc();
-    let plan = example::planned(alloc, &with_unused(alloc)?, &example::tables(alloc)?)?;
-    let mut readers = Vec::new(alloc);
-    for _ in 0..2 {
-        readers.push(TestReader::new(eight_packets(alloc)?))?;
-    }
-    let (writer, result) = run(
-        alloc,
-        plan,
-        1_000,
-        readers,
-        TestWriter::new(Vec::new(alloc)),
-    )?;
-    has_pids(&rt, alloc, &writer.bytes, &PIDS)?;
-    let summary = result?;
-    assert_eq!(rt;
-        summary.inputs.get(1).map(|x| x.report),
-        Some(found(8, 8, None))
-    );
-    Ok(())
-}
-
 /// What a failed read hides is given up: bytes that framing had not told yet.
 #[test]
 fn a_reader_that_fails_ends_its_input(rt: HostRuntime) -> Result<(), Fail> {
@@ -247,7 +175,7 @@ fn a_reader_that_fails_ends_its_input(rt: HostRuntime) -> Result<(), Fail> {
         reader.fails = true;
         let (bytes, summary) = run_one(alloc, 1_000, reader)?;
         assert_eq!(rt; bytes.len(), slots * 188);
-        reports(&rt, &summary, found(framed, 0, failed), framed, framed);
+        reports(&rt, &summary, found(framed, failed), framed, framed);
     }
     Ok(())
 }
@@ -273,40 +201,5 @@ fn a_writer_that_fails_ends_the_run(rt: HostRuntime) -> Result<(), Fail> {
         };
         assert_eq!(rt; fault, want);
     }
-    Ok(())
-}
-
-/// Packets with the counters 5, 5, 5, 6, 7, the first three equal: the third is one copy too many.
-#[test]
-fn the_output_is_analysed(rt: HostRuntime) -> Result<(), Fail> {
-    let alloc = rt.alloc();
-    let reader = TestReader::new(packets(alloc, &[5, 5, 5, 6, 7])?);
-    let (bytes, summary) = run_one(alloc, 1_000, reader)?;
-    let want = [
-        0x0000, 0x0200, 0x0100, 0x0200, 0x0011, 0x0200, 0x0200, 0x0200,
-    ];
-    has_pids(&rt, alloc, &bytes, &want)?;
-    assert_eq!(rt; summary.faults, 1);
-    Ok(())
-}
-
-/// Seven packets, whose sixth has a bad sync byte, behind a byte that is in none; the second has a reserved control.
-#[test]
-fn what_is_no_packet_is_counted(rt: HostRuntime) -> Result<(), Fail> {
-    let alloc = rt.alloc();
-    let mut bytes = vec![in alloc; 0x00]?;
-    add_packets(&mut bytes, &[0, 1, 2, 3, 4, 5, 6])?;
-    let bytes_at = [(192, 0x00), (941, 0x00)];
-    for (at, byte) in bytes_at {
-        if let Some(place) = bytes.as_mut_slice().get_mut(at) {
-            *place = byte;
-        }
-    }
-    let (_, summary) = run_one(alloc, 1_000, TestReader::new(bytes))?;
-    let mut want = found(6, 0, None);
-    want.malformed = 1;
-    want.bad = 1;
-    want.lost = 1;
-    reports(&rt, &summary, want, 5, 5);
     Ok(())
 }

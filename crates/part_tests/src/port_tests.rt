@@ -1,5 +1,6 @@
-use crate::rings::ring;
-use crate::{Arrival, ArrivalKind, RingEnd};
+//! Rings of packets.
+
+use port::{Arrival, ArrivalKind, RingEnd, ring};
 use std::test::Fail;
 use tspkt::{Stamped, null};
 

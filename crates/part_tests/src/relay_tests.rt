@@ -1,9 +1,9 @@
+//! Relays of blocks.
+
 ghost use Rattle.std.specs.Prelude.{◌≡◌, ◌≤◌, vec_capacity, IfOk};
 ghost use Rattle.relay.specs.Messages.{block_room};
 
-use crate::making::relay;
-use crate::room::{KEPT, ROOM};
-use crate::{BlockReceiver, BlockSender, Message};
+use relay::{BlockReceiver, BlockSender, KEPT, Message, ROOM, relay};
 use std::alloc::{AllocError, Global};
 use std::test::Fail;
 use tspkt::{Packet, null};

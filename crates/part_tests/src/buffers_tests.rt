@@ -1,7 +1,9 @@
 //! Levels worked out on paper, and the closed form beside the walk byte by byte.
 
-use crate::walk::Walk;
-use crate::{Bucket, PidQueue};
+mod walk;
+
+use crate::buffers_tests::walk::Walk;
+use buffers::{Bucket, PidQueue};
 use std::test::Fail;
 use tspkt::Stamped;
 

@@ -1,6 +1,6 @@
-//! Values worked out by hand from the rule of the rounds.
+//! Rounds of tables, by values worked out by hand from their rule.
 
-use super::*;
+use rounds::{RoundsFault, TablePlace, TableRounds, TableTurn, laws};
 use std::test::Fail;
 
 /// The rate at which one slot lasts a millisecond: half a second has 500 of them.
