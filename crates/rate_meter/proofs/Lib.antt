@@ -1,3 +1,4 @@
 pub mod StepLaws
 pub mod MeterLaws
 pub mod MeasuredLaws
+pub mod CounterLaws

@@ -3,4 +3,5 @@ pub mod Pace
 pub mod Readings
 pub mod Deviation
 pub mod Steps
+pub mod Counters
 pub mod Meter

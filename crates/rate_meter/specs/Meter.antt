@@ -1,5 +1,5 @@
 -- What is known of a stream by its packets, newest first (profile).
-use Rattle.std.specs.Prelude.{◌≡◌, ℕ, ◌+◌, ◌<◌, ◌==◌, nat_le, Bool, true, false, IsTrue, List, [], ◌∷◌, ◌++◌, length, slice_index, All, Option, Some, None, ◌≤◌, if◌then◌else◌}
+use Rattle.std.specs.Prelude.{◌≡◌, ℕ, ◌+◌, ◌<◌, ◌==◌, nat_le, Bool, true, false, IsTrue, List, [], ◌∷◌, ◌++◌, length, slice_index, All, Option, Some, None, ◌≤◌, if◌then◌else◌, filter}
 use Rattle.std.specs.List.{count_by, list_any}
 use Rattle.std.specs.Option.{option_to_list, option_map}
 use Rattle.tspkt.specs.declared.framer.TheConstants.{MAX_LIMIT}
@@ -13,6 +13,7 @@ use Rattle.rate_meter.specs.Deviation.{part_of}
 use Rattle.rate_meter.specs.Pace.{pace_of, is_variable}
 use Rattle.rate_meter.specs.Readings.{points_of}
 use Rattle.rate_meter.specs.Steps.{Shown, first_step, shown}
+use Rattle.rate_meter.specs.Counters.{all_marked}
 
 -- the reading of a packet's clock, if it is of this PID: one or none
 abbrev pub reading_of : ℕ → Seen → List Reading
@@ -26,6 +27,10 @@ readings_of pid (s ∷ seen) = reading_of pid s ++ readings_of pid seen
 -- how many packets a PID had
 abbrev pub packets_of : ℕ → List Seen → ℕ
 packets_of pid seen = count_by (λ s. s.pid == pid) seen
+
+-- the packets that are scrambled (ISO/IEC 13818-1, 2.4.3.3)
+abbrev pub scrambled_among : List Seen → List Seen
+scrambled_among seen = filter (λ s. s.is_scrambled) seen
 
 -- the rate of a PID in a stream of this rate: as much of it as of its packets are that PID's
 abbrev pub pid_rate_of : ℕ → ℕ → List Seen → ℕ
@@ -59,6 +64,12 @@ pub record AreClocks (seen : List Seen) (is_whole : Bool) (clocks : List PidCloc
 pub record ClocksValue : Type 0 where
   pub seen : List Seen
   pub is_whole : Bool
+
+-- the packets that the clocks, the counters and the counts of scrambled packets of a meter have seen, beside all
+pub record AreParts (seen clocks counters scrambled : List Seen) : Type 0 where
+  pub clocks_are : clocks ≡ all_marked seen
+  pub counters_are : counters ≡ seen
+  pub scrambled_are : scrambled ≡ scrambled_among seen
 
 -- what a meter was shown, and whether each PID with a reading has its clock
 pub record MeterValue : Type 0 where

@@ -4,7 +4,7 @@ use Rattle.std.specs.Prelude.{ℕ, ◌+◌, ◌-◌, ◌≤◌, ◌==◌, nat_lt
 use Rattle.std.specs.List.{fold}
 use Rattle.std.specs.Option.{option_to_list, option_map}
 use Rattle.tspkt.specs.declared.packet_format.PacketFormat.{PacketFormat}
-use Rattle.tspkt.specs.Packet.{pid_of, pcr_of, discontinuity_indicator_of, fault_of}
+use Rattle.tspkt.specs.Packet.{pid_of, pcr_of, continuity_counter_of, discontinuity_indicator_of, has_payload_of, transport_scrambling_control_of, fault_of}
 use Rattle.tspkt.specs.PacketFormat.{stride_of}
 use Rattle.rate_meter.specs.declared.seen.Seen.{Seen}
 
@@ -13,6 +13,10 @@ unfoldable pub seen_of : ℕ → List ℕ → Option Seen
 seen_of position head =
     if is_none (fault_of head) then Some (record {
       pid = pid_of head;
+      counter = continuity_counter_of head;
+      has_payload = has_payload_of head;
+      is_discontinuous = discontinuity_indicator_of head;
+      is_scrambled = not (transport_scrambling_control_of head == 0);
       reading = option_map (λ pcr. record {
         position = position;
         pcr = pcr;

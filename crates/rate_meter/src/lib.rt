@@ -3,11 +3,13 @@
 //! A `RateMeter` is shown the bytes of a stream in pieces of any size. It finds the packets by their sync bytes, counts them by
 //! PID, and keeps a `Clock` for each PID that has PCRs (ISO/IEC 13818-1, 2.4.2.1, 2.4.3.5). Of a clock it says at which rate
 //! the stream runs: that of the least-squares line of the PCRs' times against the positions of their packets. Splices are left
-//! out, and a PCR that wraps goes on. No PCR is kept: what stays are sums, and contracts see the whole list by a `Past`.
+//! out, and so is what lies between two PCRs where packets are missing or came twice; a PCR that wraps goes on. No PCR is kept: what
+//! stays are sums, and contracts see the whole list by a `Past`.
 #![tactic(auto)]
 
 mod clock;
 mod clocks;
+mod counter_watch;
 mod deviation;
 mod laws;
 mod line;

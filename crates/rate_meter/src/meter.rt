@@ -27,4 +27,7 @@ pub trait Meter {
 
     /// The rate of a PID, 0 to 0x1FFF, where the stream runs at this rate, in its unit.
     fn pid_rate(&self, rate: u64, pid: u16) -> u64;
+
+    /// How many packets of a PID, 0 to 0x1FFF, are scrambled.
+    fn scrambled_of(&self, pid: u16) -> u64;
 }

@@ -1,7 +1,10 @@
 //! The rate of a stream by its own clocks.
 
+ghost use Rattle.std.specs.Prelude.{◌≡◌, ◌∷◌, if◌then◌else◌};
+
 use crate::clock::Clock;
 use crate::clocks::Clocks;
+use crate::counter_watch::CounterWatch;
 use crate::measured::Measured;
 use crate::meter::Meter;
 use crate::pid_counts::PidCounts;
@@ -19,12 +22,13 @@ use tspkt::{MAX_LIMIT, PacketFormat};
 pub struct RateMeter {
     stepper: Stepper,
     counts: PidCounts,
+    scrambled: PidCounts,
+    counters: CounterWatch,
     clocks: Clocks,
 }
 
 impl Model for RateMeter {
-    ghost use Rattle.std.specs.Prelude.{◌≡◌};
-    ghost use Rattle.rate_meter.specs.Meter.{MeterValue};
+    ghost use Rattle.rate_meter.specs.Meter.{MeterValue, AreParts};
 
     ghost Value = { MeterValue };
 
@@ -33,7 +37,16 @@ impl Model for RateMeter {
       is_whole = m.clocks.is_whole;
     } };
 
-    ghost invariant = { λ m. m.clocks.seen ≡ m.counts };
+    ghost invariant = { λ m. AreParts m.counts m.clocks.seen m.counters m.scrambled };
+}
+
+/// Counts a packet that is scrambled, and no other.
+fn count_if_scrambled(scrambled: &mut PidCounts, seen: Seen)
+    ensures { scrambled.new ≡ (if seen.is_scrambled then seen ∷ scrambled.old else scrambled.old) }
+{
+    if seen.is_scrambled {
+        scrambled.add(seen);
+    }
 }
 
 impl RateMeter {
@@ -41,7 +54,8 @@ impl RateMeter {
     ghost use Rattle.tspkt.specs.declared.framer.TheConstants.{MAX_LIMIT};
     ghost use Rattle.rate_meter.specs.Line.{within_64};
     ghost use Rattle.rate_meter.specs.Steps.{shown};
-    ghost use Rattle.rate_meter.specs.Meter.{IsNoLonger, measured_of, new_meter, readings_of, packets_of, pid_rate_of, shown_piece};
+    ghost use Rattle.rate_meter.specs.Counters.{all_marked};
+    ghost use Rattle.rate_meter.specs.Meter.{IsNoLonger, measured_of, new_meter, readings_of, packets_of, pid_rate_of, scrambled_among, shown_piece};
 
     /// One that was shown nothing of a stream of this format.
     pub fn new(alloc: Global, format: PacketFormat) -> Result<RateMeter, AllocError>
@@ -50,6 +64,8 @@ impl RateMeter {
         Ok(RateMeter {
             stepper: Stepper::new(format),
             counts: PidCounts::new(alloc)?,
+            scrambled: PidCounts::new(alloc)?,
+            counters: CounterWatch::new(alloc)?,
             clocks: Clocks::new(alloc),
         })
     }
@@ -60,7 +76,9 @@ impl RateMeter {
         ensures seen { self.new.shown.seen ≡ seen ∷ self.old.shown.seen }
     {
         self.counts.add(seen);
-        self.clocks.add(seen);
+        count_if_scrambled(&mut self.scrambled, seen);
+        let is_cut_off = self.counters.add(seen);
+        self.clocks.add(seen.cut_off(is_cut_off));
     }
 
     /// Takes bytes from the front of a piece, and answers how many.
@@ -107,6 +125,14 @@ impl RateMeter {
         self.counts.of(pid)
     }
 
+    /// How many of the packets of this PID, 0 to 0x1FFF, are scrambled.
+    pub fn scrambled_of(&self, pid: u16) -> u64
+        requires { pid < 8192 }
+        ensures { result ≡ within_64 (packets_of pid (scrambled_among self.now.shown.seen)) }
+    {
+        self.scrambled.of(pid)
+    }
+
     /// The rate of a PID, 0 to 0x1FFF, where the stream runs at this rate, in its unit: as much of it as of the packets that were
     /// found are that PID's, rounded to the nearest; 0 where none was found.
     pub fn pid_rate(&self, rate: u64, pid: u16) -> u64
@@ -124,17 +150,17 @@ impl RateMeter {
 
     /// The clock of a PID. None of a PID without PCRs, or whose clock was left out.
     pub fn clock_of(&self, pid: u16) -> Option<&Clock>
-        ensures some { IfSome result (λ clock. clock.now ≡ readings_of pid self.now.shown.seen) }
-        ensures none { IfNone result (IsTrue self.now.is_whole → readings_of pid self.now.shown.seen ≡ []) }
+        ensures some { IfSome result (λ clock. clock.now ≡ readings_of pid (all_marked self.now.shown.seen)) }
+        ensures none { IfNone result (IsTrue self.now.is_whole → readings_of pid (all_marked self.now.shown.seen) ≡ []) }
     {
         self.clocks.of(pid)
     }
 
     /// What the clock with the most points says, of those that say a rate; none where no clock does.
     pub fn measured(&self) -> Option<Measured>
-        ensures own { IfSome result (λ m. measured_of m.pid self.now.shown.seen ≡ Some m) }
+        ensures own { IfSome result (λ m. measured_of m.pid (all_marked self.now.shown.seen) ≡ Some m) }
         ensures most { IsTrue self.now.is_whole → (pid : ℕ)
-            → IsNoLonger (measured_of pid self.now.shown.seen) result }
+            → IsNoLonger (measured_of pid (all_marked self.now.shown.seen)) result }
     {
         self.clocks.measured()
     }
@@ -157,5 +183,13 @@ impl Meter for RateMeter {
 
     fn pid_rate(&self, rate: u64, pid: u16) -> u64 {
         RateMeter::pid_rate(self, rate, pid)
+    }
+
+    fn scrambled_of(&self, pid: u16) -> u64 {
+        if pid < 8_192 {
+            RateMeter::scrambled_of(self, pid)
+        } else {
+            0
+        }
     }
 }

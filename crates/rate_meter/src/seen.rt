@@ -1,9 +1,10 @@
 //! What is seen of a packet.
 #![tactic(auto, using(tspkt::proofs::PacketFields::packet_fields))]
 
-ghost use Rattle.std.specs.Prelude.{◌≡◌, ◌+◌, ◌^◌, ◌<◌, length, is_none};
-ghost use Rattle.tspkt.specs.Packet.{pid_of, pcr_of, pcr_base_of, pcr_flag_of, has_flags_of, has_bad_adaptation as is_bad_adaptation, fault_of, discontinuity_indicator_of};
+ghost use Rattle.std.specs.Prelude.{◌≡◌, ◌==◌, ◌+◌, ◌^◌, ◌<◌, length, is_none, not};
+ghost use Rattle.tspkt.specs.Packet.{pid_of, pcr_of, pcr_base_of, pcr_flag_of, has_flags_of, has_bad_adaptation as is_bad_adaptation, fault_of, continuity_counter_of, discontinuity_indicator_of, has_payload_of, transport_scrambling_control_of};
 ghost use Rattle.rate_meter.specs.Steps.{seen_of};
+ghost use Rattle.rate_meter.specs.Counters.{marked};
 
 use crate::reading::Reading;
 
@@ -11,6 +12,13 @@ use crate::reading::Reading;
 #[derive(Clone, Copy)]
 pub struct Seen {
     pub pid: u16,
+    /// Its continuity counter, 0 to 15.
+    pub counter: u8,
+    pub has_payload: bool,
+    /// Whether it has the discontinuity indicator.
+    pub is_discontinuous: bool,
+    /// Whether its transport_scrambling_control isn't 0.
+    pub is_scrambled: bool,
     /// Its PCR, if it has one.
     pub reading: Option<Reading>,
 }
@@ -99,6 +107,48 @@ fn is_discontinuous(head: &[u8]) -> bool
     has_flags(head) && head[5] / 128 == 1
 }
 
+impl Seen {
+    /// The same, where a PCR that isn't to go on from the one before it has the discontinuity indicator.
+    pub(crate) fn cut_off(self, is_cut_off: bool) -> Seen
+        ensures { result ≡ marked self is_cut_off }
+    {
+        match self.reading {
+            Some(reading) => Seen {
+                reading: Some(Reading {
+                    is_discontinuous: reading.is_discontinuous || is_cut_off,
+                    ..reading
+                }),
+                ..self
+            },
+            None => self,
+        }
+    }
+}
+
+/// The continuity counter.
+fn counter(head: &[u8]) -> u8
+    requires { length head.now ≡ 12 }
+    ensures { result ≡ continuity_counter_of head.now }
+{
+    head[3] % 16
+}
+
+/// Whether there is a payload.
+fn has_payload(head: &[u8]) -> bool
+    requires { length head.now ≡ 12 }
+    ensures { result ≡ has_payload_of head.now }
+{
+    head[3] / 16 % 2 == 1
+}
+
+/// Whether the payload is scrambled.
+fn is_scrambled(head: &[u8]) -> bool
+    requires { length head.now ≡ 12 }
+    ensures { result ≡ not (transport_scrambling_control_of head.now == 0) }
+{
+    head[3] / 64 != 0
+}
+
 /// What is seen of the packet at a position by its first 12 bytes.
 #[tactic(auto, unfolding(crate::specs::Steps::seen_of))]
 pub(crate) fn seen_at(position: u64, head: &[u8]) -> Option<Seen>
@@ -118,6 +168,10 @@ pub(crate) fn seen_at(position: u64, head: &[u8]) -> Option<Seen>
     };
     Some(Seen {
         pid: pid(head),
+        counter: counter(head),
+        has_payload: has_payload(head),
+        is_discontinuous: is_discontinuous(head),
+        is_scrambled: is_scrambled(head),
         reading,
     })
 }
