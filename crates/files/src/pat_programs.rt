@@ -62,6 +62,11 @@ impl PatPrograms {
             .as_ref()
             .is_some_and(|numbers| numbers.contains(&program))
     }
+
+    /// Whether there is a complete PAT, and it hasn't this program.
+    pub fn lacks(&self, program: u16) -> bool {
+        self.numbers.is_some() && !self.has(program)
+    }
 }
 
 impl Display for PatPrograms {

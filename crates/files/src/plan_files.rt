@@ -14,12 +14,13 @@ use crate::sources::Sources;
 use crate::{CommandFault, FileCause, StreamShape, has_format, shape_of};
 use acquire::{Acquire, Found};
 use plan::Plan;
-use plan_causes::{PlanCause, cause_of};
+use plan_causes::{PlanCause, ServiceNumbers, cause_of};
 use reading::{Source, Stop, StreamReader};
-use request::{Input, PlanFault, Request};
+use request::{Input, PlanFault, Request, Service};
 use selection::seek;
 use std::alloc::{AllocError, Global};
 use std::str;
+use tables::Pat;
 use text_causes::{bytes_cause, text_cause};
 use tspkt::{Item, Packet, PacketFormat};
 
@@ -161,11 +162,34 @@ fn push_told<R: Source>(
     Ok(false)
 }
 
-/// Reads an input of this format until all that is wanted was found or it ends. The answer is its reader, and why it couldn't be read, if it
-/// couldn't.
+/// Whether the sections of a PAT name this program.
+fn names(pat: &[Pat], program: u16) -> bool {
+    pat.iter()
+        .flat_map(|section| section.rows())
+        .any(|row| row.program_number == program)
+}
+
+/// Whether the first complete PAT of the input with this number was found, and lacks a program that is sought there. No packet behind it
+/// changes that.
+fn is_lacking(acquire: &Acquire, request: &Request, number: usize) -> bool {
+    let Some(pat) = acquire.pat() else {
+        return false;
+    };
+    for service in request.services() {
+        if service.input == number && !names(pat, service.program) {
+            return true;
+        }
+    }
+    false
+}
+
+/// Reads the input with this number until all that is wanted was found, or a program can't be found any more, or it ends. The answer is
+/// its reader, and why it couldn't be read, if it couldn't.
 fn read_tables<R: Source + Drop>(
     alloc: Global,
     acquire: &mut Acquire,
+    request: &Request,
+    number: usize,
     format: PacketFormat,
     source: R,
 ) -> Result<(R, Option<Stop>), AllocError> {
@@ -173,6 +197,9 @@ fn read_tables<R: Source + Drop>(
     let mut stream = StreamReader::new(alloc, format, source, format.limit());
     loop {
         if push_told(acquire, &mut stream)? || stream.is_over() {
+            return Ok((stream.into_source(), None));
+        }
+        if is_lacking(acquire, request, number) {
             return Ok((stream.into_source(), None));
         }
         if let Err(stop) = stream.read(piece.as_mut_slice()) {
@@ -192,7 +219,7 @@ fn find<F: Sources>(
     let (name, format) = (input.file.as_str(), input.format);
     let source = open(alloc, files, name)?;
     let mut acquire = seek(alloc, request, number)?;
-    let (reader, stop) = read_tables(alloc, &mut acquire, format, source)?;
+    let (reader, stop) = read_tables(alloc, &mut acquire, request, number, format, source)?;
     let programs = PatPrograms::of(alloc, acquire.pat())?;
     match stop {
         None => Ok((acquire.found(), programs, reader)),
@@ -200,9 +227,10 @@ fn find<F: Sources>(
     }
 }
 
-/// Whether programs are sought in an input that has none of them, and whose first bytes aren't packets of its format.
-fn is_no_stream(found: &Found, format: PacketFormat, head: &[u8]) -> bool {
-    !found.pmts.is_empty()
+/// Whether programs are sought in an input that has no complete PAT and none of them, and whose first bytes aren't packets of its format.
+fn is_no_stream(found: &Found, programs: &PatPrograms, format: PacketFormat, head: &[u8]) -> bool {
+    programs.numbers.is_none()
+        && !found.pmts.is_empty()
         && found.pmts.iter().all(|pmt| pmt.is_none())
         && !has_format(head, format)
 }
@@ -229,6 +257,27 @@ fn cause_in(fault: PlanFault, request: &Request, found: &[Found]) -> Option<Plan
     }
 }
 
+/// The first service of a plan whose program isn't among those of its input's PAT, where that is known.
+fn find_lacking<'a>(request: &'a Request, programs: &[PatPrograms]) -> Option<&'a Service> {
+    for service in request.services() {
+        if let Some(known) = programs.get(service.input)
+            && known.lacks(service.program)
+        {
+            return Some(service);
+        }
+    }
+    None
+}
+
+/// In words that a service's program isn't in its input, and what its input's PAT has.
+fn lacking_words(
+    alloc: Global,
+    service: ServiceNumbers,
+    programs: &PatPrograms,
+) -> Result<String, AllocError> {
+    format!(in alloc; "{service}: the input has no such program; {programs}")
+}
+
 /// A cause in words. A program that isn't found is told with what its input's PAT has.
 fn cause_words(
     alloc: Global,
@@ -241,10 +290,41 @@ fn cause_words(
         return if programs.has(service.program) {
             format!(in alloc; "{service}: the input's PAT has it, and its PMT was not found")
         } else {
-            format!(in alloc; "{service}: the input has no such program; {programs}")
+            lacking_words(alloc, *service, programs)
         };
     }
     format!(in alloc; "{cause}")
+}
+
+/// The cause of `NoProgram` in words: of the first input that is no stream of packets what it looks like, else the first service whose
+/// program its input's PAT lacks; none where there is neither.
+fn program_words<R: InputFile>(
+    alloc: Global,
+    request: &Request,
+    found: &[Found],
+    programs: &[PatPrograms],
+    readers: &[R],
+) -> Result<Option<String>, AllocError> {
+    let read = found.iter().zip(programs.iter().zip(readers.iter()));
+    for (number, (input, (found, (programs, reader)))) in request
+        .inputs()
+        .iter()
+        .zip(read)
+        .enumerate()
+    {
+        let head = reader.head();
+        if is_no_stream(found, programs, input.format, head) {
+            let (file, words) = (&input.file, shape_words(alloc, shape_of(head))?);
+            return Ok(Some(format!(in alloc; "input {number}, {file}: {words}")?));
+        }
+    }
+    let Some(service) = find_lacking(request, programs) else {
+        return Ok(None);
+    };
+    let Some(programs) = programs.get(service.input) else {
+        return Ok(None);
+    };
+    Ok(Some(lacking_words(alloc, ServiceNumbers::of(service), programs)?))
 }
 
 /// The fault of a plan, with its cause in words. Where a program isn't there, and an input has none of those that are sought in
@@ -257,14 +337,10 @@ fn plan_fault<R: InputFile>(
     programs: &[PatPrograms],
     readers: &[R],
 ) -> Result<CommandFault, AllocError> {
-    let read = found.iter().zip(readers.iter());
-    for (number, (input, (found, reader))) in request.inputs().iter().zip(read).enumerate() {
-        let head = reader.head();
-        if fault == PlanFault::NoProgram && is_no_stream(found, input.format, head) {
-            let (file, words) = (&input.file, shape_words(alloc, shape_of(head))?);
-            let cause = format!(in alloc; "input {number}, {file}: {words}")?;
-            return Ok(CommandFault::PlanCause(fault, cause));
-        }
+    if fault == PlanFault::NoProgram
+        && let Some(words) = program_words(alloc, request, found, programs, readers)?
+    {
+        return Ok(CommandFault::PlanCause(fault, words));
     }
     match cause_in(fault, request, found) {
         Some(cause) => Ok(CommandFault::PlanCause(fault, cause_words(alloc, &cause, programs)?)),
@@ -272,10 +348,24 @@ fn plan_fault<R: InputFile>(
     }
 }
 
+/// Sees that the inputs of a plan behind the first so many are there.
+fn open_others<F: Sources>(
+    alloc: Global,
+    files: &mut F,
+    request: &Request,
+    count: usize,
+) -> Result<(), CommandFault> {
+    for input in request.inputs().iter().skip(count) {
+        open(alloc, files, input.file.as_str())?;
+    }
+    Ok(())
+}
+
 /// The plan in the file with this name, made by what is found in its inputs, each of which is read from its beginning.
 ///
 /// The first fault ends it: of the plan's file, which may have 1,048,576 bytes; of its text; of the inputs in their order; and
-/// of the plan, without its cause where there is no memory for its words.
+/// of the plan, without its cause where there is no memory for its words. Behind an input whose PAT lacks a program that is sought
+/// there no further one is read: each has only to be there.
 pub fn read_plan<F: Sources>(
     alloc: Global,
     files: &mut F,
@@ -290,6 +380,10 @@ pub fn read_plan<F: Sources>(
         found.push(tables)?;
         programs.push(named)?;
         readers.push(reader)?;
+        if find_lacking(&request, &programs).is_some() {
+            open_others(alloc, files, &request, programs.len())?;
+            break;
+        }
     }
     match Plan::build(alloc, &request, &found) {
         Ok(plan) => Ok(ReadPlan {
