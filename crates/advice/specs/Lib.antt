@@ -1,3 +1,4 @@
+pub mod Ends
 pub mod Load
 pub mod Rhythm
 pub mod Waiting

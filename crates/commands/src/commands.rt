@@ -1,10 +1,12 @@
 //! Whole commands.
 
+use crate::measuring_inputs::measure;
 use crate::run_command::{Asked, run};
-use files::{CommandFault, FileCause, Files, InputFile, ReadPlan, open_again, read_plan};
-use measuring::{Metered, print_measured, read_on, with_meters};
-use plan::Plan;
-use printing::{StreamAnalysis, print_plan, print_rhythm, print_shape};
+use files::{CommandFault, FileCause, Files, InputFile, ReadPlan, read_plan};
+use measuring::{is_input_wrong, is_too_much, print_measured};
+use printing::{
+    StreamAnalysis, print_plan, print_rhythm, print_same_files, print_shape, strict_status,
+};
 use rate_meter::RateMeter;
 use std::alloc::Global;
 use std::convert::AsStr;
@@ -24,8 +26,8 @@ const TOLD: u8 = 1;
 /// of a run that is asked for them. What `err` doesn't take is left out. The answer is the status with which the program
 /// ends, and the output's writer, where one was made.
 ///
-/// The status is 0 for success, 1 where an analysis told a fault or a strict run's plan is overfull, 2 for refused words, 3 for a refused plan, 4 for a file
-/// that failed and 5 for want of memory. Without words it does the stored first run.
+/// The status is 0 for success, 1 where an analysis told a fault, or a strict check or run what isn't as it should be, 2 for refused
+/// words, 3 for a refused plan, 4 for a file that failed and 5 for want of memory. Without words it does the stored first run.
 ///
 /// The first fault ends a command: of its words, of the plan's file, of its text, of the inputs while their tables are sought,
 /// of the plan, of the inputs as they are opened again, of the output file, and of the run. An output that is the plan's file or
@@ -55,12 +57,14 @@ where
 {
     if words.is_empty() {
         let ended = print_first(alloc, out);
-        return (end(ended, out, err), None);
+        let status = end(ended, out, err);
+        let _ = writeln!(err, "help: remux --help");
+        return (status, None);
     }
     match line(alloc, words) {
         Err(fault) => (print_line_fault(fault, out, err), None),
-        Ok(Command::Check { plan }) => {
-            let ended = check(alloc, files, plan, out, err);
+        Ok(Command::Check { plan, strict }) => {
+            let ended = check(alloc, files, plan, strict, out, err);
             (end_over(plan, ended, out, err), None)
         }
         Ok(
@@ -121,33 +125,46 @@ pub(crate) fn end<O: Write, E: Write>(
     }
 }
 
-/// The same of a command over the plan in this file. Where an input isn't there, it says from where names are taken.
+/// The same of a command over the plan in this file. Where a file isn't there, it says which names are taken, and from where.
 pub(crate) fn end_over<O: Write, E: Write>(
     plan: &str,
     ended: Result<u8, CommandFault>,
     out: &mut O,
     err: &mut E,
 ) -> u8 {
-    let is_missing = match &ended {
-        Err(fault) => is_missing_input(plan, fault),
-        Ok(_) => false,
+    let advice = match &ended {
+        Err(fault) => name_advice(plan, fault),
+        Ok(_) => None,
     };
     let status = end(ended, out, err);
-    if is_missing {
-        let _ = writeln!(
-            err,
-            "names in a plan are taken from the folder in which the program is called"
-        );
+    if let Some(advice) = advice {
+        let _ = writeln!(err, "{advice}");
     }
     status
 }
 
-/// Whether a fault is that of a file that isn't there. It is an input then, unless it is the plan's: an output is made.
-fn is_missing_input(plan: &str, fault: &CommandFault) -> bool {
+/// What is said of the name of a file that isn't there, and of the folder of an output: of an address that it is none, and of an input
+/// from where names are taken.
+fn name_advice(plan: &str, fault: &CommandFault) -> Option<&'static str> {
+    let CommandFault::File(name, FileCause::Open(error) | FileCause::Create(error)) = fault else {
+        return None;
+    };
+    if error.kind() != ErrorKind::NotFound || name.is_empty() {
+        return None;
+    }
+    if name.contains("://") {
+        return Some("names are those of files and pipes, and no addresses of a network");
+    }
+    if is_input(plan, fault) {
+        return Some("names in a plan are taken from the folder in which the program is called");
+    }
+    None
+}
+
+/// Whether the file of a fault that can't be opened is an input: it is, unless it is the plan's, since an output is made.
+fn is_input(plan: &str, fault: &CommandFault) -> bool {
     match fault {
-        CommandFault::File(name, FileCause::Open(error)) => {
-            error.kind() == ErrorKind::NotFound && name.as_str() != plan && !name.is_empty()
-        }
+        CommandFault::File(name, FileCause::Open(_)) => name.as_str() != plan,
         _ => false,
     }
 }
@@ -185,11 +202,13 @@ fn print_first<O: Write>(alloc: Global, out: &mut O) -> Result<u8, CommandFault>
     Ok(0)
 }
 
-/// Shows a plan: its lines, and on `err` what is said of its rhythm.
+/// Shows a plan: its lines, and on `err` what is said of its rhythm and of its inputs' rates. A strict check ends with 1 where these
+/// aren't as they should be.
 fn check<F: Files, O: Write, E: Write>(
     alloc: Global,
     files: &mut F,
     plan: &str,
+    is_strict: bool,
     out: &mut O,
     err: &mut E,
 ) -> Result<u8, CommandFault> {
@@ -197,29 +216,14 @@ fn check<F: Files, O: Write, E: Write>(
     print_plan(&plan, out)?;
     out.flush()?;
     let _ = print_rhythm(&plan, err);
-    let _ = match measure(alloc, files, &plan, readers) {
-        Ok(readers) => print_measured(&plan, &readers, err),
-        Err(_) => writeln!(err, "rate: the inputs can't be measured"),
+    let Ok(readers) = measure(alloc, files, &plan, readers) else {
+        let _ = writeln!(err, "rate: the inputs can't be measured");
+        return Ok(0);
     };
-    Ok(0)
-}
-
-/// Measures the inputs of a plan: each is read from its beginning again, at most 67,108,864 bytes, but for those that can be read
-/// only once; `first` has the readers from which their tables were read.
-fn measure<F: Files>(
-    alloc: Global,
-    files: &mut F,
-    plan: &Plan,
-    first: Vec<F::Reader>,
-) -> Result<Vec<Metered<F::Again>>, CommandFault> {
-    let readers = open_again(alloc, files, plan, first)?;
-    let mut readers: Vec<Metered<F::Again>> = with_meters(alloc, plan, readers)?;
-    for reader in readers.iter_mut() {
-        if reader.length().is_some() {
-            read_on(alloc, reader);
-        }
-    }
-    Ok(readers)
+    let _ = print_measured(&plan, &readers, err);
+    let _ = print_same_files(&readers, err);
+    let is_sound = !is_input_wrong(&plan, &readers) && !is_too_much(&plan, &readers);
+    Ok(strict_status(is_strict, is_sound, 0))
 }
 
 /// Reports the faults of a stream of this format, and on `err` what it looks like, where it has faults and isn't made of packets of

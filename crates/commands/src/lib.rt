@@ -2,6 +2,7 @@
 #![tactic(auto)]
 
 mod commands;
+mod measuring_inputs;
 mod open_gate;
 mod run_command;
 mod whole_run;

@@ -5,14 +5,18 @@ ghost use Rattle.reading.specs.InputLimit.{IsAllowed as IsAllowedLimit};
 ghost use Rattle.words.specs.Ranges.{IsAllowedLength};
 
 use crate::commands::{end, end_over};
+use crate::measuring_inputs::tell_low_leaks;
 use crate::whole_run::run_plan;
 use files::{
     CommandFault, FileIdentity, Files, InputFile, OutputFile, ReadPlan, open_again, open_output,
     read_plan, stopped,
 };
-use measuring::{Metered, print_wrong_rates, with_meters};
+use measuring::{Metered, is_input_wrong, print_wrong_rates, with_meters};
 use plan::Plan;
-use printing::{print_delays, print_end, print_faults, print_summary, tell_overfull};
+use printing::{
+    has_early_end, is_overfull, print_delays, print_early_ends, print_end, print_faults,
+    print_overfull, print_same_files, print_summary, strict_status,
+};
 use rate_meter::Meter;
 use reading::{InputLimit, Stop};
 use serial::{RunFault, Summary};
@@ -36,7 +40,7 @@ pub(crate) struct Asked<'a> {
     pub is_serial: bool,
     /// Whether the delays of the streams are printed.
     pub delays: bool,
-    /// Whether a run whose plan is overfull ends with status 1.
+    /// Whether a run that shows what isn't as it should be ends with status 1.
     pub strict: bool,
 }
 
@@ -106,7 +110,8 @@ fn open_all<F: Files>(
     Ok((readers, writer))
 }
 
-/// Makes the multiplex of a plan whose inputs have meters, and prints what became of it.
+/// Makes the multiplex of a plan whose inputs have meters, and prints what became of it. Of a run that goes on until its inputs end, and
+/// by a low leak rate for days, it says first which leak rates are too low.
 pub(crate) fn run<
     T: Threads + Wait + Clock + Copy + Send + Drop + 'static,
     F: Files,
@@ -130,18 +135,17 @@ where
         Ok(prepared) => prepared,
         Err(fault) => return (end_over(asked.plan, Err(fault), out, err), None),
     };
+    if asked.length == RunLength::All {
+        tell_low_leaks(alloc, files, &prepared.plan, &prepared.readers, err);
+    }
     let is_standard = files.is_standard_output(asked.out);
     let (writer, ran) = run_prepared::<T, F, M>(rt, alloc, files, prepared, asked);
     let status = match ran {
         Ok((ran, named)) => {
             let told = tell_run(&ran, is_standard, asked.delays, out, err);
             let status = end(told.and(named), out, err);
-            let _ = print_end(&ran.plan, &ran.summary, &ran.readers, err);
-            let _ = print_faults(&ran.summary, err);
-            let status = tell_overfull(&ran.plan, &ran.summary, asked.strict, status, err);
-            tell_partial(files, err);
-            let _ = print_wrong_rates(&ran.plan, &ran.readers, err);
-            status
+            tell_found(files, &ran, err);
+            strict_status(asked.strict, is_sound(&ran), status)
         }
         Err(fault) => {
             let status = end(Err(fault), out, err);
@@ -150,6 +154,29 @@ where
         }
     };
     (status, Some(writer))
+}
+
+/// Whether a run shows that its plan and its inputs are as they should be: the plan isn't overfull, no input ended before others, and
+/// the rates are those of the plan.
+fn is_sound<R, M: Meter>(ran: &Ran<Metered<R, M>>) -> bool {
+    !is_overfull(&ran.plan, &ran.summary)
+        && !has_early_end(&ran.plan, &ran.summary)
+        && !is_input_wrong(&ran.plan, &ran.readers)
+}
+
+/// Says why a run ended, and what isn't as it should be.
+fn tell_found<F: Files, R: InputFile, M: Meter, E: Write>(
+    files: &F,
+    ran: &Ran<Metered<R, M>>,
+    err: &mut E,
+) {
+    let _ = print_end(&ran.plan, &ran.summary, &ran.readers, err);
+    let _ = print_early_ends(&ran.plan, &ran.summary, err);
+    let _ = print_faults(&ran.summary, err);
+    let _ = print_overfull(&ran.plan, &ran.summary, err);
+    tell_partial(files, err);
+    let _ = print_wrong_rates(&ran.plan, &ran.readers, err);
+    let _ = print_same_files(&ran.readers, err);
 }
 
 /// Says where an output stands that didn't get its name, if there is one.

@@ -7,5 +7,7 @@ mod rate_lines;
 mod reading_on;
 
 pub use metered::{Metered, with_meters};
-pub use rate_lines::{print_measured, print_wrong_rates};
+pub use rate_lines::{
+    is_input_wrong, is_too_much, print_leaks_of, print_measured, print_wrong_rates,
+};
 pub use reading_on::read_on;

@@ -48,6 +48,11 @@ fn print_rate<E: Write>(
     }
 }
 
+/// Whether a measured rate isn't as a plan states it: it is variable, or another one.
+fn is_wrong(measured: Measured, stated: u64) -> bool {
+    measured.is_variable || off_by(measured.rate, stated).is_some()
+}
+
 /// Says why the rate of an input isn't known.
 fn print_unmeasured<R: InputFile, M: Meter, E: Write>(
     number: usize,
@@ -62,8 +67,15 @@ fn print_unmeasured<R: InputFile, M: Meter, E: Write>(
     }
     writeln!(
         err,
-        "rate: input {number} can't be measured: fewer than two PCRs were found"
+        "rate: input {number} can't be measured: fewer than two PCRs were found with no packet missing between"
     )
+}
+
+/// The rate of a stream of a plan, in bits a second, by what its input's reader measured; none where that isn't known.
+fn rate_in<R, M: Meter>(plan: &Plan, reader: &Metered<R, M>, stream: &Stream) -> Option<u64> {
+    let input = plan.inputs().get(stream.input)?;
+    let rate = packets_rate(input.format, reader.measured()?.rate);
+    Some(reader.meter()?.pid_rate(rate, stream.pid))
 }
 
 /// The rate of a stream of a plan, in bits a second; none where its input's isn't known.
@@ -72,10 +84,24 @@ fn stream_rate<R, M: Meter>(
     readers: &[Metered<R, M>],
     stream: &Stream,
 ) -> Option<u64> {
-    let (input, reader) = (plan.inputs().get(stream.input)?, readers.get(stream.input)?);
-    let measured = reader.measured()?;
-    let rate = packets_rate(input.format, measured.rate);
-    Some(reader.meter()?.pid_rate(rate, stream.pid))
+    rate_in(plan, readers.get(stream.input)?, stream)
+}
+
+/// What the streams of a plan take in all, in bits a second; none where one of them wasn't measured.
+fn sum_of<R, M: Meter>(plan: &Plan, readers: &[Metered<R, M>]) -> Option<u64> {
+    let mut sum = 0u64;
+    for stream in plan.streams() {
+        sum = sum.saturating_add(stream_rate(plan, readers, stream)?);
+    }
+    Some(sum)
+}
+
+/// Whether the streams of a plan take more than its rate leaves after the tables, where all of them were measured.
+pub fn is_too_much<R, M: Meter>(plan: &Plan, readers: &[Metered<R, M>]) -> bool {
+    match sum_of(plan, readers) {
+        Some(sum) => sum > left_rate(plan.rounds()),
+        None => false,
+    }
 }
 
 /// Says what the streams of a plan take in all, beside its rate, where all of them were measured, and that it is too much, where
@@ -85,13 +111,9 @@ fn print_sum<R, M: Meter, E: Write>(
     readers: &[Metered<R, M>],
     err: &mut E,
 ) -> io::Result<()> {
-    let mut sum = 0u64;
-    for stream in plan.streams() {
-        match stream_rate(plan, readers, stream) {
-            Some(rate) => sum = sum.saturating_add(rate),
-            None => return Ok(()),
-        }
-    }
+    let Some(sum) = sum_of(plan, readers) else {
+        return Ok(());
+    };
     let (rate, left) = (plan.rate(), left_rate(plan.rounds()));
     let tables = rate.saturating_sub(left);
     writeln!(
@@ -107,6 +129,34 @@ fn print_sum<R, M: Meter, E: Write>(
     )
 }
 
+/// The rate of a stream of a plan, in bits a second, where its packets come faster than its buffer leaks.
+fn rate_above_leak<R, M: Meter>(
+    plan: &Plan,
+    reader: &Metered<R, M>,
+    stream: &Stream,
+) -> Option<u64> {
+    let rate = rate_in(plan, reader, stream)?;
+    if stream.leak < rate { Some(rate) } else { None }
+}
+
+/// Says of a stream of a plan that its buffer leaks more slowly than its packets come, where it does.
+fn print_leak<R, M: Meter, E: Write>(
+    plan: &Plan,
+    reader: &Metered<R, M>,
+    stream: &Stream,
+    err: &mut E,
+) -> io::Result<()> {
+    let (output_pid, input, pid) = (stream.output_pid, stream.input, stream.pid);
+    let leak = stream.leak;
+    let Some(rate) = rate_above_leak(plan, reader, stream) else {
+        return Ok(());
+    };
+    writeln!(
+        err,
+        "leak: stream 0x{output_pid:04X} (input {input}, PID 0x{pid:04X}): {leak} bits a second, below its measured {rate}: state more"
+    )
+}
+
 /// Says of each stream of a plan whose buffer leaks more slowly than its packets come that it does.
 fn print_leaks<R, M: Meter, E: Write>(
     plan: &Plan,
@@ -114,22 +164,92 @@ fn print_leaks<R, M: Meter, E: Write>(
     err: &mut E,
 ) -> io::Result<()> {
     for stream in plan.streams() {
+        if let Some(reader) = readers.get(stream.input) {
+            print_leak(plan, reader, stream, err)?;
+        }
+    }
+    Ok(())
+}
+
+/// The same of the streams of one input of a plan, that with this number.
+pub fn print_leaks_of<R, M: Meter, E: Write>(
+    plan: &Plan,
+    number: usize,
+    reader: &Metered<R, M>,
+    err: &mut E,
+) -> io::Result<()> {
+    for stream in plan.streams() {
+        if stream.input == number {
+            print_leak(plan, reader, stream, err)?;
+        }
+    }
+    Ok(())
+}
+
+/// Whether a stream of a plan has a buffer that leaks more slowly than its packets come.
+fn has_low_leak<R, M: Meter>(plan: &Plan, readers: &[Metered<R, M>]) -> bool {
+    for stream in plan.streams() {
+        if let Some(reader) = readers.get(stream.input)
+            && rate_above_leak(plan, reader, stream).is_some()
+        {
+            return true;
+        }
+    }
+    false
+}
+
+/// How many packets of a stream of a plan are scrambled, where some are.
+fn scrambled_in<R, M: Meter>(reader: &Metered<R, M>, stream: &Stream) -> Option<u64> {
+    let count = reader.meter()?.scrambled_of(stream.pid);
+    if count > 0 { Some(count) } else { None }
+}
+
+/// Says of each stream of a plan that packets of it are scrambled, where some are: they go out as they are.
+fn print_scrambled<R, M: Meter, E: Write>(
+    plan: &Plan,
+    readers: &[Metered<R, M>],
+    err: &mut E,
+) -> io::Result<()> {
+    for stream in plan.streams() {
         let (output_pid, input, pid) = (stream.output_pid, stream.input, stream.pid);
-        let leak = stream.leak;
-        if let Some(rate) = stream_rate(plan, readers, stream)
-            && leak < rate
+        if let Some(reader) = readers.get(input)
+            && let Some(count) = scrambled_in(reader, stream)
         {
             writeln!(
                 err,
-                "leak: stream 0x{output_pid:04X} (input {input}, PID 0x{pid:04X}): {leak} bits a second, below its measured {rate}: state more"
+                "scrambled: stream 0x{output_pid:04X} (input {input}, PID 0x{pid:04X}): {count} packets: nobody can see them without a key"
             )?;
         }
     }
     Ok(())
 }
 
+/// Whether packets of a stream of a plan are scrambled.
+fn has_scrambled<R, M: Meter>(plan: &Plan, readers: &[Metered<R, M>]) -> bool {
+    for stream in plan.streams() {
+        if let Some(reader) = readers.get(stream.input)
+            && scrambled_in(reader, stream).is_some()
+        {
+            return true;
+        }
+    }
+    false
+}
+
+/// Whether something is wrong with the inputs of a plan by what was read of them: what `print_wrong_rates` has a line for.
+pub fn is_input_wrong<R, M: Meter>(plan: &Plan, readers: &[Metered<R, M>]) -> bool {
+    for (input, reader) in plan.inputs().iter().zip(readers.iter()) {
+        if let Some(measured) = reader.measured()
+            && is_wrong(measured, input.rate)
+        {
+            return true;
+        }
+    }
+    has_low_leak(plan, readers) || has_scrambled(plan, readers)
+}
+
 /// Says what was measured of a plan's inputs: of each what is wrong with its rate, or why it isn't known; what the streams take in
-/// all; and which of them have too low a leak rate.
+/// all; which of them have too low a leak rate, and which are scrambled.
 pub fn print_measured<R: InputFile, M: Meter, E: Write>(
     plan: &Plan,
     readers: &[Metered<R, M>],
@@ -142,11 +262,12 @@ pub fn print_measured<R: InputFile, M: Meter, E: Write>(
         }
     }
     print_sum(plan, readers, err)?;
-    print_leaks(plan, readers, err)
+    print_leaks(plan, readers, err)?;
+    print_scrambled(plan, readers, err)
 }
 
-/// Says what is wrong with the rates of a run's inputs by what it read of them: one that isn't as stated, or is variable, and a leak
-/// rate that is too low. It says nothing of an input that can't be measured, and nothing where nothing is wrong.
+/// Says what is wrong with a run's inputs by what it read of them: a rate that isn't as stated, or is variable, a leak rate that is too
+/// low, and packets that are scrambled. It says nothing of an input that can't be measured, and nothing where nothing is wrong.
 pub fn print_wrong_rates<R, M: Meter, E: Write>(
     plan: &Plan,
     readers: &[Metered<R, M>],
@@ -157,5 +278,6 @@ pub fn print_wrong_rates<R, M: Meter, E: Write>(
             print_rate(number, measured, input.rate, err)?;
         }
     }
-    print_leaks(plan, readers, err)
+    print_leaks(plan, readers, err)?;
+    print_scrambled(plan, readers, err)
 }

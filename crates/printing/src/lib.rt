@@ -2,18 +2,24 @@
 //! `StreamAnalysis` takes a stream in pieces, and its lines are those of its faults.
 #![tactic(auto)]
 
+mod early_ends;
 mod fault_lines;
 mod overfull;
 mod plan_lines;
 mod run_end;
 mod run_lines;
+mod same_files;
 mod stream_analysis;
 mod stream_line;
+mod strict;
 
+pub use early_ends::{has_early_end, print_early_ends};
 pub use fault_lines::print_faults;
-pub use overfull::tell_overfull;
+pub use overfull::{is_overfull, print_overfull};
 pub use plan_lines::{print_plan, print_rhythm};
 pub use run_end::print_end;
 pub use run_lines::{print_delays, print_summary};
+pub use same_files::print_same_files;
 pub use stream_analysis::StreamAnalysis;
 pub use stream_line::print_shape;
+pub use strict::strict_status;

@@ -1,19 +1,14 @@
 //! Whether the plan of a run is overfull, in lines.
 
-ghost use Rattle.std.specs.Prelude.{◌≡◌, ◌≢◌, ◌⊎◌, false};
-
+use crate::run_lines::slots_of;
 use advice::{is_filled, late_by, left_rate, taken_rate};
-use mux::Counts;
 use plan::Plan;
 use serial::Summary;
 use std::io;
 use std::io::Write;
 
-/// The status of a strict run whose plan is overfull.
-const OVERFULL: u8 = 1;
-
 /// Whether a stream of a run waited more than a second, or filled its queue.
-fn is_overfull(plan: &Plan, summary: &Summary) -> bool {
+pub fn is_overfull(plan: &Plan, summary: &Summary) -> bool {
     let capacity = plan.request().queue();
     for peak in &summary.streams {
         if late_by(peak.delay).is_some() || is_filled(peak.queued, capacity) {
@@ -46,12 +41,7 @@ fn print_streams<E: Write>(plan: &Plan, summary: &Summary, err: &mut E) -> io::R
 
 /// Prints what the streams of a run took, and what the rate of its plan leaves them.
 fn print_rates<E: Write>(plan: &Plan, summary: &Summary, err: &mut E) -> io::Result<()> {
-    let Counts {
-        tables,
-        elementary,
-        null,
-    } = summary.counts;
-    let slots = elementary.saturating_add(tables.saturating_add(null));
+    let (elementary, slots) = (summary.counts.elementary, slots_of(summary.counts));
     let rounds = plan.rounds();
     let (taken, left) = (taken_rate(rounds, elementary, slots), left_rate(rounds));
     let rate = plan.rate();
@@ -61,32 +51,27 @@ fn print_rates<E: Write>(plan: &Plan, summary: &Summary, err: &mut E) -> io::Res
     )
 }
 
-/// Prints the streams by which the plan of a run is overfull, and then its rates.
-fn print_overfull<E: Write>(plan: &Plan, summary: &Summary, err: &mut E) -> io::Result<()> {
-    print_streams(plan, summary, err)?;
-    print_rates(plan, summary, err)
+/// Whether a stream of a run waited more than a second.
+fn is_late(summary: &Summary) -> bool {
+    summary
+        .streams
+        .iter()
+        .any(|peak| late_by(peak.delay).is_some())
 }
 
-/// Says of a run that would end with this status that its plan is overfull, where it is. The answer is the status with which it
-/// ends: where the plan is overfull, a strict run that had no fault ends with 1.
-pub fn tell_overfull<E: Write>(
-    plan: &Plan,
-    summary: &Summary,
-    is_strict: bool,
-    status: u8,
-    err: &mut E,
-) -> u8
-    ensures lenient { is_strict ≡ false → result ≡ status }
-    ensures failed { status ≢ 0 → result ≡ status }
-    ensures strict { (result ≡ status) ⊎ (result ≡ 1) }
-{
+/// Prints the streams by which the plan of a run is overfull, and then its rates; nothing where it isn't. Where a queue was full, and no
+/// packet waited long, the queues may be too short for how packets come.
+pub fn print_overfull<E: Write>(plan: &Plan, summary: &Summary, err: &mut E) -> io::Result<()> {
     if !is_overfull(plan, summary) {
-        return status;
+        return Ok(());
     }
-    let _ = print_overfull(plan, summary, err);
-    if is_strict && status == 0 {
-        OVERFULL
-    } else {
-        status
+    print_streams(plan, summary, err)?;
+    print_rates(plan, summary, err)?;
+    if is_late(summary) {
+        return Ok(());
     }
+    writeln!(
+        err,
+        "overfull: no packet waited a second: `queue` may be too small, raise it"
+    )
 }

@@ -1,5 +1,6 @@
 //! Why a run ended, in lines.
 
+use crate::run_lines::slots_of;
 use files::InputFile;
 use plan::Plan;
 use reading::{Report, Stop};
@@ -9,7 +10,7 @@ use std::io::Write;
 use tspkt::PacketFormat;
 
 /// How many bytes of an input of this format were framed.
-fn bytes_read(format: PacketFormat, report: &Report) -> u64 {
+pub(crate) fn bytes_read(format: PacketFormat, report: &Report) -> u64 {
     let packets = report.framed.saturating_add(report.bad);
     let bytes = packets.saturating_mul(format.stride() as u64);
     bytes.saturating_add(report.lost)
@@ -62,7 +63,25 @@ fn print_all<E: Write>(summary: &Summary, err: &mut E) -> io::Result<()> {
     }
 }
 
-/// Prints why a run of a plan ended: a line for each input that wasn't read to its end, or one that says that all were.
+/// The slots of a run that isn't asked for another length, which are the most that `--slots` may have.
+const MOST_SLOTS: u64 = 1_000_000;
+
+/// Whether a run had all its slots before the packets of its inputs went out.
+fn is_cut(summary: &Summary) -> bool {
+    summary.inputs.iter().any(|input| input.report.stopped == Some(Stop::Gate)
+        || input.totals.queued > 0)
+}
+
+/// Prints how a run goes on that was cut at the most slots that `--slots` may have.
+fn print_longer<E: Write>(summary: &Summary, err: &mut E) -> io::Result<()> {
+    if slots_of(summary.counts) == MOST_SLOTS && is_cut(summary) {
+        writeln!(err, "end: with --all a run goes on until its inputs end")?;
+    }
+    Ok(())
+}
+
+/// Prints why a run of a plan ended: a line for each input that wasn't read to its end, or one that says that all were, and how a run goes
+/// on that was cut at 1,000,000 slots.
 pub fn print_end<R: InputFile, E: Write>(
     plan: &Plan,
     summary: &Summary,
@@ -79,5 +98,5 @@ pub fn print_end<R: InputFile, E: Write>(
     if is_all {
         print_all(summary, err)?;
     }
-    Ok(())
+    print_longer(summary, err)
 }

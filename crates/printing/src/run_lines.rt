@@ -1,5 +1,7 @@
 //! The lines of a run: its inputs, its output, and how long its streams waited.
 
+ghost use Rattle.std.specs.Prelude.{◌≤◌};
+
 use mux::Counts;
 use plan::Plan;
 use serial::{InputSummary, Summary};
@@ -21,6 +23,18 @@ fn print_input<O: Write>(number: usize, input: &InputSummary, out: &mut O) -> io
     writeln!(out, "taken {taken} sent {sent} queued {queued}")
 }
 
+/// How many slots there were.
+pub(crate) fn slots_of(counts: Counts) -> u64
+    ensures { counts.elementary ≤ result }
+{
+    let Counts {
+        tables,
+        elementary,
+        null,
+    } = counts;
+    elementary.saturating_add(tables.saturating_add(null))
+}
+
 /// Prints what became of a run: a line for each input, and one for the output.
 pub fn print_summary<O: Write>(summary: &Summary, out: &mut O) -> io::Result<()> {
     for (number, input) in summary.inputs.iter().enumerate() {
@@ -31,7 +45,7 @@ pub fn print_summary<O: Write>(summary: &Summary, out: &mut O) -> io::Result<()>
         elementary,
         null,
     } = summary.counts;
-    let slots = tables.saturating_add(elementary).saturating_add(null);
+    let slots = slots_of(summary.counts);
     let faults = summary.faults;
     write!(
         out,

@@ -22,5 +22,5 @@ most_slots_of All = 1099511627776
 -- the numbers of a command are in their ranges: slots of a run, a rate in bits a second, and a period in slots
 abbrev pub IsAllowed : Command → Type 0
 IsAllowed (Run plan out length serial delays strict) = IsAllowedLength length
-IsAllowed (Check plan) = Unit {0}
+IsAllowed (Check plan strict) = Unit {0}
 IsAllowed (Analyse format rate period file) = IsWithin 500000 100000000 rate × IsWithin 1 1000000 period

@@ -18,13 +18,15 @@ pub enum Command<'a> {
         serial: bool,
         /// Whether the largest delay and queue of each stream are told.
         delays: bool,
-        /// Whether a run whose plan turns out to be overfull ends with status 1.
+        /// Whether a run that shows that its plan or an input isn't as it should be ends with status 1.
         strict: bool,
     },
     /// Make the plan, and show it.
     Check {
         /// The name of the plan's file.
         plan: &'a str,
+        /// Whether a plan that an input's rates don't fit ends it with status 1.
+        strict: bool,
     },
     /// Tell the faults of a stream.
     Analyse {

@@ -61,6 +61,7 @@ fn command_of<'a>(name: &str, matches: &ArgMatches<'a>) -> Option<Command<'a>>
         }),
         "check" => Some(Command::Check {
             plan: matches.get_str("plan")?,
+            strict: matches.get_flag("strict"),
         }),
         "analyse" => Some(Command::Analyse {
             format: format_of(matches.get_one::<u64>("size")?)?,

@@ -12,7 +12,7 @@ const EXAMPLE: &str = "Example, from the top of the repository:
   ./remux run --plan examples/plan.toml --out out.ts
   ./remux analyse --rate 3000000 --period 5000 out.ts
 
-Status: 0 success, 1 analyse reported a fault or run --strict an overfull plan, 2 refused words, 3 refused plan, 4 a file that failed, 5 out of memory.";
+Status: 0 success, 1 analyse reported a fault or --strict what is wrong with a plan or an input, 2 refused words, 3 refused plan, 4 a file that failed, 5 out of memory.";
 
 const RUN_USAGE: &str =
     "remux run --plan <F> --out <F> [--slots <N> | --all] [--serial] [--delays] [--strict]";
@@ -31,18 +31,20 @@ in ticks of 27 MHz, and the most packets that waited in its queue. Where the del
 the plan is overfull; where the queue came to the plan's 'queue' it may be.
 
 A stream whose packets waited more than a second is reported on standard error, \
-and one whose queue came to the plan's 'queue' too. With --strict the status of such a run is 1; its output is the same.
+and one whose queue came to the plan's 'queue' too; so are inputs whose rate isn't as the plan states or that ended a second before others, \
+and a 'leak' that is too low. With --strict the status of such a run is 1; its output is the same.
 
 Example:
   ./remux run --plan examples/plan.toml --out out.ts --slots 50000";
 
-const CHECK_USAGE: &str = "remux check --plan <F>";
+const CHECK_USAGE: &str = "remux check --plan <F> [--strict]";
 
 const CHECK_EXAMPLE: &str =
     "It reads the plan and the tables of its inputs, and prints the rhythm of the tables, \
 the services and the streams. On standard error it prints how often the tables come, \
 which 'period' the plan may have, how long 1000000 slots take, \
-and what the inputs' rates are where they aren't as the plan states.
+and what the inputs' rates are where they aren't as the plan states. With --strict the status is 1 where such a rate is wrong, \
+a 'leak' is too low, or the services take more than there is.
 
 Example:
   ./remux check --plan examples/plan.toml";
@@ -111,6 +113,12 @@ fn all<'a>(alloc: Global) -> Result<Arg<'a>, AllocError> {
     flag(alloc, "all", "Go on until the inputs end").conflicts_with("slots")
 }
 
+/// The option `--strict`.
+fn strict<'a>(alloc: Global) -> Arg<'a> {
+    let help = "End with status 1 where the plan or an input isn't as it should be";
+    flag(alloc, "strict", help)
+}
+
 /// The option `--rate N`.
 fn rate<'a>(alloc: Global) -> Arg<'a> {
     let help = "The rate of the stream in bits a second, 500000 to 100000000";
@@ -160,16 +168,14 @@ fn run_command<'a>(alloc: Global) -> Result<Command<'a>, AllocError> {
             "delays",
             "Print on standard error how long streams waited",
         ))?
-        .arg(flag(
-            alloc,
-            "strict",
-            "End with status 1 where the plan is overfull",
-        ))
+        .arg(strict(alloc))
 }
 
 fn check_command<'a>(alloc: Global) -> Result<Command<'a>, AllocError> {
     let about = "Says whether a plan can be run, and shows what it makes";
-    command(alloc, "check", about, CHECK_USAGE, CHECK_EXAMPLE).arg(plan(alloc))
+    command(alloc, "check", about, CHECK_USAGE, CHECK_EXAMPLE)
+        .arg(plan(alloc))?
+        .arg(strict(alloc))
 }
 
 fn analyse_command<'a>(alloc: Global) -> Result<Command<'a>, AllocError> {

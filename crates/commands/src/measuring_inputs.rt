@@ -1,0 +1,51 @@
+//! Inputs that are read for their rates alone, before a run or instead of one.
+
+use files::{CommandFault, Files, InputFile, open_again};
+use measuring::{Metered, print_leaks_of, read_on, with_meters};
+use plan::Plan;
+use std::alloc::Global;
+use std::io::Write;
+
+/// How much of an input is measured in the place of a run, in pieces of 65,536 bytes: 67,108,864 bytes.
+const MEASURED: usize = 1_024;
+
+/// How much of it is measured before a run: 1,048,576 bytes, which is a second and more at 8,000,000 bits a second.
+const BEGINNING: usize = 16;
+
+/// Measures the inputs of a plan: each is read from its beginning again, at most 67,108,864 bytes, but for those that can be read
+/// only once; `first` has the readers from which their tables were read.
+pub(crate) fn measure<F: Files>(
+    alloc: Global,
+    files: &mut F,
+    plan: &Plan,
+    first: Vec<F::Reader>,
+) -> Result<Vec<Metered<F::Again>>, CommandFault> {
+    let readers = open_again(alloc, files, plan, first)?;
+    let mut readers: Vec<Metered<F::Again>> = with_meters(alloc, plan, readers)?;
+    for reader in readers.iter_mut() {
+        if reader.length().is_some() {
+            read_on(alloc, reader, MEASURED);
+        }
+    }
+    Ok(readers)
+}
+
+/// Says which streams of a plan have too low a leak rate by the first 1,048,576 bytes of their inputs, of those that can be read again;
+/// `opened` has the readers of the run. What can't be opened or measured is left to the run.
+pub(crate) fn tell_low_leaks<F: Files, R: InputFile, E: Write>(
+    alloc: Global,
+    files: &mut F,
+    plan: &Plan,
+    opened: &[R],
+    err: &mut E,
+) {
+    for (number, (input, opened)) in plan.inputs().iter().zip(opened.iter()).enumerate() {
+        if opened.length().is_some()
+            && let Ok(reader) = files.reader(input.file.as_str())
+        {
+            let mut reader: Metered<F::Reader> = Metered::new(alloc, input.format, reader);
+            read_on(alloc, &mut reader, BEGINNING);
+            let _ = print_leaks_of(plan, number, &reader, err);
+        }
+    }
+}
