@@ -11,4 +11,4 @@ mod plan_text;
 pub use example_plan::{PLAN, add_section, open, planned, tables};
 pub use first_run::first_slots;
 pub use input_packets::{add_packets, eight_packets, packets};
-pub use plan_text::{input, plan_of, plan_with_rings, service, settings, settings_with_rings};
+pub use plan_text::{plan_of, plan_with_rings, service, settings, settings_with_rings};

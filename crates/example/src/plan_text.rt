@@ -29,7 +29,7 @@ transport_descriptors = \"\"
 }
 
 /// An input in a plan's text.
-pub fn input(alloc: Global, offset: u64) -> Result<String, AllocError> {
+fn input(alloc: Global, offset: u64) -> Result<String, AllocError> {
     format!(in alloc;
         "[[input]]
 file = \"x.ts\"

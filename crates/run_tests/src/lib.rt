@@ -1,4 +1,5 @@
-//! Tests of the multiplex, of inputs and outputs, and of runs, in one thread and in several, by what these crates offer to others.
+//! Tests of multiplexes that want memory, of inputs and outputs, and of runs, in one thread and in several, by what these crates offer
+//! to others.
 //! Nothing else stands here, so that each of those crates is proved without its tests.
 #![tactic(auto)]
 

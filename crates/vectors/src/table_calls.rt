@@ -4,8 +4,8 @@ use crate::printed::yes_or_no;
 use anyhow::Result;
 use std::alloc::Global;
 use tables::{
-    DescriptorLoop, Header, Nit, Pat, Pmt, Sdt, ServiceDescriptor, TableFault, WriteFault,
-    are_whole, has_ca_descriptor,
+    DescriptorLoop, Header, Nit, NitRow, Pat, PatRow, Pmt, PmtRow, Sdt, SdtRow, ServiceDescriptor,
+    TableFault, WriteFault, are_whole, has_ca_descriptor,
 };
 
 /// `pat BYTES`, `pmt`, `nit` or `sdt`: what the table has, and whether it is written as it was; or its fault.
@@ -48,86 +48,129 @@ fn in_digits(alloc: Global, descriptors: &DescriptorLoop) -> Result<String> {
     Ok(hex::encode(alloc, descriptors.bytes())?)
 }
 
-fn pat(alloc: Global, bytes: &[u8]) -> Result<Result<String, TableFault>> {
-    let pat = match Pat::read(alloc, bytes) {
-        Ok(pat) => pat,
-        Err(fault) => return Ok(Err(fault)),
-    };
+/// What a table's text ends with: whether it is written as it was.
+fn ended(
+    alloc: Global,
+    text: &str,
+    written: Result<Vec<u8>, WriteFault>,
+    bytes: &[u8],
+) -> Result<String> {
+    let end = end(alloc, written, bytes)?;
+    Ok(format!(in alloc; "{text} {end}")?)
+}
+
+/// A program of a PAT.
+fn pat_row(alloc: Global, row: &PatRow) -> Result<String> {
+    Ok(format!(in alloc; " {} 0x{:04x},", row.program_number, row.pid)?)
+}
+
+fn pat_text(alloc: Global, pat: &Pat) -> Result<String> {
     let mut text = head(alloc, pat.header())?;
     for row in pat.rows() {
-        let row = format!(in alloc; " {} 0x{:04x},", row.program_number, row.pid)?;
-        text.push_str(row.as_str())?;
+        text.push_str(pat_row(alloc, row)?.as_str())?;
     }
-    let end = end(alloc, pat.write(alloc), bytes)?;
-    Ok(Ok(format!(in alloc; "{text} {end}")?))
+    Ok(text)
+}
+
+fn pat(alloc: Global, bytes: &[u8]) -> Result<Result<String, TableFault>> {
+    match Pat::read(alloc, bytes) {
+        Ok(pat) => {
+            let text = pat_text(alloc, &pat)?;
+            Ok(Ok(ended(alloc, text.as_str(), pat.write(alloc), bytes)?))
+        }
+        Err(fault) => Ok(Err(fault)),
+    }
+}
+
+/// An elementary stream of a PMT.
+fn pmt_row(alloc: Global, row: &PmtRow) -> Result<String> {
+    let descriptors = in_digits(alloc, &row.descriptors)?;
+    let (kind, pid) = (row.stream_type, row.elementary_pid);
+    Ok(format!(in alloc; " {kind} 0x{pid:04x} [{descriptors}],")?)
+}
+
+fn pmt_text(alloc: Global, pmt: &Pmt) -> Result<String> {
+    let head = head(alloc, pmt.header())?;
+    let info = in_digits(alloc, pmt.program_info())?;
+    let mut text = format!(in alloc; "{head} PCR 0x{:04x} [{info}]", pmt.pcr_pid())?;
+    for row in pmt.rows() {
+        text.push_str(pmt_row(alloc, row)?.as_str())?;
+    }
+    Ok(text)
 }
 
 fn pmt(alloc: Global, bytes: &[u8]) -> Result<Result<String, TableFault>> {
-    let pmt = match Pmt::read(alloc, bytes) {
-        Ok(pmt) => pmt,
-        Err(fault) => return Ok(Err(fault)),
-    };
-    let info = in_digits(alloc, pmt.program_info())?;
-    let mut text = format!(in alloc;
-        "{} PCR 0x{:04x} [{info}]",
-        head(alloc, pmt.header())?,
-        pmt.pcr_pid()
-    )?;
-    for row in pmt.rows() {
-        let descriptors = in_digits(alloc, &row.descriptors)?;
-        let row = format!(in alloc;
-            " {} 0x{:04x} [{descriptors}],",
-            row.stream_type, row.elementary_pid
-        )?;
-        text.push_str(row.as_str())?;
+    match Pmt::read(alloc, bytes) {
+        Ok(pmt) => {
+            let text = pmt_text(alloc, &pmt)?;
+            Ok(Ok(ended(alloc, text.as_str(), pmt.write(alloc), bytes)?))
+        }
+        Err(fault) => Ok(Err(fault)),
     }
-    let end = end(alloc, pmt.write(alloc), bytes)?;
-    Ok(Ok(format!(in alloc; "{text} {end}")?))
+}
+
+/// A transport stream of a NIT.
+fn nit_row(alloc: Global, row: &NitRow) -> Result<String> {
+    let descriptors = in_digits(alloc, &row.descriptors)?;
+    let (stream, network) = (row.transport_stream_id, row.original_network_id);
+    Ok(format!(in alloc; " {stream} of {network} [{descriptors}],")?)
+}
+
+fn nit_text(alloc: Global, nit: &Nit) -> Result<String> {
+    let head = head(alloc, nit.header())?;
+    let network = in_digits(alloc, nit.network_descriptors())?;
+    let mut text = format!(in alloc; "{head} [{network}]")?;
+    for row in nit.rows() {
+        text.push_str(nit_row(alloc, row)?.as_str())?;
+    }
+    Ok(text)
 }
 
 fn nit(alloc: Global, bytes: &[u8]) -> Result<Result<String, TableFault>> {
-    let nit = match Nit::read(alloc, bytes) {
-        Ok(nit) => nit,
-        Err(fault) => return Ok(Err(fault)),
-    };
-    let network = in_digits(alloc, nit.network_descriptors())?;
-    let mut text = format!(in alloc; "{} [{network}]", head(alloc, nit.header())?)?;
-    for row in nit.rows() {
-        let descriptors = in_digits(alloc, &row.descriptors)?;
-        let row = format!(in alloc;
-            " {} of {} [{descriptors}],",
-            row.transport_stream_id, row.original_network_id
-        )?;
-        text.push_str(row.as_str())?;
+    match Nit::read(alloc, bytes) {
+        Ok(nit) => {
+            let text = nit_text(alloc, &nit)?;
+            Ok(Ok(ended(alloc, text.as_str(), nit.write(alloc), bytes)?))
+        }
+        Err(fault) => Ok(Err(fault)),
     }
-    let end = end(alloc, nit.write(alloc), bytes)?;
-    Ok(Ok(format!(in alloc; "{text} {end}")?))
+}
+
+/// The flags of a service in an SDT.
+fn sdt_flags(alloc: Global, row: &SdtRow) -> Result<String> {
+    Ok(format!(in alloc;
+        "schedule {} present {} status {} scrambled {}",
+        yes_or_no(row.eit_schedule_flag),
+        yes_or_no(row.eit_present_following_flag),
+        row.running_status,
+        yes_or_no(row.free_ca_mode)
+    )?)
+}
+
+/// A service of an SDT.
+fn sdt_row(alloc: Global, row: &SdtRow) -> Result<String> {
+    let flags = sdt_flags(alloc, row)?;
+    let service = service(alloc, &row.descriptors)?;
+    Ok(format!(in alloc; " {} {flags} {service},", row.service_id)?)
+}
+
+fn sdt_text(alloc: Global, sdt: &Sdt) -> Result<String> {
+    let head = head(alloc, sdt.header())?;
+    let mut text = format!(in alloc; "{head} network {}", sdt.original_network_id())?;
+    for row in sdt.rows() {
+        text.push_str(sdt_row(alloc, row)?.as_str())?;
+    }
+    Ok(text)
 }
 
 fn sdt(alloc: Global, bytes: &[u8]) -> Result<Result<String, TableFault>> {
-    let sdt = match Sdt::read(alloc, bytes) {
-        Ok(sdt) => sdt,
-        Err(fault) => return Ok(Err(fault)),
-    };
-    let mut text = format!(in alloc;
-        "{} network {}",
-        head(alloc, sdt.header())?,
-        sdt.original_network_id()
-    )?;
-    for row in sdt.rows() {
-        let flags = format!(in alloc;
-            "schedule {} present {} status {} scrambled {}",
-            yes_or_no(row.eit_schedule_flag),
-            yes_or_no(row.eit_present_following_flag),
-            row.running_status,
-            yes_or_no(row.free_ca_mode)
-        )?;
-        let service = service(alloc, &row.descriptors)?;
-        let row = format!(in alloc; " {} {flags} {service},", row.service_id)?;
-        text.push_str(row.as_str())?;
+    match Sdt::read(alloc, bytes) {
+        Ok(sdt) => {
+            let text = sdt_text(alloc, &sdt)?;
+            Ok(Ok(ended(alloc, text.as_str(), sdt.write(alloc), bytes)?))
+        }
+        Err(fault) => Ok(Err(fault)),
     }
-    let end = end(alloc, sdt.write(alloc), bytes)?;
-    Ok(Ok(format!(in alloc; "{text} {end}")?))
 }
 
 /// The first service descriptor whose lengths fill it: its type, and the names of its provider and its own in hex digits.

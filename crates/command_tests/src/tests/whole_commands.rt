@@ -75,7 +75,7 @@ stream 0x0200 input 0 pid 0x0101 leak 2000000
     let told = "tables: PAT and PMTs every 100 ms, SDT and NIT every 200 ms
 period: may be 6 to 500 slots
 run: 1000000 slots take 1000 s
-rate: input 0 can't be measured: fewer than two PCRs were found
+rate: input 0 can't be measured: fewer than two PCRs were found with no packet missing between
 ";
     ends(&rt, &done, 0, lines, told);
     assert_eq!(rt; done.written_len(), None);

@@ -1,8 +1,9 @@
 //! Runs whose gates hold their inputs back by random numbers: each writes what the run in one thread writes. A test makes 125 of
 //! them, so that it ends in time on a machine that is busy.
 
+use crate::threaded_tests::runs::written_in_one;
 use crate::threaded_tests::turn_gates::RandomGate;
-use crate::threaded_tests::turns::{written, written_in_one};
+use crate::threaded_tests::turns::written;
 use anyhow::Result;
 use example::plan_with_rings;
 use plan::Plan;

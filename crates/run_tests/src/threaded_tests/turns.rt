@@ -1,6 +1,6 @@
 //! Runs whose threads come in other turns: each writes what the run in one thread writes.
 
-use crate::threaded_tests::runs::{readers, run_gated, run_in_one};
+use crate::threaded_tests::runs::{run_gated, written_in_one};
 use crate::threaded_tests::turn_gates::YieldGate;
 use anyhow::Result;
 use example::plan_with_rings;
@@ -21,16 +21,7 @@ pub fn written<
     T: Threads + Wait + Clock + Copy + Send + Drop + 'static,
     G: Gate + Send + Drop + 'static,
 >(alloc: Global, rt: T, plan: &Plan, gates: Vec<G>) -> Result<Vec<u8>> {
-    let plan = plan.copy(alloc)?;
-    let readers = readers(alloc, false)?;
-    let (bytes, result) = run_gated(alloc, rt, plan, 1_000, readers, gates, usize::MAX)?;
-    let _ = result?;
-    Ok(bytes)
-}
-
-/// The bytes that the run in one thread writes.
-pub fn written_in_one(alloc: Global, plan: &Plan) -> Result<Vec<u8>> {
-    let (bytes, _) = run_in_one(alloc, plan.copy(alloc)?)?;
+    let (bytes, _, _) = run_gated(alloc, rt, plan.copy(alloc)?, 1_000, gates)?;
     Ok(bytes)
 }
 

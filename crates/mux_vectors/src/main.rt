@@ -1,0 +1,23 @@
+//! A multiplex, call by call. Each line of standard input is a call of the multiplex that was opened last, of which the printed line says
+//! what it answered; a line that begins with # is printed as it is. `stdout` has what is to be printed, worked out on paper by the rule
+//! that each example of a plan comes with: a slot and a packet of an input take 27,000 ticks of 27 MHz.
+#![tactic(auto)]
+
+mod calls;
+mod driven;
+mod numbers;
+mod plans;
+
+use crate::calls::told_of;
+use anyhow::Result;
+
+fn main(rt: HostRuntime) -> Result<()> {
+    let alloc = rt.alloc();
+    let mut driven = None;
+    for line in rt.lines(alloc) {
+        if let Some(text) = told_of(alloc, &mut driven, line?.as_str())? {
+            println!(rt; "{text}")?;
+        }
+    }
+    Ok(())
+}
