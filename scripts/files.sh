@@ -165,11 +165,14 @@ for word in '' --serial; do
     is "it is named $word" [ "$(head -n 1 err)" = 'fault file long.ts' ]
     is "it is told as too long $word" has err 'it has more than 3154116608 bytes'
     is "its run leaves no output $word" absent long.out
+    is "what stands before its limit was framed $word" has out 'input 0 framed 2001 '
 done
 truncate -s 3154116608 long.ts
-run run --plan long.toml --out long.out
-is 'an input to its limit is read' [ "$status" = 0 ]
-is 'its output is the same' same long.out whole.ts
+for word in '' --serial; do
+    run run --plan long.toml --out long.out $word
+    is "an input to its limit is read $word" [ "$status" = 0 ]
+    is "its output is the same $word" same long.out whole.ts
+done
 rm -f long.*
 
 # What can be read only once.

@@ -1,12 +1,13 @@
 #!/usr/bin/env python3
 """Times the gate: how many processor seconds each crate's proof, tests and edits take.
 
-From anywhere: python3 scripts/gate_times.py words. The words name crates; without words all of crates.txt are timed, from below. Have
-nothing beside it, and a machine on which nothing is kept of them: what `rt ci` kept is not done again. In a copy without
-edits `rt ci NAME` is timed whole, from outside, and then with its edits; tests stand in crates of their own. It prints a line for each crate: its
-name, the processor seconds of its proof, of its tests and of its edits, and how long each took by the clock; and at last the chain of
-crates that takes longest. A run over what is kept takes some seconds too, which are in these numbers. `--at-once N` in front of the
-words times so many crates beside each other: that is faster, and its numbers are somewhat greater.
+From anywhere, where `rt ci` passed: python3 scripts/gate_times.py words. The words name crates; without words all of crates.txt are
+timed. Have nothing beside it. Of each crate a copy is timed, whole and from outside: `rt ci NAME` without its edits, and then with
+them; tests stand in crates of their own. A comment makes the copy another one than that which `rt ci` kept, so that it is proved anew,
+while what it stands on is kept. It prints a line for each crate: its name, the processor seconds of its proof, of its tests and of its
+edits, and how long each took by the clock; then the sums, and at last the chain of crates that takes longest. A run over what is kept
+takes some seconds too, which are in these numbers. `--at-once N` in front of the words times so many crates beside each other: that is
+faster, and its numbers are greater.
 """
 
 import functools
@@ -16,7 +17,7 @@ import subprocess
 import sys
 import tempfile
 import time
-from concurrent.futures import FIRST_COMPLETED, ThreadPoolExecutor, wait
+from concurrent.futures import ThreadPoolExecutor
 from pathlib import Path
 
 TOP = Path(__file__).resolve().parent.parent
@@ -32,28 +33,24 @@ def read_uses():
     return uses
 
 
-def below(name, uses):
-    """The crates of crates.txt that a crate stands on."""
-    found = set()
-    for used in uses.get(name, []):
-        if used in uses:
-            found |= {used} | below(used, uses)
-    return found
-
-
-def copy_to(folder):
-    """Copies what git has of the crates, without edits."""
+def copy_to(folder, name):
+    """Copies what git has of the crates, without edits. That of this name gets a comment that no copy had before."""
     files = subprocess.run(["git", "ls-files", "-z", "-co", "--exclude-standard", "crates", "crates.txt", "HANDLES"],
                            cwd=TOP, capture_output=True, check=True, text=True).stdout
     for file in filter(None, files.split("\0")):
         if "/must-fail/" not in file and (TOP / file).exists():
             (folder / file).parent.mkdir(parents=True, exist_ok=True)
             shutil.copy2(TOP / file, folder / file)
+    for root in "lib.rt", "main.rt":
+        file = folder / "crates" / name / "src" / root
+        if file.exists():
+            with open(file, "a", encoding="utf-8") as opened:
+                opened.write(f"// Timed at {time.time_ns()}.\n")
 
 
 def is_of_tests(name):
     """Whether a crate holds tests alone, or vectors."""
-    return name.endswith("_tests") or name == "vectors"
+    return name.endswith(("_tests", "vectors"))
 
 
 def timed(folder, name):
@@ -69,18 +66,24 @@ def timed(folder, name):
 
 
 def time_crate(name):
-    """Times one crate in a copy of its own, and prints its line."""
+    """Times one crate in a copy of its own, and prints its line: of its proof, its tests and its edits the processor seconds, and the
+    seconds by the clock."""
     with tempfile.TemporaryDirectory() as made:
         folder = Path(made)
-        copy_to(folder)
+        copy_to(folder, name)
         once = timed(folder, name)
         spent = [(0, 0), once, (0, 0)] if is_of_tests(name) else [once, (0, 0), (0, 0)]
         edits = TOP / "crates" / name / "must-fail"
         if edits.is_dir():
             shutil.copytree(edits, folder / "crates" / name / "must-fail")
             spent[2] = timed(folder, name)
-        print(name, *(f"{seconds[0]:.0f}" for seconds in spent), "/", *(f"{seconds[1]:.0f}" for seconds in spent), flush=True)
-        return spent
+        print_line(name, spent)
+        return name, spent
+
+
+def print_line(name, spent):
+    """Prints a line of three times."""
+    print(name, *(f"{seconds[0]:.0f}" for seconds in spent), "/", *(f"{seconds[1]:.0f}" for seconds in spent), flush=True)
 
 
 def longest(uses, seconds):
@@ -99,29 +102,12 @@ def main(words):
     if words[:1] == ["--at-once"]:
         at_once, words = int(words[1]), words[2:]
     uses = read_uses()
-    above = {name: sum(name in below(other, uses) for other in uses) for name in uses}
-    left = sorted(words or uses, key=lambda name: -above[name])
-    running, failed, proofs = {}, set(), {}
     print("crate proof tests edits / by the clock", flush=True)
     with ThreadPoolExecutor(at_once) as pool:
-        while left or running:
-            left = [name for name in left if not below(name, uses) & failed]
-            for name in left[:]:
-                if len(running) < at_once and not below(name, uses) & {*left, *running.values()}:
-                    left.remove(name)
-                    running[pool.submit(time_crate, name)] = name
-            done, _ = wait(running, return_when=FIRST_COMPLETED)
-            for ended in done:
-                name = running.pop(ended)
-                if ended.exception():
-                    failed.add(name)
-                    print(f"{name}: {ended.exception()}", flush=True)
-                else:
-                    proofs[name] = sum(step[1] for step in ended.result()[:2])
-    if proofs:
-        seconds, chain = longest(uses, proofs)
-        print(f"the longest chain takes {seconds:.0f} s by the clock: {' '.join(chain)}")
-    sys.exit(1 if failed else 0)
+        spent = dict(pool.map(time_crate, words or uses))
+    print_line("all", [[sum(times[part][unit] for times in spent.values()) for unit in (0, 1)] for part in range(3)])
+    seconds, chain = longest(uses, {name: times[0][1] + times[1][1] for name, times in spent.items()})
+    print(f"the longest chain takes {seconds:.0f} s by the clock: {' '.join(chain)}")
 
 
 if __name__ == "__main__":

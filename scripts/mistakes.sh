@@ -76,6 +76,15 @@ mistake 'an input without a name' 4 's|"north.ts"|""|' << 'END'
 fault file 
 the name is empty: it can't be opened: No such file or directory (os error 2)
 END
+mistake 'an address for an input' 4 's|"north.ts"|"udp://239.0.0.1:1234"|' << 'END'
+fault file udp://239.0.0.1:1234
+udp://239.0.0.1:1234: it can't be opened: No such file or directory (os error 2)
+names are those of files and pipes, and no addresses of a network
+END
+awk '/^\[\[service\]\]$/ && ++count == 3 { exit } { print }' plan.toml | sed 's|"south.ts"|"./north.ts"|' > twice.toml
+answer 'a file as two inputs' 0 check --plan twice.toml << 'END'
+inputs: 0 and 1 are one file; services of one file can share an [[input]]
+END
 answer 'an output in a folder that is not there' 4 run --plan plan.toml --out made/out.ts << 'END'
 fault file made/out.ts
 made/out.ts: no new file can be made beside it: No such file or directory (os error 2)
@@ -307,8 +316,25 @@ done
 mistake 'a leak rate that is too low' 0 '0,/^leak = 2000000$/s||leak = 100000|' << 'END'
 leak: stream 0x0201 (input 0, PID 0x0102): 100000 bits a second, below its measured N: state more
 END
+answer 'the same in a strict check' 1 check --plan mistake.toml --strict << 'END'
+leak: stream 0x0201 (input 0, PID 0x0102): 100000 bits a second, below its measured N: state more
+END
+answer 'the same in a run of all' 0 run --plan mistake.toml --out out.ts --all << 'END'
+leak: stream 0x0201 (input 0, PID 0x0102): 100000 bits a second, below its measured N: state more
+END
+answer 'a rate that is not the input'"'"'s in a strict check' 1 check --plan slow.toml --strict << 'END'
+rate: input 0 runs at 1000000 bits a second by the PCRs of PID 0x0101, 999 ppm below the stated 1001000: state 1000000
+END
+answer 'the same in a strict run' 1 run --plan slow.toml --out out.ts --strict << 'END'
+end: all inputs ended
+rate: input 0 runs at 1000000 bits a second by the PCRs of PID 0x0101, 999 ppm below the stated 1001000: state 1000000
+END
 mistake 'a multiplex that is too slow' 0 's|^rate = 3000000$|rate = 1200000|' << 'END'
 services: measured N bits a second of 1200000, the tables take 24000
+overfull: the services take more than the 1176000 bits a second that rate 1200000 leaves after the tables: raise it, or leave a service out
+END
+cp mistake.toml narrow.toml
+answer 'the same in a strict check' 1 check --plan narrow.toml --strict << 'END'
 overfull: the services take more than the 1176000 bits a second that rate 1200000 leaves after the tables: raise it, or leave a service out
 END
 sed 's|^queue = 1024$|queue = 64|' mistake.toml > full.toml
@@ -320,7 +346,7 @@ END
 # Words.
 answer 'a plan without --plan' 2 check plan.toml << 'END'
 error: unexpected argument 'plan.toml' found
-Usage: remux check --plan <F>
+Usage: remux check --plan <F> [--strict]
 END
 answer 'a run without an output' 2 run --plan plan.toml << 'END'
 error: the following required arguments were not provided:

@@ -1,9 +1,11 @@
 """Does a command over files in a folder of its own, a run in threads and in one thread."""
+import contextlib
 import os
 import resource
 import signal
 import subprocess
 import tempfile
+import threading
 import unittest
 from dataclasses import dataclass
 
@@ -104,6 +106,29 @@ class CommandCase(unittest.TestCase):
         else:
             self.assertEqual((threads.out, threads.err), (serial.out, serial.err))
         return serial
+
+    @contextlib.contextmanager
+    def pipe_of(self, octets, stays=False):
+        """The name of a pipe that gives these bytes, and that stays open behind them as long as the test goes on, if it is to."""
+        with tempfile.TemporaryDirectory() as folder:
+            name = os.path.join(folder, "pipe")
+            os.mkfifo(name)
+            ended = threading.Event()
+
+            def write():
+                with contextlib.suppress(BrokenPipeError), open(name, "wb") as pipe:
+                    pipe.write(octets)
+                    pipe.flush()
+                    if stays:
+                        ended.wait(60)
+
+            writer = threading.Thread(target=write)
+            writer.start()
+            try:
+                yield name
+            finally:
+                ended.set()
+                writer.join()
 
     def ends(self, done, status, out, err):
         """The command ended with this status and these texts."""

@@ -62,6 +62,7 @@ slots 24 tables 3 elementary 20 null 1 faults 0
         of_stream = "stream 0x0200 input 0 pid 0x0101 delay 324718 queue 4\n"
         of_plan = """overfull: stream 0x0200 (input 0, PID 0x0101): its queue was full, with 4 packets
 overfull: the services took 1253333 bits a second; rate 1504000 leaves 1458880 after the tables
+overfull: no packet waited a second: `queue` may be too small, raise it
 """
         whole = self.does(RUN, FULL)
         self.ends(whole, 0, lines, of_stream + ENDED + of_plan)
@@ -73,6 +74,7 @@ overfull: the services took 1253333 bits a second; rate 1504000 leaves 1458880 a
 end: the slot limit: input 0 was read to 73 %
 overfull: stream 0x0200 (input 0, PID 0x0101): its queue was full, with 4 packets
 overfull: the services took 1074285 bits a second; rate 1504000 leaves 1458880 after the tables
+overfull: no packet waited a second: `queue` may be too small, raise it
 """
         self.assertEqual(shorter.err, told)
 

@@ -3,7 +3,7 @@ import os
 import re
 
 from does import FILES, RUN, CommandCase
-from small import NULL, PLAN, crc, packets, settings
+from small import NULL, PLAN, crc, input_of, packets, service, settings
 
 FINE = "fine"
 
@@ -250,3 +250,32 @@ class PlanVectors(CommandCase):
         found = sections_of(output, 0x0011)[:2] + sections_of(output, 0x0010)[:1]
         for made, want in zip(found, VECTORS["sections"], strict=True):
             self.assertEqual(made[:len(want) // 2].hex(), want)
+
+    def test_packets_of_tables_take_turns(self):
+        """Of four services: in each round of 100 slots the PAT and four PMTs, two slots apart, and behind them one of seven packets of the SDT
+        and one of the NIT. Three rows of 260 bytes have room in a section of the SDT, which so has five packets, and the other two. The
+        input comes 2,000 slots behind the start, so that no other packet goes out."""
+        programs = range(1, 5)
+        pat = b"".join(bytes([0, k, 0xF0, k]) for k in programs)
+        octets = section_packets(0, section(0, 7, pat))
+        for k in programs:
+            octets += section_packets(0x1000 + k, section(2, k, bytes([0xE1, k, 0xF0, 0, 2, 0xE1, k, 0xF0, 0])))
+        for number, rows in enumerate([long_row(1) + long_row(2), long_row(3) + long_row(4)]):
+            octets += section_packets(0x0011, section(0x42, 7, b"\0\x09\xff" + rows, number, 1))
+        plan = settings() + input_of().replace("offset = 0", "offset = 54000000") + "".join(service(k, program=k, pid=0x0100 + k) for k in programs)
+        output = self.does([*RUN, "--slots", "1000"], {"x.toml": plan, "x.ts": octets + packets([0])}).written
+        self.assertEqual(len(output), 188 * 1000)
+        fast, slow = {0: 0x0000, **{2 * k: 0x0100 + k for k in programs}}, [0x0011] * 7 + [0x0010]
+        sent, starts, first = {}, [], {}
+        for slot in range(1000):
+            packet = output[188 * slot:188 * slot + 188]
+            pid = slow[slot // 100 % 8] if slot % 100 == 10 else fast.get(slot % 100, 0x1FFF)
+            self.assertEqual((packet[1] & 0x1F) << 8 | packet[2], pid, slot)
+            if pid < 0x1FFF:
+                self.assertEqual(packet[3], 0x10 + sent.get(pid, 0) % 16, slot)
+                sent[pid] = sent.get(pid, 0) + 1
+                turn = (pid, slot // 100 % 8) if slot % 100 == 10 else pid
+                self.assertEqual(packet[4:], first.setdefault(turn, packet[4:]), slot)
+            if slot % 100 == 10 and packet[1] & 0x40:
+                starts.append((slot, packet[5]))
+        self.assertEqual(starts, [(10, 0x42), (510, 0x42), (710, 0x40), (810, 0x42)])

@@ -47,11 +47,22 @@ slots 8 tables 3 elementary 4 null 1 faults 0
         self.assertEqual(marks(self.does(RUN).written), want)
 
     def test_an_input_that_no_service_uses_is_read_and_closed(self):
-        done = self.does(RUN, {"x.ts": EIGHT, "x.toml": settings() + input_of() + input_of() + service()})
+        done = self.does(RUN, {"x.ts": EIGHT, "y.ts": EIGHT, "x.toml": settings() + input_of() + input_of("y.ts") + service()})
         first, slots = LINES.splitlines()
         unused = first.replace("input 0", "input 1").replace("unmapped 3", "unmapped 8").replace("taken 5 sent 5", "taken 0 sent 0")
         self.ends(done, 0, "\n".join([first, unused, slots, ""]), ENDED)
         self.assertEqual(done.written, self.does(RUN).written)
+
+    def test_queues_and_rings_of_one_packet_change_nothing(self):
+        """Of two inputs: four packets of tables, ten of streams and a null packet."""
+        plan = settings() + input_of() + input_of("y.ts") + service() + service(1, of=1)
+        wanted = self.does(RUN, {"x.ts": EIGHT, "y.ts": EIGHT, "x.toml": plan}).written
+        self.assertEqual(len(wanted) // 188, 4 + 10 + 1)
+        for change in ("ring = 64", "ring = 1"), ("queue = 64", "queue = 1"):
+            plan = plan.replace(*change)
+            done = self.does(RUN, {"x.ts": EIGHT, "y.ts": EIGHT, "x.toml": plan})
+            self.assertEqual((done.status, done.out.splitlines()[-1].rpartition(" ")[2]), (0, "0"))
+            self.assertTrue(done.written == wanted, "another output")
 
     def test_what_is_no_packet_is_counted(self):
         """Seven packets of the stream, whose sixth has a bad sync byte, behind a byte that is in none; the second has a reserved control.
@@ -72,7 +83,7 @@ stream 0x0200 input 0 pid 0x0101 leak 2000000
         told = """tables: PAT and PMTs every 100 ms, SDT and NIT every 200 ms
 period: may be 6 to 500 slots
 run: 1000000 slots take 1000 s
-rate: input 0 can't be measured: fewer than two PCRs were found
+rate: input 0 can't be measured: fewer than two PCRs were found with no packet missing between
 """
         done = self.does(CHECK)
         self.ends(done, 0, lines, told)
