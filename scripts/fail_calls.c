@@ -1,10 +1,12 @@
-/* Loaded before the C library (LD_PRELOAD), it makes one call fail: the one of the kind FAIL_KIND (memory, read or write) whose
-   number, from 1, is FAIL_AT. A failed request for memory gives none; a failed read or write is an EIO. Where that call is reached
-   the file FAIL_MARK is made. Requests and reads are counted from the program's start on, the loader's own left out. */
+/* Loaded before the C library (LD_PRELOAD), it makes one call fail: the one of the kind FAIL_KIND (memory, open, read or write) whose
+   number, from 1, is FAIL_AT. A failed request for memory gives none; another failed call is an EIO. Of the kind end it is a read that
+   gives nothing, as at the end of a file. Where that call is reached the file FAIL_MARK is made. Calls are counted from the program's start on, the loader's own left out. A read gives at most READ_MOST
+   bytes, and a write takes at most WRITE_MOST, where these are set. */
 #define _GNU_SOURCE
 #include <dlfcn.h>
 #include <errno.h>
 #include <fcntl.h>
+#include <stdarg.h>
 #include <stdatomic.h>
 #include <stdlib.h>
 #include <string.h>
@@ -17,12 +19,20 @@ static long fail_at;
 static int is_begun;
 static char kind;
 static const char *mark;
+static size_t read_most = -1;
+static size_t write_most = -1;
 
 static void *(*next_malloc)(size_t);
 static void *(*next_calloc)(size_t, size_t);
 static void *(*next_realloc)(void *, size_t);
 static void *(*next_aligned)(size_t, size_t);
 static int (*next_posix)(void **, size_t, size_t);
+
+/* The number of this name, or the greatest one. */
+static size_t most_of(const char *name) {
+    const char *number = getenv(name);
+    return number ? strtoul(number, NULL, 10) : (size_t)-1;
+}
 
 __attribute__((constructor)) static void begin(void) {
     const char *word = getenv("FAIL_KIND");
@@ -35,6 +45,8 @@ __attribute__((constructor)) static void begin(void) {
     mark = getenv("FAIL_MARK");
     kind = word ? word[0] : 0;
     fail_at = number ? atol(number) : 0;
+    read_most = most_of("READ_MOST");
+    write_most = most_of("WRITE_MOST");
     is_begun = 1;
 }
 
@@ -84,10 +96,38 @@ int posix_memalign(void **place, size_t alignment, size_t size) {
     return fails('m') ? ENOMEM : next_posix(place, alignment, size);
 }
 
+static size_t least(size_t a, size_t b) { return a < b ? a : b; }
+
 ssize_t read(int fd, void *bytes, size_t count) {
-    return fails('r') ? (errno = EIO, -1) : syscall(SYS_read, fd, bytes, count);
+    if (fails('e'))
+        return 0;
+    return fails('r') ? (errno = EIO, -1) : syscall(SYS_read, fd, bytes, least(count, read_most));
 }
 
 ssize_t write(int fd, const void *bytes, size_t count) {
-    return fails('w') ? (errno = EIO, -1) : syscall(SYS_write, fd, bytes, count);
+    return fails('w') ? (errno = EIO, -1) : syscall(SYS_write, fd, bytes, least(count, write_most));
 }
+
+/* Opens a file relative to a folder. */
+static int opened(int folder, const char *name, int flags, mode_t mode) {
+    return fails('o') ? (errno = EIO, -1) : syscall(SYS_openat, folder, name, flags, mode);
+}
+
+/* The permissions behind the flags of a call, where it has them. */
+#define MODE_BEHIND(flags) ({ \
+    mode_t mode = 0; \
+    va_list words; \
+    va_start(words, flags); \
+    if ((flags) & O_CREAT) \
+        mode = va_arg(words, mode_t); \
+    va_end(words); \
+    mode; \
+})
+
+int open(const char *name, int flags, ...) { return opened(AT_FDCWD, name, flags, MODE_BEHIND(flags)); }
+
+int open64(const char *name, int flags, ...) { return opened(AT_FDCWD, name, flags, MODE_BEHIND(flags)); }
+
+int openat(int folder, const char *name, int flags, ...) { return opened(folder, name, flags, MODE_BEHIND(flags)); }
+
+int openat64(int folder, const char *name, int flags, ...) { return opened(folder, name, flags, MODE_BEHIND(flags)); }

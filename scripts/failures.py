@@ -1,5 +1,6 @@
 #!/usr/bin/env python3
-"""Makes each request for memory, each read and each write of whole commands fail in turn, and looks at what becomes of the run:
+"""Makes each request for memory, each opening of a file, each read and each write of whole commands fail in turn, and looks at what
+becomes of the run:
 over the example's plan and over a file of eight packets, in threads and in one thread. A wrong run has a line, and with -v each
 run: what failed, the status, and whether what was written begins the right bytes. From anywhere: scripts/failures.py [-v]. It needs
 a C compiler; REMUX names another program than the built one. The last line counts; the status is 1 where a run was wrong.
@@ -105,7 +106,7 @@ def main():
                 right = run(folder, words)
                 if right[0] != 0:
                     sys.exit(f"{' '.join(words)}: status {right[0]} though nothing failed")
-                for kind in ("memory", "read", "write"):
+                for kind in ("memory", "open", "read", "write"):
                     at = 1
                     while True:
                         got = run(folder, words, kind, at)

@@ -203,6 +203,27 @@ class PlanVectors(CommandCase):
                 loop = loop[:len(loop) - int(cut)]
                 self.says(PLAN.replace('descriptors = ""', f'descriptors = "{loop.hex()}"'), want)
 
+    def test_sections_that_just_fit(self):
+        """A PMT with descriptors of the program of 1,003 bytes, and a row of an SDT with descriptors of 1,004: sections of 1,024 bytes."""
+        info = (bytes([0x80, 255]) + bytes(255)) * 3 + bytes([0x80, 230]) + bytes(230)
+        pmt = section(2, 100, bytes.fromhex("e101f3eb") + info + bytes.fromhex("02e101f000"))
+        loop = bytes.fromhex("4803010000") + (bytes([0x80, 255]) + bytes(255)) * 3 + bytes([0x80, 226]) + bytes(226)
+        sdt = section(0x42, 7, b"\0\2\xff" + b"\0\x64\xfc" + (0x8000 | len(loop)).to_bytes(2, "big") + loop)
+        self.assertEqual((len(pmt), len(sdt)), (1024, 1024))
+        pat = section_packets(0, section(0, 7, bytes.fromhex("0064e100")))
+        octets = pat + section_packets(0x0100, pmt) + section_packets(0x0011, sdt) + packets([0])
+        self.says(PLAN, FINE, {"x.ts": octets})
+
+    def test_the_longest_nit(self):
+        """Services of one program, whose stream is theirs together."""
+        for line, want in wanted("nit"):
+            with self.subTest(line):
+                services, name, length = map(int, line.split())
+                text = "".join(service(number).replace(f"out = {512 + number}", "out = 512") for number in range(services))
+                loop = (bytes([0x80, 178]) + bytes(178)) * (length // 180)
+                plan = (settings() + input_of() + text).replace('"N"', f'"{"N" * name}"').replace('descriptors = ""', f'descriptors = "{loop.hex()}"')
+                self.says(plan, want)
+
     def test_a_second_service(self):
         for line, want in wanted("second"):
             with self.subTest(line):

@@ -6,6 +6,8 @@ use anyhow::{Result, bail};
 use mux::{Mux, Offered, Sending, Slot, Taken};
 use plan::Plan;
 use std::alloc::Global;
+use std::io;
+use std::io::Write;
 use tspkt::{Packet, Stamped};
 
 /// A multiplex, and how many inputs and streams its plan has.
@@ -30,7 +32,7 @@ pub struct Item {
 }
 
 /// A packet with payload alone, 184 bytes 0xAA.
-fn stamped(item: Item) -> Result<Stamped> {
+pub fn stamped(item: Item) -> Result<Stamped> {
     let mut bytes = [0xAA; 188];
     bytes[0] = 0x47;
     bytes[1] = (item.pid / 256 % 32) as u8;
@@ -45,23 +47,21 @@ fn stamped(item: Item) -> Result<Stamped> {
     }
 }
 
-/// A packet that went out: its PID and its counter.
-fn shown(alloc: Global, packet: &Packet) -> Result<String> {
-    Ok(format!(in alloc; "0x{:04x} {}", packet.pid(), packet.counter())?)
+/// Prints a packet that went out: its PID and its counter.
+fn print_packet<W: Write>(packet: &Packet, out: &mut W) -> io::Result<()> {
+    write!(out, "0x{:04x} {}", packet.pid(), packet.counter())
 }
 
-/// What became of a packet that was given away.
-fn taken(alloc: Global, taken: Taken) -> Result<String> {
-    let (reason, back) = match taken {
-        Taken::Ok => return Ok(format!(in alloc; "Taken")?),
-        Taken::Closed(back) => (Offered::Closed, back),
-        Taken::Stranger(back) => (Offered::Stranger, back),
-        Taken::Backward(back) => (Offered::Backward, back),
-        Taken::Full(back) => (Offered::Full, back),
-        Taken::Memory(back) => (Offered::Memory, back),
-    };
-    let (counter, stamp) = (back.packet.counter(), back.stamp);
-    Ok(format!(in alloc; "{reason:?}, and packet {counter} of {stamp} came back")?)
+/// Why a packet came back that was given away, and that packet; none where it was taken.
+fn back_of(taken: Taken) -> Option<(Offered, Stamped)> {
+    match taken {
+        Taken::Ok => None,
+        Taken::Closed(back) => Some((Offered::Closed, back)),
+        Taken::Stranger(back) => Some((Offered::Stranger, back)),
+        Taken::Backward(back) => Some((Offered::Backward, back)),
+        Taken::Full(back) => Some((Offered::Full, back)),
+        Taken::Memory(back) => Some((Offered::Memory, back)),
+    }
 }
 
 impl Driven {
@@ -86,20 +86,14 @@ impl Driven {
     }
 
     /// `offer INPUT PID COUNTER TIME`
-    pub fn offer(&mut self, alloc: Global, input: usize, item: Item) -> Result<String> {
+    pub fn offer<W: Write>(&mut self, input: usize, item: Item, out: &mut W) -> Result<()> {
         let offered = self.offered(input, item)?;
-        Ok(format!(in alloc; "{offered:?}")?)
+        write!(out, "{offered:?}")?;
+        Ok(())
     }
 
-    /// `offers INPUT PID COUNT TIME STEP`: packets one behind the other, each so much later; how many were taken until one wasn't.
-    pub fn offers(
-        &mut self,
-        alloc: Global,
-        input: usize,
-        first: Item,
-        count: u64,
-        step: u64,
-    ) -> Result<String> {
+    /// How many of so many packets were taken until one wasn't, one behind the other, each so much later.
+    fn count_taken(&mut self, input: usize, first: Item, count: u64, step: u64) -> Result<u64> {
         for place in 0..count {
             let item = Item {
                 pid: first.pid,
@@ -107,107 +101,145 @@ impl Driven {
                 stamp: first.stamp.saturating_add(step.saturating_mul(place)),
             };
             if self.offered(input, item)? != Offered::Taken {
-                return Ok(format!(in alloc; "{place}")?);
+                return Ok(place);
             }
         }
-        Ok(format!(in alloc; "{count}")?)
+        Ok(count)
+    }
+
+    /// `offers INPUT PID COUNT TIME STEP`
+    pub fn offers<W: Write>(
+        &mut self,
+        input: usize,
+        first: Item,
+        count: u64,
+        step: u64,
+        out: &mut W,
+    ) -> Result<()> {
+        let taken = self.count_taken(input, first, count, step)?;
+        write!(out, "{taken}")?;
+        Ok(())
     }
 
     /// `take INPUT PID COUNTER TIME`: the packet is given away.
-    pub fn take(&mut self, alloc: Global, input: usize, item: Item) -> Result<String> {
+    pub fn take<W: Write>(&mut self, input: usize, item: Item, out: &mut W) -> Result<()> {
         let item = stamped(item)?;
         if input >= self.inputs {
             bail!("no such input");
         }
-        taken(alloc, self.mux.take(input, item))
+        match back_of(self.mux.take(input, item)) {
+            None => write!(out, "Taken")?,
+            Some((reason, back)) => {
+                let (counter, stamp) = (back.packet.counter(), back.stamp);
+                write!(out, "{reason:?}, and packet {counter} of {stamp} came back")?;
+            }
+        }
+        Ok(())
     }
 
     /// `close INPUT`
-    pub fn close(&mut self, alloc: Global, input: usize) -> Result<String> {
+    pub fn close<W: Write>(&mut self, input: usize, out: &mut W) -> Result<()> {
         if input >= self.inputs || self.mux.close(input).is_err() {
             bail!("not closed");
         }
-        Ok(format!(in alloc; "closed")?)
+        write!(out, "closed")?;
+        Ok(())
     }
 
     /// `send`: the next slot.
-    pub fn send(&mut self, alloc: Global) -> Result<String> {
+    pub fn send<W: Write>(&mut self, out: &mut W) -> Result<()> {
         match self.mux.send_next() {
-            Sending::Sent => self.last(alloc),
-            answer => Ok(format!(in alloc; "{answer:?}")?),
+            Sending::Sent => self.last(out)?,
+            answer => write!(out, "{answer:?}")?,
         }
+        Ok(())
     }
 
     /// `slot`: the same, and the packet is handed out.
-    pub fn slot(&mut self, alloc: Global) -> Result<String> {
+    pub fn slot<W: Write>(&mut self, out: &mut W) -> Result<()> {
         match self.mux.slot() {
-            Slot::Sent(packet) => shown(alloc, &packet),
-            Slot::NotReady(input) => Ok(format!(in alloc; "NotReady({input})")?),
-            Slot::Done => Ok(format!(in alloc; "Done")?),
-            Slot::RunFull => Ok(format!(in alloc; "RunFull")?),
-            Slot::Memory => Ok(format!(in alloc; "Memory")?),
+            Slot::Sent(packet) => print_packet(&packet, out)?,
+            Slot::NotReady(input) => write!(out, "NotReady({input})")?,
+            Slot::Done => write!(out, "Done")?,
+            Slot::RunFull => write!(out, "RunFull")?,
+            Slot::Memory => write!(out, "Memory")?,
         }
+        Ok(())
+    }
+
+    /// Sends a slot, and prints its number and its packet behind these words where that isn't null. Whether it did.
+    fn print_slot<W: Write>(&mut self, between: &str, out: &mut W) -> Result<bool> {
+        let number = self.mux.slots();
+        let Slot::Sent(packet) = self.mux.slot() else {
+            bail!("slot {number} was not sent");
+        };
+        if packet.pid() == 0x1FFF {
+            return Ok(false);
+        }
+        write!(out, "{between}{number} ")?;
+        print_packet(&packet, out)?;
+        Ok(true)
     }
 
     /// `slots COUNT`: as many slots, of which those with a packet are told that isn't null, by their numbers.
-    pub fn slots(&mut self, alloc: Global, count: u64) -> Result<String> {
-        let (mut text, mut between) = (String::new(alloc), "");
+    pub fn slots<W: Write>(&mut self, count: u64, out: &mut W) -> Result<()> {
+        let mut between = "";
         for _ in 0..count {
-            let number = self.mux.slots();
-            let Slot::Sent(packet) = self.mux.slot() else {
-                bail!("slot {number} was not sent");
-            };
-            if packet.pid() < 0x1FFF {
-                let shown = shown(alloc, &packet)?;
-                text.push_str(format!(in alloc; "{between}{number} {shown}")?.as_str())?;
+            if self.print_slot(between, out)? {
                 between = ", ";
             }
         }
-        Ok(text)
+        Ok(())
     }
 
     /// `last`: the packet of the last slot.
-    pub fn last(&self, alloc: Global) -> Result<String> {
+    pub fn last<W: Write>(&self, out: &mut W) -> Result<()> {
         match self.mux.last() {
-            Some(packet) => shown(alloc, packet),
-            None => Ok(format!(in alloc; "nothing")?),
+            Some(packet) => print_packet(packet, out)?,
+            None => write!(out, "nothing")?,
         }
+        Ok(())
     }
 
     /// `counts`: how many slots there were, and what they carried.
-    pub fn counts(&self, alloc: Global) -> Result<String> {
+    pub fn counts<W: Write>(&self, out: &mut W) -> Result<()> {
         let (slots, counts) = (self.mux.slots(), self.mux.counts());
         let (tables, elementary, null) = (counts.tables, counts.elementary, counts.null);
-        Ok(format!(in alloc;
+        write!(
+            out,
             "{slots} slots, tables {tables}, elementary {elementary}, null {null}"
-        )?)
+        )?;
+        Ok(())
     }
 
     /// `totals INPUT`
-    pub fn totals(&self, alloc: Global, input: usize) -> Result<String> {
+    pub fn totals<W: Write>(&self, input: usize, out: &mut W) -> Result<()> {
         if input >= self.inputs {
             bail!("no such input");
         }
         let totals = self.mux.totals(input);
         let (taken, sent, queued) = (totals.taken, totals.sent, totals.queued);
-        Ok(format!(in alloc; "taken {taken}, sent {sent}, queued {queued}")?)
+        write!(out, "taken {taken}, sent {sent}, queued {queued}")?;
+        Ok(())
     }
 
     /// `level STREAM`: that of its transport buffer, in bytes times 1,504,000.
-    pub fn level(&self, alloc: Global, stream: usize) -> Result<String> {
+    pub fn level<W: Write>(&self, stream: usize, out: &mut W) -> Result<()> {
         if stream >= self.streams {
             bail!("no such stream");
         }
-        Ok(format!(in alloc; "{}", self.mux.level(stream))?)
+        write!(out, "{}", self.mux.level(stream))?;
+        Ok(())
     }
 
     /// `peak STREAM`
-    pub fn peak(&self, alloc: Global, stream: usize) -> Result<String> {
+    pub fn peak<W: Write>(&self, stream: usize, out: &mut W) -> Result<()> {
         if stream >= self.streams {
             bail!("no such stream");
         }
         let peak = self.mux.peak(stream);
         let (delay, queued) = (peak.delay, peak.queued);
-        Ok(format!(in alloc; "delay {delay}, queued {queued}")?)
+        write!(out, "delay {delay}, queued {queued}")?;
+        Ok(())
     }
 }

@@ -5,19 +5,21 @@
 
 mod calls;
 mod driven;
+mod kept;
 mod numbers;
 mod plans;
 
-use crate::calls::told_of;
+use crate::calls::tell;
 use anyhow::Result;
+use std::io::{BufWriter, Write};
 
 fn main(rt: HostRuntime) -> Result<()> {
     let alloc = rt.alloc();
     let mut driven = None;
+    let mut out = BufWriter::new(alloc, rt.stdout())?;
     for line in rt.lines(alloc) {
-        if let Some(text) = told_of(alloc, &mut driven, line?.as_str())? {
-            println!(rt; "{text}")?;
-        }
+        tell(alloc, &mut driven, line?.as_str(), &mut out)?;
     }
+    out.flush()?;
     Ok(())
 }

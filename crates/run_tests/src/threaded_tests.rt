@@ -6,4 +6,3 @@ mod random_turns;
 mod runs;
 mod stops;
 mod turn_gates;
-mod turns;

@@ -8,6 +8,8 @@ use crate::sections::packets;
 use acquire::{Acquire, Found, find_tables};
 use anyhow::Result;
 use std::alloc::Global;
+use std::io;
+use std::io::Write;
 use tspkt::Packet;
 
 /// Adds the packets of `PID SECTION`, or the packet of `raw BYTES`.
@@ -22,39 +24,55 @@ fn add(alloc: Global, names: &Names, words: &str, all: &mut Vec<Packet>) -> Resu
     Ok(())
 }
 
-/// What was found: of each program whether its PMT was, and of how many sections the SDT is.
-fn text(alloc: Global, found: &Found) -> Result<String> {
-    let mut text = String::new(alloc);
+/// Prints what was found: of each program whether its PMT was, and of how many sections the SDT is.
+fn print_found<W: Write>(found: &Found, out: &mut W) -> io::Result<()> {
+    write!(out, "| PMTs")?;
     for pmt in &found.pmts {
-        let word = match pmt {
-            Some(pmt) => format!(in alloc; " of {}", pmt.header().table_id_extension)?,
-            None => format!(in alloc; " none")?,
-        };
-        text.push_str(word.as_str())?;
+        match pmt {
+            Some(pmt) => write!(out, " of {}", pmt.header().table_id_extension)?,
+            None => write!(out, " none")?,
+        }
     }
     let sections = found.sdt.as_ref().map(|sections| sections.len());
-    Ok(format!(in alloc; "PMTs{text}, SDT {sections:?}")?)
+    write!(out, ", SDT {sections:?}")
+}
+
+/// The programs with these numbers.
+fn programs_of(alloc: Global, words: &str) -> Result<Vec<u16>> {
+    let mut wanted = Vec::new(alloc);
+    for program in &numbers(alloc, words)? {
+        wanted.push((*program % 65_536) as u16)?;
+    }
+    Ok(wanted)
+}
+
+/// Pushes packets, prints behind each whether all tables are there, and at the end what was found.
+fn print_pushed<W: Write>(
+    alloc: Global,
+    wanted: &[u16],
+    packets: &[Packet],
+    out: &mut W,
+) -> Result<()> {
+    let mut acquire = Acquire::new(alloc, wanted)?;
+    for packet in packets {
+        let answer = yes_or_no(acquire.push(packet)?);
+        write!(out, "{answer} ")?;
+    }
+    print_found(&acquire.found(), out)?;
+    Ok(())
 }
 
 /// `acquire PROGRAM,.. / PACKETS / ..`: whether all tables are there behind each packet, and what is found by `Acquire` and by
 /// `find_tables`.
-pub fn acquired(alloc: Global, names: &Names, words: &str) -> Result<String> {
+pub fn acquired<W: Write>(alloc: Global, names: &Names, words: &str, out: &mut W) -> Result<()> {
     let (programs, words) = words.split_once(" / ").unwrap_or((words, ""));
-    let mut wanted = Vec::new(alloc);
-    for program in &numbers(alloc, programs)? {
-        wanted.push((*program % 65_536) as u16)?;
-    }
+    let wanted = programs_of(alloc, programs)?;
     let mut all = Vec::new(alloc);
     for words in words.split(" / ") {
         add(alloc, names, words, &mut all)?;
     }
-    let mut acquire = Acquire::new(alloc, &wanted)?;
-    let mut told = String::new(alloc);
-    for packet in &all {
-        let answer = yes_or_no(acquire.push(packet)?);
-        told.push_str(format!(in alloc; "{answer} ")?.as_str())?;
-    }
-    let pushed = text(alloc, &acquire.found())?;
-    let found = text(alloc, &find_tables(alloc, &wanted, &all)?)?;
-    Ok(format!(in alloc; "{told}| {pushed} | {found}")?)
+    print_pushed(alloc, &wanted, &all, out)?;
+    write!(out, " ")?;
+    print_found(&find_tables(alloc, &wanted, &all)?, out)?;
+    Ok(())
 }

@@ -2,12 +2,27 @@
 
 use crate::names::Names;
 use crate::numbers::{first_word, number};
-use analyse::Analyser;
+use analyse::{Analyser, Fault};
 use anyhow::{Result, bail};
 use std::alloc::Global;
+use std::io;
+use std::io::Write;
+
+/// Prints how many faults there are, and each with the name of its kind.
+fn print_faults<W: Write>(faults: &[Fault], out: &mut W) -> io::Result<()> {
+    write!(out, "{} faults: [", faults.len())?;
+    let mut between = "";
+    for fault in faults {
+        let fault = *fault;
+        let name = fault.kind.name();
+        write!(out, "{between}{fault} {name};")?;
+        between = " ";
+    }
+    write!(out, "]")
+}
 
 /// `analyse RATE PERIOD BYTES`: the faults of a stream of so many bits a second, where PIDs have to come within so many slots.
-pub fn analysed(alloc: Global, names: &Names, words: &str) -> Result<String> {
+pub fn analysed<W: Write>(alloc: Global, names: &Names, words: &str, out: &mut W) -> Result<()> {
     let (rate, words) = first_word(words);
     let (period, words) = first_word(words);
     let mut analyser = Analyser::new(alloc, number(rate)?, number(period)?);
@@ -20,9 +35,6 @@ pub fn analysed(alloc: Global, names: &Names, words: &str) -> Result<String> {
     for slot in slots {
         analyser.push(slot, &mut told)?;
     }
-    let mut text = String::new(alloc);
-    for fault in &told {
-        text.push_str(format!(in alloc; "{fault} {}; ", fault.kind.name())?.as_str())?;
-    }
-    Ok(format!(in alloc; "{} faults: [{}]", told.len(), text.trim_end())?)
+    print_faults(&told, out)?;
+    Ok(())
 }

@@ -2,62 +2,90 @@
 
 use crate::acquiring::acquired;
 use crate::analysing::analysed;
+use crate::buffering::{buffered, queued};
 use crate::framing::{framed, limited, refilled};
 use crate::names::Names;
 use crate::numbers::first_word;
-use crate::packets::{clock, copied, counted, fields, followed, null_packet, sent, time_of};
+use crate::packets::{clock, copied, counted, fields, followed, print_null, sent, time_of};
+use crate::rhythm::rounds_of;
 use crate::sections::{assembled, carried, crc_register};
 use crate::table_calls::{descriptors, table};
 use anyhow::{Result, bail};
 use std::alloc::Global;
+use std::io::Write;
 
-/// What a line tells: itself where it is a comment, nothing where it is empty or gives a name, and else what its call found.
-pub fn told_of(alloc: Global, names: &mut Names, line: &str) -> Result<Option<String>> {
+/// Prints what a line tells: itself where it is a comment, nothing where it is empty or gives a name, and else what its call found.
+pub fn tell<W: Write>(alloc: Global, names: &mut Names, line: &str, out: &mut W) -> Result<()> {
     if line.is_empty() {
-        return Ok(None);
+        return Ok(());
     }
     if line.starts_with('#') {
-        return Ok(Some(format!(in alloc; "{line}")?));
+        writeln!(out, "{line}")?;
+        return Ok(());
     }
     if let Some((name, words)) = line.split_once(" = ") {
-        names.add(name, words)?;
-        return Ok(None);
+        return names.add(name, words);
     }
     let (call, words) = first_word(line);
-    match of_packets(alloc, names, call, words)? {
-        Some(text) => Ok(Some(text)),
-        None => Ok(Some(of_tables(alloc, names, call, words)?)),
+    if !of_packets(alloc, names, call, words, out)? && !of_tables(alloc, names, call, words, out)? {
+        of_parts(alloc, call, words, out)?;
     }
+    writeln!(out)?;
+    Ok(())
 }
 
-/// What a call of `tspkt` found, where it is one.
-fn of_packets(alloc: Global, names: &Names, call: &str, words: &str) -> Result<Option<String>> {
-    Ok(Some(match call {
-        "packet" => fields(alloc, &names.bytes(words)?)?,
-        "send" => sent(alloc, names, words)?,
-        "count" => counted(alloc, names, words)?,
-        "null" => null_packet(alloc)?,
-        "follows" => followed(alloc, names, words)?,
-        "copy" => copied(alloc, names, words)?,
-        "time" => time_of(alloc, words)?,
-        "clock" => clock(alloc, words)?,
-        "frame" => framed(alloc, names, words)?,
-        "refill" => refilled(alloc, names, words)?,
-        "limit" => limited(alloc, names, words)?,
-        _ => return Ok(None),
-    }))
-}
-
-/// What another call found.
-fn of_tables(alloc: Global, names: &Names, call: &str, words: &str) -> Result<String> {
+/// Prints what a call of `tspkt` found, and answers whether it is one.
+fn of_packets<W: Write>(
+    alloc: Global,
+    names: &Names,
+    call: &str,
+    words: &str,
+    out: &mut W,
+) -> Result<bool> {
     match call {
-        "crc" => crc_register(alloc, &names.bytes(words)?),
-        "carry" => carried(alloc, names, words),
-        "assemble" => assembled(alloc, names, words),
-        "pat" | "pmt" | "nit" | "sdt" => table(alloc, call, &names.bytes(words)?),
-        "descriptors" => descriptors(alloc, &names.bytes(words)?),
-        "acquire" => acquired(alloc, names, words),
-        "analyse" => analysed(alloc, names, words),
+        "packet" => fields(&names.bytes(words)?, out)?,
+        "send" => sent(names, words, out)?,
+        "count" => counted(names, words, out)?,
+        "null" => print_null(out)?,
+        "follows" => followed(names, words, out)?,
+        "copy" => copied(names, words, out)?,
+        "time" => time_of(words, out)?,
+        "clock" => clock(alloc, words, out)?,
+        "frame" => framed(alloc, names, words, out)?,
+        "refill" => refilled(alloc, names, words, out)?,
+        "limit" => limited(alloc, names, words, out)?,
+        _ => return Ok(false),
+    }
+    Ok(true)
+}
+
+/// The same of a call on sections and tables.
+fn of_tables<W: Write>(
+    alloc: Global,
+    names: &Names,
+    call: &str,
+    words: &str,
+    out: &mut W,
+) -> Result<bool> {
+    match call {
+        "crc" => crc_register(&names.bytes(words)?, out)?,
+        "carry" => carried(alloc, names, words, out)?,
+        "assemble" => assembled(alloc, names, words, out)?,
+        "pat" | "pmt" | "nit" | "sdt" => table(alloc, call, &names.bytes(words)?, out)?,
+        "descriptors" => descriptors(alloc, &names.bytes(words)?, out)?,
+        "acquire" => acquired(alloc, names, words, out)?,
+        "analyse" => analysed(alloc, names, words, out)?,
+        _ => return Ok(false),
+    }
+    Ok(true)
+}
+
+/// Prints what another call found.
+fn of_parts<W: Write>(alloc: Global, call: &str, words: &str, out: &mut W) -> Result<()> {
+    match call {
+        "buffer" => buffered(words, out),
+        "queue" => queued(alloc, words, out),
+        "rounds" => rounds_of(alloc, words, out),
         _ => bail!("there is no call {call}"),
     }
 }

@@ -3,145 +3,177 @@
 use crate::names::Names;
 use crate::numbers::{first_word, number, numbers};
 use crate::packets::format_of;
+use crate::told::{Kind, Told};
 use anyhow::{Error, Result, bail};
-use std::alloc::Global;
+use std::alloc::{AllocError, Global};
+use std::io;
+use std::io::Write;
 use tspkt::{FeedFault, Framer, Item, MAX_LIMIT, PacketFormat, frame, frame_with_size};
 
-/// What was told.
-fn text(alloc: Global, items: &[Item]) -> Result<String> {
-    let mut text = String::new(alloc);
-    for item in items {
-        let (word, number) = match item {
-            Item::Packet(place, bytes) if bytes[0] == 0x47 && bytes[187] == 0xAA => {
-                ("packet", *place)
-            }
-            Item::Packet(place, _) => ("another packet", *place),
-            Item::Bad(place) => ("bad", *place),
-            Item::SyncLoss(place) => ("sync loss", *place),
-            Item::Lost(count) => ("lost", *count),
-        };
-        text.push_str(format!(in alloc; "{word} {number}; ")?.as_str())?;
-    }
-    Ok(format!(in alloc; "{}", text.trim_end())?)
+/// What an item tells.
+fn told_of(item: &Item) -> Told {
+    let (kind, number) = match item {
+        Item::Packet(place, bytes) if bytes[0] == 0x47 && bytes[187] == 0xAA => {
+            (Kind::Packet, *place)
+        }
+        Item::Packet(place, _) => (Kind::OtherPacket, *place),
+        Item::Bad(place) => (Kind::Bad, *place),
+        Item::SyncLoss(place) => (Kind::SyncLoss, *place),
+        Item::Lost(count) => (Kind::Lost, *count),
+    };
+    Told { kind, number }
 }
 
-/// Nothing more comes.
-fn finish(framer: Framer, items: &mut Vec<Item>) -> Result<()> {
-    match framer.finish(items) {
-        Ok(()) => Ok(()),
+/// Adds what items tell.
+fn add_told(told: &mut Vec<Told>, items: &[Item]) -> Result<(), AllocError> {
+    for item in items {
+        told.push(told_of(item))?;
+    }
+    Ok(())
+}
+
+/// Prints what was told.
+fn print_told<W: Write>(told: &[Told], out: &mut W) -> io::Result<()> {
+    let mut between = "";
+    for one in told {
+        let (word, number) = (one.kind.word(), one.number);
+        write!(out, "{between}{word} {number};")?;
+        between = " ";
+    }
+    Ok(())
+}
+
+/// Nothing more comes: what that tells is added.
+fn finish(alloc: Global, framer: Framer, told: &mut Vec<Told>) -> Result<()> {
+    let mut items = Vec::new(alloc);
+    match framer.finish(&mut items) {
+        Ok(()) => Ok(add_told(told, &items)?),
         Err((_, fault)) => Err(Error::from(fault)),
     }
 }
 
 /// What a framer tells that is fed these bytes in pieces of this size.
-fn in_pieces(alloc: Global, format: PacketFormat, bytes: &[u8], size: usize) -> Result<String> {
+fn in_pieces(alloc: Global, format: PacketFormat, bytes: &[u8], size: usize) -> Result<Vec<Told>> {
     let mut framer = Framer::with_size(format, MAX_LIMIT);
     let mut items = Vec::new(alloc);
     for piece in bytes.chunks(size.max(1)) {
         framer.feed(piece, &mut items)?;
     }
-    finish(framer, &mut items)?;
-    text(alloc, &items)
+    let mut told = Vec::new(alloc);
+    add_told(&mut told, &items)?;
+    finish(alloc, framer, &mut told)?;
+    Ok(told)
 }
 
 /// What a framer tells that is refilled by these bytes in pieces of this size, over the items from before.
-fn in_refills(alloc: Global, format: PacketFormat, bytes: &[u8], size: usize) -> Result<String> {
+fn in_refills(alloc: Global, format: PacketFormat, bytes: &[u8], size: usize) -> Result<Vec<Told>> {
     let mut framer = Framer::with_size(format, MAX_LIMIT);
     let mut items = Vec::new(alloc);
-    let mut told = String::new(alloc);
+    let mut told = Vec::new(alloc);
     for piece in bytes.chunks(size.max(1)) {
         let count = framer.refill(piece, &mut items)?;
-        let new = text(alloc, items.get(..count).unwrap_or(&[]))?;
-        told.push_str(format!(in alloc; "{new} ")?.as_str())?;
+        add_told(&mut told, items.get(..count).unwrap_or(&[]))?;
     }
-    items.clear();
-    finish(framer, &mut items)?;
-    told.push_str(text(alloc, &items)?.as_str())?;
-    Ok(together(alloc, told.as_str())?)
+    finish(alloc, framer, &mut told)?;
+    Ok(told)
 }
 
-/// The words with one blank between them.
-fn together(alloc: Global, words: &str) -> Result<String> {
-    let mut text = String::new(alloc);
-    for word in words.split_ascii_whitespace() {
-        text.push_str(format!(in alloc; "{word} ")?.as_str())?;
-    }
-    Ok(format!(in alloc; "{}", text.trim_end())?)
-}
-
-/// Adds what a framer tells in pieces of some size, where it isn't what is told of the whole stream.
-fn add_other(alloc: Global, told: &mut String, whole: &str, size: u64, other: &str) -> Result<()> {
-    if other != whole {
-        told.push_str(format!(in alloc; " | in pieces of {size}: {other}")?.as_str())?;
-    }
-    Ok(())
-}
-
-/// `frame SIZE PIECES,.. BYTES`: what is told of a stream of packets of this size. Fed in pieces of these sizes it tells the same, or
-/// what it tells stands behind that.
-pub fn framed(alloc: Global, names: &Names, words: &str) -> Result<String> {
-    let (format, words) = first_word(words);
-    let (sizes, words) = first_word(words);
-    let format = format_of(format)?;
-    let bytes = names.bytes(words)?;
+/// What is told of a whole stream.
+fn whole(alloc: Global, format: PacketFormat, bytes: &[u8]) -> Result<Vec<Told>> {
     let pieces = vec![in alloc; bytes.to_vec(alloc)?]?;
     let items = match format {
         PacketFormat::Ts188 => frame(alloc, &pieces)?,
         format => frame_with_size(alloc, format, &pieces)?,
     };
-    let whole = text(alloc, &items)?;
-    let mut told = format!(in alloc; "{whole}")?;
-    for size in &numbers(alloc, sizes)? {
-        let other = in_pieces(alloc, format, &bytes, *size as usize)?;
-        add_other(alloc, &mut told, &whole, *size, &other)?;
-    }
+    let mut told = Vec::new(alloc);
+    add_told(&mut told, &items)?;
     Ok(told)
 }
 
+/// Prints what is told of a stream in pieces of some size, where it isn't what is told of the whole stream.
+fn print_other<W: Write>(whole: &[Told], size: u64, other: &[Told], out: &mut W) -> io::Result<()> {
+    if whole == other {
+        return Ok(());
+    }
+    write!(out, " | in pieces of {size}: ")?;
+    print_told(other, out)
+}
+
+/// `frame SIZE PIECES,.. BYTES`: what is told of a stream of packets of this size. Fed in pieces of these sizes it tells the same, or
+/// what it tells stands behind that.
+pub fn framed<W: Write>(alloc: Global, names: &Names, words: &str, out: &mut W) -> Result<()> {
+    let (format, words) = first_word(words);
+    let (sizes, words) = first_word(words);
+    let format = format_of(format)?;
+    let bytes = names.bytes(words)?;
+    let whole = whole(alloc, format, &bytes)?;
+    print_told(&whole, out)?;
+    for size in &numbers(alloc, sizes)? {
+        let other = in_pieces(alloc, format, &bytes, *size as usize)?;
+        print_other(&whole, *size, &other, out)?;
+    }
+    Ok(())
+}
+
 /// `refill SIZE PIECES,.. BYTES`: the same of a framer that is refilled.
-pub fn refilled(alloc: Global, names: &Names, words: &str) -> Result<String> {
+pub fn refilled<W: Write>(alloc: Global, names: &Names, words: &str, out: &mut W) -> Result<()> {
     let (format, words) = first_word(words);
     let (sizes, words) = first_word(words);
     let format = format_of(format)?;
     let bytes = names.bytes(words)?;
     let whole = in_refills(alloc, format, &bytes, bytes.len())?;
-    let mut told = format!(in alloc; "{whole}")?;
+    print_told(&whole, out)?;
     for size in &numbers(alloc, sizes)? {
         let other = in_refills(alloc, format, &bytes, *size as usize)?;
-        add_other(alloc, &mut told, &whole, *size, &other)?;
+        print_other(&whole, *size, &other, out)?;
     }
-    Ok(told)
+    Ok(())
 }
 
-/// What a piece is answered.
-fn answer(alloc: Global, answer: Result<(), FeedFault>) -> Result<String> {
+/// Prints what a piece is answered.
+fn print_answer<W: Write>(answer: Result<(), FeedFault>, out: &mut W) -> io::Result<()> {
     match answer {
-        Ok(()) => Ok(format!(in alloc; "taken")?),
-        Err(fault) => Ok(format!(in alloc; "{fault:?}: {fault}")?),
+        Ok(()) => write!(out, "taken"),
+        Err(fault) => write!(out, "{fault:?}: {fault}"),
     }
 }
 
-/// `limit BYTES_AT_MOST SIZE PIECE / ..`: what each piece of a stream with a limit is answered, and what is told behind it.
-pub fn limited(alloc: Global, names: &Names, words: &str) -> Result<String> {
-    let (limit, words) = first_word(words);
-    let (format, pieces) = first_word(words);
+/// Prints what is told in brackets.
+fn print_in_brackets<W: Write>(told: &[Told], out: &mut W) -> io::Result<()> {
+    write!(out, ", told [")?;
+    print_told(told, out)?;
+    write!(out, "]")
+}
+
+/// A framer of packets of this size that takes so many bytes at most.
+fn limited_framer(format: &str, limit: &str) -> Result<Framer> {
     let limit = number(limit)?;
     if limit > MAX_LIMIT {
         bail!("a limit out of its range");
     }
-    let mut framer = match format_of(format)? {
+    Ok(match format_of(format)? {
         PacketFormat::Ts188 => Framer::with_limit(limit),
         format => Framer::with_size(format, limit),
-    };
-    let mut items = Vec::new(alloc);
-    let mut told = String::new(alloc);
+    })
+}
+
+/// `limit BYTES_AT_MOST SIZE PIECE / ..`: what each piece of a stream with a limit is answered, and what is told behind it.
+pub fn limited<W: Write>(alloc: Global, names: &Names, words: &str, out: &mut W) -> Result<()> {
+    let (limit, words) = first_word(words);
+    let (format, pieces) = first_word(words);
+    let mut framer = limited_framer(format, limit)?;
     for piece in pieces.split(" / ") {
-        items.clear();
-        let fed = framer.feed(&names.bytes(piece)?, &mut items);
-        let (fed, items) = (answer(alloc, fed)?, text(alloc, &items)?);
-        told.push_str(format!(in alloc; "{fed}, told [{items}] | ")?.as_str())?;
+        let bytes = names.bytes(piece)?;
+        let mut items = Vec::new(alloc);
+        print_answer(framer.feed(&bytes, &mut items), out)?;
+        let mut told = Vec::new(alloc);
+        add_told(&mut told, &items)?;
+        print_in_brackets(&told, out)?;
+        write!(out, " | ")?;
     }
-    items.clear();
-    finish(framer, &mut items)?;
-    Ok(format!(in alloc; "{told}end, told [{}]", text(alloc, &items)?)?)
+    let mut told = Vec::new(alloc);
+    finish(alloc, framer, &mut told)?;
+    write!(out, "end")?;
+    print_in_brackets(&told, out)?;
+    Ok(())
 }

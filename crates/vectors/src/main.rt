@@ -5,26 +5,30 @@
 
 mod acquiring;
 mod analysing;
+mod buffering;
 mod calls;
 mod framing;
 mod names;
 mod numbers;
 mod packets;
 mod printed;
+mod rhythm;
 mod sections;
 mod table_calls;
+mod told;
 
-use crate::calls::told_of;
+use crate::calls::tell;
 use crate::names::Names;
 use anyhow::Result;
+use std::io::{BufWriter, Write};
 
 fn main(rt: HostRuntime) -> Result<()> {
     let alloc = rt.alloc();
     let mut names = Names::new(alloc);
+    let mut out = BufWriter::new(alloc, rt.stdout())?;
     for line in rt.lines(alloc) {
-        if let Some(text) = told_of(alloc, &mut names, line?.as_str())? {
-            println!(rt; "{text}")?;
-        }
+        tell(alloc, &mut names, line?.as_str(), &mut out)?;
     }
+    out.flush()?;
     Ok(())
 }

@@ -2,9 +2,11 @@
 
 use crate::names::Names;
 use crate::numbers::{first_word, number, numbers, sixteen_bits};
-use crate::printed::{printed, yes_or_no};
+use crate::printed::{print_bytes, yes_or_no};
 use anyhow::{Error, Result, bail};
 use std::alloc::Global;
+use std::io;
+use std::io::Write;
 use tspkt::{
     HIGHEST_RATE, LOWEST_RATE, MAX_LIMIT, Packet, PacketFormat, PositionClock, follows, null,
     rewrite, time,
@@ -26,95 +28,122 @@ pub fn packet_of(bytes: &[u8]) -> Result<Packet> {
     Packet::read(whole(bytes)?).map_err(Error::from)
 }
 
-/// `packet BYTES`: its fields, or the first thing in which it misses the layout.
-pub fn fields(alloc: Global, bytes: &[u8]) -> Result<String> {
-    let packet = match Packet::read(whole(bytes)?) {
-        Ok(packet) => packet,
-        Err(fault) => return Ok(format!(in alloc; "{fault:?}: {fault}")?),
-    };
-    let head = format!(in alloc;
-        "unit_start {} pid 0x{:04x} scrambling {} counter {}",
+/// The packet of these words.
+fn named(names: &Names, words: &str) -> Result<Packet> {
+    let bytes = names.bytes(words)?;
+    packet_of(&bytes)
+}
+
+/// Prints the fields of a packet.
+fn print_fields<W: Write>(packet: &Packet, out: &mut W) -> io::Result<()> {
+    write!(
+        out,
+        "unit_start {} pid 0x{:04x} ",
         yes_or_no(packet.unit_start()),
-        packet.pid(),
+        packet.pid()
+    )?;
+    write!(
+        out,
+        "scrambling {} counter {} ",
         packet.scrambling(),
         packet.counter()
     )?;
     let length = packet.payload().len();
-    let rest = format!(in alloc;
-        "payload {} of {length} discontinuity {} pcr {:?} byte 11 0x{:02x}",
-        yes_or_no(packet.has_payload()),
-        yes_or_no(packet.discontinuity()),
-        packet.pcr(),
-        packet.bytes()[11]
+    write!(
+        out,
+        "payload {} of {length} ",
+        yes_or_no(packet.has_payload())
     )?;
-    Ok(format!(in alloc; "{head} {rest}")?)
+    let (discontinuity, pcr) = (yes_or_no(packet.discontinuity()), packet.pcr());
+    let byte = packet.bytes()[11];
+    write!(
+        out,
+        "discontinuity {discontinuity} pcr {pcr:?} byte 11 0x{byte:02x}"
+    )
+}
+
+/// `packet BYTES`: its fields, or the first thing in which it misses the layout.
+pub fn fields<W: Write>(bytes: &[u8], out: &mut W) -> Result<()> {
+    match Packet::read(whole(bytes)?) {
+        Ok(packet) => print_fields(&packet, out)?,
+        Err(fault) => write!(out, "{fault:?}: {fault}")?,
+    }
+    Ok(())
 }
 
 /// `send PID DELAY BYTES`: the packet on that PID, so many ticks later.
-pub fn sent(alloc: Global, names: &Names, words: &str) -> Result<String> {
+pub fn sent<W: Write>(names: &Names, words: &str, out: &mut W) -> Result<()> {
     let (pid, words) = first_word(words);
     let (delay, words) = first_word(words);
     let (pid, delay) = (sixteen_bits(pid)?, number(delay)?);
-    let packet = packet_of(&names.bytes(words)?)?;
+    let packet = named(names, words)?;
     if pid > 0x1FFF {
         bail!("{pid} is no PID");
     }
-    printed(alloc, rewrite(&packet, pid, delay).bytes())
+    print_bytes(rewrite(&packet, pid, delay).bytes(), out)?;
+    Ok(())
 }
 
 /// `count COUNTER BYTES`: the packet with that counter.
-pub fn counted(alloc: Global, names: &Names, words: &str) -> Result<String> {
+pub fn counted<W: Write>(names: &Names, words: &str, out: &mut W) -> Result<()> {
     let (counter, words) = first_word(words);
     let counter = (number(counter)? % 16) as u8;
-    let packet = packet_of(&names.bytes(words)?)?;
-    printed(alloc, packet.with_counter(counter).bytes())
+    let packet = named(names, words)?;
+    print_bytes(packet.with_counter(counter).bytes(), out)?;
+    Ok(())
 }
 
 /// `null`: the null packet.
-pub fn null_packet(alloc: Global) -> Result<String> {
-    printed(alloc, null().bytes())
+pub fn print_null<W: Write>(out: &mut W) -> Result<()> {
+    print_bytes(null().bytes(), out)?;
+    Ok(())
+}
+
+/// Whether the next packet follows the last one, where the one before that has these words, or is none where they are `-`.
+fn is_followed(names: &Names, before: &str, last: &Packet, next: &Packet) -> Result<bool> {
+    if before == "-" {
+        return Ok(follows(None, last, next));
+    }
+    let before = named(names, before)?;
+    Ok(follows(Some(&before), last, next))
 }
 
 /// `follows BEFORE / LAST / NEXT`: whether the next packet follows the last one, where `-` is no packet before that.
-pub fn followed(alloc: Global, names: &Names, words: &str) -> Result<String> {
+pub fn followed<W: Write>(names: &Names, words: &str, out: &mut W) -> Result<()> {
     let Some((before, words)) = words.split_once(" / ") else {
         bail!("one packet alone");
     };
     let Some((last, next)) = words.split_once(" / ") else {
         bail!("two packets alone");
     };
-    let (last, next) = (
-        packet_of(&names.bytes(last)?)?,
-        packet_of(&names.bytes(next)?)?,
-    );
-    let told = if before == "-" {
-        follows(None, &last, &next)
-    } else {
-        follows(Some(&packet_of(&names.bytes(before)?)?), &last, &next)
-    };
-    Ok(format!(in alloc; "{}", yes_or_no(told))?)
+    let last = named(names, last)?;
+    let next = named(names, next)?;
+    let told = yes_or_no(is_followed(names, before, &last, &next)?);
+    write!(out, "{told}")?;
+    Ok(())
 }
 
 /// `copy FIRST / SECOND`: whether these are copies.
-pub fn copied(alloc: Global, names: &Names, words: &str) -> Result<String> {
+pub fn copied<W: Write>(names: &Names, words: &str, out: &mut W) -> Result<()> {
     let Some((first, second)) = words.split_once(" / ") else {
         bail!("one packet alone");
     };
-    let (first, second) = (
-        packet_of(&names.bytes(first)?)?,
-        packet_of(&names.bytes(second)?)?,
-    );
-    Ok(format!(in alloc; "{}", yes_or_no(first.is_copy(&second)))?)
+    let first = named(names, first)?;
+    let second = named(names, second)?;
+    let told = yes_or_no(first.is_copy(&second));
+    write!(out, "{told}")?;
+    Ok(())
 }
 
 /// `time POSITION RATE`: the time of the position, in ticks.
-pub fn time_of(alloc: Global, words: &str) -> Result<String> {
+pub fn time_of<W: Write>(words: &str, out: &mut W) -> Result<()> {
     let (position, rate) = first_word(words);
     let (position, rate) = (number(position)?, number(rate)?);
     if position > HIGHEST_POSITION || rate == 0 {
         bail!("a position or rate out of its range");
     }
-    Ok(format!(in alloc; "{}", time(position, rate))?)
+    write!(out, "{}", time(position, rate))?;
+    Ok(())
 }
 
 /// The size of packets: 188 or 204.
@@ -126,25 +155,30 @@ pub fn format_of(word: &str) -> Result<PacketFormat> {
     }
 }
 
-/// `clock SIZE RATE POSITION,..`: the times of the packets at these positions, in ticks.
-pub fn clock(alloc: Global, words: &str) -> Result<String> {
-    let (size, words) = first_word(words);
-    let (rate, positions) = first_word(words);
-    let rate = number(rate)?;
+/// The clock of a stream of this packet size and rate.
+fn clock_of(size: &str, rate: u64) -> Result<PositionClock> {
     if rate < LOWEST_RATE || rate > HIGHEST_RATE {
         bail!("a rate out of its range");
     }
-    let mut clock = match format_of(size)? {
+    Ok(match format_of(size)? {
         PacketFormat::Ts188 => PositionClock::new(rate),
         format => PositionClock::with_size(format, rate),
-    };
-    let mut text = String::new(alloc);
+    })
+}
+
+/// `clock SIZE RATE POSITION,..`: the times of the packets at these positions, in ticks.
+pub fn clock<W: Write>(alloc: Global, words: &str, out: &mut W) -> Result<()> {
+    let (size, words) = first_word(words);
+    let (rate, positions) = first_word(words);
+    let mut clock = clock_of(size, number(rate)?)?;
+    let mut between = "";
     for position in &numbers(alloc, positions)? {
         if *position > MAX_LIMIT {
             bail!("a position out of its range");
         }
         clock.go_to(*position);
-        text.push_str(format!(in alloc; "{} ", clock.time())?.as_str())?;
+        write!(out, "{between}{}", clock.time())?;
+        between = " ";
     }
-    Ok(format!(in alloc; "{}", text.trim_end())?)
+    Ok(())
 }

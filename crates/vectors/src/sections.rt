@@ -3,14 +3,18 @@
 use crate::names::Names;
 use crate::numbers::{first_word, number, sixteen_bits};
 use crate::packets::packet_of;
+use crate::printed::print_digits;
 use anyhow::{Result, bail};
 use section::{Told, assemble, crc, packets_of};
 use std::alloc::Global;
+use std::io;
+use std::io::Write;
 use tspkt::Packet;
 
 /// `crc BYTES`: the register over the bytes.
-pub fn crc_register(alloc: Global, bytes: &[u8]) -> Result<String> {
-    Ok(format!(in alloc; "0x{:08x}", crc(bytes))?)
+pub fn crc_register<W: Write>(bytes: &[u8], out: &mut W) -> Result<()> {
+    write!(out, "0x{:08x}", crc(bytes))?;
+    Ok(())
 }
 
 /// The packets of a section on a PID, from this counter on.
@@ -21,31 +25,28 @@ pub fn packets(alloc: Global, section: &[u8], pid: u16, counter: u64) -> Result<
     Ok(packets_of(alloc, section, pid, (counter % 16) as u8)?)
 }
 
-/// A section: its length, the register over all but its CRC_32, and that.
-fn section_text(alloc: Global, section: &[u8]) -> Result<String> {
-    let length = section.len().saturating_sub(4);
-    let (front, last) = section.split_at(length);
-    let last = hex::encode(alloc, last)?;
-    Ok(format!(in alloc;
-        "section of {} 0x{:08x} {last}; ",
-        section.len(),
-        crc(front)
-    )?)
+/// Prints a section: its length, the register over all but its CRC_32, and that.
+fn print_section<W: Write>(section: &[u8], out: &mut W) -> io::Result<()> {
+    let (front, last) = section.split_at(section.len().saturating_sub(4));
+    write!(out, "section of {} 0x{:08x} ", section.len(), crc(front))?;
+    print_digits(last, out)?;
+    write!(out, ";")
 }
 
-/// What was told.
-fn text(alloc: Global, told: &[Told]) -> Result<String> {
-    let mut text = String::new(alloc);
+/// Prints what was told.
+fn print_told<W: Write>(told: &[Told], out: &mut W) -> io::Result<()> {
+    let mut between = "";
     for one in told {
-        let word = match one {
-            Told::Section(section) => section_text(alloc, section.as_slice())?,
-            Told::BadCrc => format!(in alloc; "bad CRC; ")?,
-            Told::TooLong => format!(in alloc; "too long; ")?,
-            Told::Cut => format!(in alloc; "cut; ")?,
-        };
-        text.push_str(word.as_str())?;
+        write!(out, "{between}")?;
+        match one {
+            Told::Section(section) => print_section(section.as_slice(), out)?,
+            Told::BadCrc => write!(out, "bad CRC;")?,
+            Told::TooLong => write!(out, "too long;")?,
+            Told::Cut => write!(out, "cut;")?,
+        }
+        between = " ";
     }
-    Ok(format!(in alloc; "{}", text.trim_end())?)
+    Ok(())
 }
 
 /// How many stuffing bytes stand at the end.
@@ -60,26 +61,28 @@ fn stuffing(bytes: &[u8]) -> usize {
     count
 }
 
-/// A packet of a section: its first six bytes, its last four, and how many stuffing bytes it ends with.
-fn packet_text(alloc: Global, packet: &Packet) -> Result<String> {
+/// Prints a packet of a section: its first six bytes, its last four, and how many stuffing bytes it ends with.
+fn print_packet<W: Write>(packet: &Packet, out: &mut W) -> io::Result<()> {
     let (head, tail) = packet.bytes().split_at(6);
-    let last = tail.get(178..).unwrap_or(&[]);
-    let (head, last) = (hex::encode(alloc, head)?, hex::encode(alloc, last)?);
-    Ok(format!(in alloc; "{head}..{last} stuffed {}, ", stuffing(tail))?)
+    print_digits(head, out)?;
+    write!(out, "..")?;
+    print_digits(tail.get(178..).unwrap_or(&[]), out)?;
+    write!(out, " stuffed {}, ", stuffing(tail))
 }
 
 /// `carry PID COUNTER BYTES`: the packets of a section, and what they tell.
-pub fn carried(alloc: Global, names: &Names, words: &str) -> Result<String> {
+pub fn carried<W: Write>(alloc: Global, names: &Names, words: &str, out: &mut W) -> Result<()> {
     let (pid, words) = first_word(words);
     let (counter, words) = first_word(words);
     let section = names.bytes(words)?;
     let packets = packets(alloc, &section, sixteen_bits(pid)?, number(counter)?)?;
-    let mut told = String::new(alloc);
     for packet in &packets {
-        told.push_str(packet_text(alloc, packet)?.as_str())?;
+        print_packet(packet, out)?;
     }
+    write!(out, "| ")?;
     let again = assemble(alloc, &packets)?;
-    Ok(format!(in alloc; "{told}| {}", text(alloc, &again)?)?)
+    print_told(&again, out)?;
+    Ok(())
 }
 
 /// A packet of PID 0x0100: `START COUNTER PAYLOAD`, where START is 1 at a payload unit start and else 0. The payload is stuffed.
@@ -102,11 +105,12 @@ fn packet(names: &Names, words: &str) -> Result<Packet> {
 }
 
 /// `assemble PACKET / ..`: what these packets tell.
-pub fn assembled(alloc: Global, names: &Names, words: &str) -> Result<String> {
+pub fn assembled<W: Write>(alloc: Global, names: &Names, words: &str, out: &mut W) -> Result<()> {
     let mut packets = Vec::new(alloc);
     for words in words.split(" / ") {
         packets.push(packet(names, words)?)?;
     }
     let told = assemble(alloc, &packets)?;
-    text(alloc, &told)
+    print_told(&told, out)?;
+    Ok(())
 }

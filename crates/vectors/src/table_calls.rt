@@ -1,201 +1,200 @@
 //! Calls on tables.
 
-use crate::printed::yes_or_no;
+use crate::printed::{print_digits, yes_or_no};
 use anyhow::Result;
 use std::alloc::Global;
+use std::io;
+use std::io::Write;
 use tables::{
     DescriptorLoop, Header, Nit, NitRow, Pat, PatRow, Pmt, PmtRow, Sdt, SdtRow, ServiceDescriptor,
     TableFault, WriteFault, are_whole, has_ca_descriptor,
 };
 
 /// `pat BYTES`, `pmt`, `nit` or `sdt`: what the table has, and whether it is written as it was; or its fault.
-pub fn table(alloc: Global, name: &str, bytes: &[u8]) -> Result<String> {
-    let read = match name {
-        "pat" => pat(alloc, bytes)?,
-        "pmt" => pmt(alloc, bytes)?,
-        "nit" => nit(alloc, bytes)?,
-        _ => sdt(alloc, bytes)?,
-    };
-    match read {
-        Ok(text) => Ok(text),
-        Err(fault) => Ok(format!(in alloc; "{fault:?}: {fault}")?),
+pub fn table<W: Write>(alloc: Global, name: &str, bytes: &[u8], out: &mut W) -> io::Result<()> {
+    match name {
+        "pat" => pat(alloc, bytes, out),
+        "pmt" => pmt(alloc, bytes, out),
+        "nit" => nit(alloc, bytes, out),
+        _ => sdt(alloc, bytes, out),
     }
 }
 
-/// A header.
-fn head(alloc: Global, header: Header) -> Result<String> {
-    Ok(format!(in alloc;
-        "extension {} version {} current {} section {} of {}:",
-        header.table_id_extension,
-        header.version_number,
-        yes_or_no(header.current_next_indicator),
-        header.section_number,
-        header.last_section_number
-    )?)
+fn print_fault<W: Write>(fault: TableFault, out: &mut W) -> io::Result<()> {
+    write!(out, "{fault:?}: {fault}")
 }
 
-/// Whether the bytes were written.
-fn end(alloc: Global, written: Result<Vec<u8>, WriteFault>, bytes: &[u8]) -> Result<String> {
+fn print_header<W: Write>(header: Header, out: &mut W) -> io::Result<()> {
+    write!(
+        out,
+        "extension {} version {} current {} ",
+        header.table_id_extension,
+        header.version_number,
+        yes_or_no(header.current_next_indicator)
+    )?;
+    write!(
+        out,
+        "section {} of {}:",
+        header.section_number, header.last_section_number
+    )
+}
+
+/// Prints whether a table was written as it was.
+fn print_end<W: Write>(
+    written: Result<Vec<u8>, WriteFault>,
+    bytes: &[u8],
+    out: &mut W,
+) -> io::Result<()> {
     let told = match written {
         Ok(written) => yes_or_no(written.as_slice() == bytes),
         Err(_) => "refused",
     };
-    Ok(format!(in alloc; "written again: {told}")?)
+    write!(out, " written again: {told}")
 }
 
-/// Descriptors in hex digits.
-fn in_digits(alloc: Global, descriptors: &DescriptorLoop) -> Result<String> {
-    Ok(hex::encode(alloc, descriptors.bytes())?)
+/// Prints descriptors in brackets.
+fn print_descriptors<W: Write>(descriptors: &DescriptorLoop, out: &mut W) -> io::Result<()> {
+    write!(out, " [")?;
+    print_digits(descriptors.bytes(), out)?;
+    write!(out, "]")
 }
 
-/// What a table's text ends with: whether it is written as it was.
-fn ended(
-    alloc: Global,
-    text: &str,
-    written: Result<Vec<u8>, WriteFault>,
-    bytes: &[u8],
-) -> Result<String> {
-    let end = end(alloc, written, bytes)?;
-    Ok(format!(in alloc; "{text} {end}")?)
-}
-
-/// A program of a PAT.
-fn pat_row(alloc: Global, row: &PatRow) -> Result<String> {
-    Ok(format!(in alloc; " {} 0x{:04x},", row.program_number, row.pid)?)
-}
-
-fn pat_text(alloc: Global, pat: &Pat) -> Result<String> {
-    let mut text = head(alloc, pat.header())?;
+fn print_pat<W: Write>(pat: &Pat, out: &mut W) -> io::Result<()> {
+    print_header(pat.header(), out)?;
     for row in pat.rows() {
-        text.push_str(pat_row(alloc, row)?.as_str())?;
+        let PatRow {
+            program_number,
+            pid,
+        } = *row;
+        write!(out, " {program_number} 0x{pid:04x},")?;
     }
-    Ok(text)
+    Ok(())
 }
 
-fn pat(alloc: Global, bytes: &[u8]) -> Result<Result<String, TableFault>> {
+fn pat<W: Write>(alloc: Global, bytes: &[u8], out: &mut W) -> io::Result<()> {
     match Pat::read(alloc, bytes) {
         Ok(pat) => {
-            let text = pat_text(alloc, &pat)?;
-            Ok(Ok(ended(alloc, text.as_str(), pat.write(alloc), bytes)?))
+            print_pat(&pat, out)?;
+            print_end(pat.write(alloc), bytes, out)
         }
-        Err(fault) => Ok(Err(fault)),
+        Err(fault) => print_fault(fault, out),
     }
 }
 
-/// An elementary stream of a PMT.
-fn pmt_row(alloc: Global, row: &PmtRow) -> Result<String> {
-    let descriptors = in_digits(alloc, &row.descriptors)?;
-    let (kind, pid) = (row.stream_type, row.elementary_pid);
-    Ok(format!(in alloc; " {kind} 0x{pid:04x} [{descriptors}],")?)
+/// Prints an elementary stream of a PMT.
+fn print_pmt_row<W: Write>(row: &PmtRow, out: &mut W) -> io::Result<()> {
+    write!(out, " {} 0x{:04x}", row.stream_type, row.elementary_pid)?;
+    print_descriptors(&row.descriptors, out)?;
+    write!(out, ",")
 }
 
-fn pmt_text(alloc: Global, pmt: &Pmt) -> Result<String> {
-    let head = head(alloc, pmt.header())?;
-    let info = in_digits(alloc, pmt.program_info())?;
-    let mut text = format!(in alloc; "{head} PCR 0x{:04x} [{info}]", pmt.pcr_pid())?;
+fn print_pmt<W: Write>(pmt: &Pmt, out: &mut W) -> io::Result<()> {
+    print_header(pmt.header(), out)?;
+    write!(out, " PCR 0x{:04x}", pmt.pcr_pid())?;
+    print_descriptors(pmt.program_info(), out)?;
     for row in pmt.rows() {
-        text.push_str(pmt_row(alloc, row)?.as_str())?;
+        print_pmt_row(row, out)?;
     }
-    Ok(text)
+    Ok(())
 }
 
-fn pmt(alloc: Global, bytes: &[u8]) -> Result<Result<String, TableFault>> {
+fn pmt<W: Write>(alloc: Global, bytes: &[u8], out: &mut W) -> io::Result<()> {
     match Pmt::read(alloc, bytes) {
         Ok(pmt) => {
-            let text = pmt_text(alloc, &pmt)?;
-            Ok(Ok(ended(alloc, text.as_str(), pmt.write(alloc), bytes)?))
+            print_pmt(&pmt, out)?;
+            print_end(pmt.write(alloc), bytes, out)
         }
-        Err(fault) => Ok(Err(fault)),
+        Err(fault) => print_fault(fault, out),
     }
 }
 
-/// A transport stream of a NIT.
-fn nit_row(alloc: Global, row: &NitRow) -> Result<String> {
-    let descriptors = in_digits(alloc, &row.descriptors)?;
+/// Prints a transport stream of an NIT.
+fn print_nit_row<W: Write>(row: &NitRow, out: &mut W) -> io::Result<()> {
     let (stream, network) = (row.transport_stream_id, row.original_network_id);
-    Ok(format!(in alloc; " {stream} of {network} [{descriptors}],")?)
+    write!(out, " {stream} of {network}")?;
+    print_descriptors(&row.descriptors, out)?;
+    write!(out, ",")
 }
 
-fn nit_text(alloc: Global, nit: &Nit) -> Result<String> {
-    let head = head(alloc, nit.header())?;
-    let network = in_digits(alloc, nit.network_descriptors())?;
-    let mut text = format!(in alloc; "{head} [{network}]")?;
+fn print_nit<W: Write>(nit: &Nit, out: &mut W) -> io::Result<()> {
+    print_header(nit.header(), out)?;
+    print_descriptors(nit.network_descriptors(), out)?;
     for row in nit.rows() {
-        text.push_str(nit_row(alloc, row)?.as_str())?;
+        print_nit_row(row, out)?;
     }
-    Ok(text)
+    Ok(())
 }
 
-fn nit(alloc: Global, bytes: &[u8]) -> Result<Result<String, TableFault>> {
+fn nit<W: Write>(alloc: Global, bytes: &[u8], out: &mut W) -> io::Result<()> {
     match Nit::read(alloc, bytes) {
         Ok(nit) => {
-            let text = nit_text(alloc, &nit)?;
-            Ok(Ok(ended(alloc, text.as_str(), nit.write(alloc), bytes)?))
+            print_nit(&nit, out)?;
+            print_end(nit.write(alloc), bytes, out)
         }
-        Err(fault) => Ok(Err(fault)),
+        Err(fault) => print_fault(fault, out),
     }
 }
 
-/// The flags of a service in an SDT.
-fn sdt_flags(alloc: Global, row: &SdtRow) -> Result<String> {
-    Ok(format!(in alloc;
-        "schedule {} present {} status {} scrambled {}",
+/// Prints a service of an SDT.
+fn print_sdt_row<W: Write>(row: &SdtRow, out: &mut W) -> io::Result<()> {
+    write!(
+        out,
+        " {} schedule {} present {} ",
+        row.service_id,
         yes_or_no(row.eit_schedule_flag),
-        yes_or_no(row.eit_present_following_flag),
-        row.running_status,
-        yes_or_no(row.free_ca_mode)
-    )?)
+        yes_or_no(row.eit_present_following_flag)
+    )?;
+    let (status, scrambled) = (row.running_status, yes_or_no(row.free_ca_mode));
+    write!(out, "status {status} scrambled {scrambled} ")?;
+    print_service(&row.descriptors, out)?;
+    write!(out, ",")
 }
 
-/// A service of an SDT.
-fn sdt_row(alloc: Global, row: &SdtRow) -> Result<String> {
-    let flags = sdt_flags(alloc, row)?;
-    let service = service(alloc, &row.descriptors)?;
-    Ok(format!(in alloc; " {} {flags} {service},", row.service_id)?)
-}
-
-fn sdt_text(alloc: Global, sdt: &Sdt) -> Result<String> {
-    let head = head(alloc, sdt.header())?;
-    let mut text = format!(in alloc; "{head} network {}", sdt.original_network_id())?;
+fn print_sdt<W: Write>(sdt: &Sdt, out: &mut W) -> io::Result<()> {
+    print_header(sdt.header(), out)?;
+    write!(out, " network {}", sdt.original_network_id())?;
     for row in sdt.rows() {
-        text.push_str(sdt_row(alloc, row)?.as_str())?;
+        print_sdt_row(row, out)?;
     }
-    Ok(text)
+    Ok(())
 }
 
-fn sdt(alloc: Global, bytes: &[u8]) -> Result<Result<String, TableFault>> {
+fn sdt<W: Write>(alloc: Global, bytes: &[u8], out: &mut W) -> io::Result<()> {
     match Sdt::read(alloc, bytes) {
         Ok(sdt) => {
-            let text = sdt_text(alloc, &sdt)?;
-            Ok(Ok(ended(alloc, text.as_str(), sdt.write(alloc), bytes)?))
+            print_sdt(&sdt, out)?;
+            print_end(sdt.write(alloc), bytes, out)
         }
-        Err(fault) => Ok(Err(fault)),
+        Err(fault) => print_fault(fault, out),
     }
 }
 
-/// The first service descriptor whose lengths fill it: its type, and the names of its provider and its own in hex digits.
-fn service(alloc: Global, descriptors: &DescriptorLoop) -> Result<String> {
+/// Prints the first service descriptor whose lengths fill it: its type, and the names of its provider and its own in hex digits.
+fn print_service<W: Write>(descriptors: &DescriptorLoop, out: &mut W) -> io::Result<()> {
     let Some(found) = ServiceDescriptor::first_in(descriptors) else {
-        return Ok(format!(in alloc; "no service descriptor")?);
+        return write!(out, "no service descriptor");
     };
-    let provider = hex::encode(alloc, found.service_provider_name)?;
-    let name = hex::encode(alloc, found.service_name)?;
-    Ok(format!(in alloc; "service type {} [{provider}] [{name}]", found.service_type)?)
+    write!(out, "service type {} [", found.service_type)?;
+    print_digits(found.service_provider_name, out)?;
+    write!(out, "] [")?;
+    print_digits(found.service_name, out)?;
+    write!(out, "]")
 }
 
 /// `descriptors BYTES`: whether they are whole descriptors, and then whether there is a CA descriptor among them, and the first service
 /// descriptor.
-pub fn descriptors(alloc: Global, bytes: &[u8]) -> Result<String> {
+pub fn descriptors<W: Write>(alloc: Global, bytes: &[u8], out: &mut W) -> Result<()> {
     let whole = yes_or_no(are_whole(bytes));
     match DescriptorLoop::from_bytes(bytes.to_vec(alloc)?) {
         Ok(descriptors) => {
             let ca = yes_or_no(has_ca_descriptor(&descriptors));
-            let service = service(alloc, &descriptors)?;
-            Ok(format!(in alloc; "whole {whole}, CA {ca}, {service}")?)
+            write!(out, "whole {whole}, CA {ca}, ")?;
+            print_service(&descriptors, out)?;
         }
         Err(back) => {
             let same = yes_or_no(back.as_slice() == bytes);
-            Ok(format!(in alloc; "whole {whole}, came back {same}")?)
+            write!(out, "whole {whole}, came back {same}")?;
         }
     }
+    Ok(())
 }

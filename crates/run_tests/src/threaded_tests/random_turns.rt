@@ -1,9 +1,8 @@
 //! Runs whose gates hold their inputs back by random numbers: each writes what the run in one thread writes. A test makes 125 of
 //! them, so that it ends in time on a machine that is busy.
 
-use crate::threaded_tests::runs::written_in_one;
+use crate::threaded_tests::runs::{run_gated, written_in_one};
 use crate::threaded_tests::turn_gates::RandomGate;
-use crate::threaded_tests::turns::written;
 use anyhow::Result;
 use example::plan_with_rings;
 use plan::Plan;
@@ -24,6 +23,8 @@ fn run_random<T: Threads + Wait + Clock + Abort + Copy + Send + Drop + 'static>(
 ) -> Result<()> {
     let plan = plan_with_rings(alloc, room, room, &[0, 0])?;
     let serial_bytes = written_in_one(alloc, &plan)?;
+    // Four table packets and ten of the inputs.
+    assert_eq!(rt; serial_bytes.len(), 2_632);
     write_random(alloc, rt, &plan, &serial_bytes, runs)
 }
 
@@ -37,7 +38,7 @@ fn write_random<T: Threads + Wait + Clock + Abort + Copy + Send + Drop + 'static
 ) -> Result<()> {
     for run in runs {
         let gates = vec![in alloc; RandomGate::new(run, 0), RandomGate::new(run, 1)]?;
-        let bytes = written(alloc, rt, plan, gates)?;
+        let (bytes, _, _) = run_gated(alloc, rt, plan.copy(alloc)?, 1_000, gates)?;
         assert!(rt; bytes.as_slice() == serial_bytes, "run {run}");
     }
     Ok(())

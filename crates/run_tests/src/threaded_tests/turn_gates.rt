@@ -12,22 +12,7 @@ fn yield_often(turns: u32) {
     }
 }
 
-/// A gate that lets other threads go first so often at each of its points. It never says no.
-#[derive(Drop)]
-pub struct YieldGate {
-    pub turns: u32,
-}
-
-impl Gate for YieldGate {
-    ghost stops = { λ g. 0 };
-
-    fn pass(&mut self, _at: Point) -> bool {
-        yield_often(self.turns);
-        true
-    }
-}
-
-/// The same with another number at each point, from 0 to 7: the next one of a generator.
+/// A gate that lets other threads go first at each of its points, from 0 to 7 times: the next number of a generator. It never says no.
 #[derive(Drop)]
 pub struct RandomGate {
     generator: Pcg32,

@@ -1,0 +1,23 @@
+//! A writer over memory.
+
+use std::io;
+use std::io::{ErrorKind, Write};
+
+/// Keeps what is written.
+#[derive(Drop)]
+pub struct MemoryWriter {
+    pub bytes: Vec<u8>,
+}
+
+impl Write for MemoryWriter {
+    fn write(&mut self, buf: &[u8]) -> io::Result<usize> {
+        match self.bytes.extend_from_slice(buf) {
+            Ok(()) => Ok(buf.len()),
+            Err(_) => Err(io::Error::from(ErrorKind::OutOfMemory)),
+        }
+    }
+
+    fn flush(&mut self) -> io::Result<()> {
+        Ok(())
+    }
+}

@@ -1,3 +1,0 @@
-//! Framing where memory is wanted.
-
-mod framing;
