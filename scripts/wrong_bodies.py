@@ -1,0 +1,106 @@
+#!/usr/bin/env python3
+"""Tries wrong bodies beside the merge gate: the prover must refuse each.
+
+From anywhere: scripts/wrong_bodies.py WORDS. The words name folders of wrong-bodies; without words those are tried that aren't known to be
+refused in their crates as these stand now, and with `all` each of them, over what `rt ci` kept on this machine. It works in a copy, in
+which these bodies stand in the place of the must-fail edits, and prints a line for each. Of a crate whose bodies are all refused
+wrong-bodies/tried.txt then has a line: its name, and a checksum of its sources, definitions and proofs, and of these bodies. So where a
+crate changes its line is no longer right, and `scripts/edits.py`, which the gate calls, says so. The last line counts; the status is 1
+where a body was proved, couldn't be tried, or was refused for its names alone.
+"""
+
+import hashlib
+import re
+import shutil
+import subprocess
+import sys
+import tempfile
+from pathlib import Path
+
+TOP = Path(__file__).resolve().parent.parent
+BODIES = TOP / "wrong-bodies"
+TRIED = BODIES / "tried.txt"
+
+
+def checksum(name):
+    """The checksum of a crate and of its wrong bodies."""
+    crate = TOP / "crates" / name
+    files = [file for part in ("src", "specs", "proofs") for file in (crate / part).rglob("*") if file.is_file()]
+    total = hashlib.sha256()
+    for file in sorted([*files, *(BODIES / name).glob("*.edit")]):
+        total.update(f"{file.relative_to(TOP)} {hashlib.sha256(file.read_bytes()).hexdigest()}\n".encode())
+    return total.hexdigest()[:32]
+
+
+def all_names():
+    """The crates that have wrong bodies here."""
+    return sorted(folder.name for folder in BODIES.iterdir() if folder.is_dir())
+
+
+def read_tried():
+    """The crates whose bodies were all refused, and their checksums then."""
+    lines = TRIED.read_text().splitlines() if TRIED.exists() else []
+    return dict(line.split() for line in lines)
+
+
+def untried():
+    """The crates whose bodies aren't known to be refused as they stand."""
+    tried = read_tried()
+    return [name for name in all_names() if tried.get(name) != checksum(name)]
+
+
+def copy_to(folder, names):
+    """Copies the crates, those with these names with their wrong bodies in the place of their edits, and the others without."""
+    files = subprocess.run(["git", "ls-files", "-z", "-co", "--exclude-standard", "crates", "crates.txt", "HANDLES"],
+                           cwd=TOP, capture_output=True, check=True, text=True).stdout
+    for file in filter(None, files.split("\0")):
+        if "/must-fail/" not in file and (TOP / file).exists():
+            (folder / file).parent.mkdir(parents=True, exist_ok=True)
+            shutil.copy2(TOP / file, folder / file)
+    for name in names:
+        shutil.copytree(BODIES / name, folder / "crates" / name / "must-fail")
+
+
+def judged(log, name, edit):
+    """What the log says of a wrong body."""
+    said = re.search(rf"must-fail {name}/{edit}\.edit: (.*)", log)
+    return said[1] if said else "it was not tried"
+
+
+def is_refused(said):
+    """Whether this says that a body was refused by a clause."""
+    return said.startswith("refused") and "only because" not in said
+
+
+def main(words):
+    names = all_names() if words == ["all"] else words or untried()
+    unknown = [name for name in names if not (BODIES / name).is_dir()]
+    if unknown:
+        sys.exit(f"wrong-bodies has none of {', '.join(unknown)}")
+    before = {name: checksum(name) for name in names}
+    with tempfile.TemporaryDirectory() as made:
+        folder = Path(made)
+        copy_to(folder, names)
+        log = subprocess.run(["rt", "ci", *names], cwd=folder, stdout=subprocess.PIPE, stderr=subprocess.STDOUT).stdout.decode(errors="replace")
+    passed = failed = 0
+    for name in names:
+        wrong = 0
+        for edit in sorted(file.stem for file in (BODIES / name).glob("*.edit")):
+            said = judged(log, name, edit)
+            wrong += not is_refused(said)
+            passed += is_refused(said)
+            print(f"{name} {edit}: {said}")
+        failed += wrong
+        tried = read_tried()
+        tried.pop(name, None)
+        if not wrong and checksum(name) == before[name]:
+            tried[name] = before[name]
+        TRIED.write_text("".join(f"{crate} {total}\n" for crate, total in sorted(tried.items())))
+    if failed:
+        print(log[-4000:])
+    print(f"{passed} passed, {failed} failed")
+    return 1 if failed else 0
+
+
+if __name__ == "__main__":
+    sys.exit(main(sys.argv[1:]))
