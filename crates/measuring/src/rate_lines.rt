@@ -4,7 +4,7 @@ use crate::metered::Metered;
 use advice::{left_rate, packets_rate};
 use files::InputFile;
 use plan::Plan;
-use rate_meter::{Deviation, Measured, Meter, off_by};
+use rate_meter::{Change, Deviation, Measured, Meter, ProgramChange, off_by};
 use request::Stream;
 use std::io;
 use std::io::Write;
@@ -28,14 +28,67 @@ fn print_deviation<E: Write>(
     )
 }
 
-/// Says what is wrong with the rate of an input, if something is.
+/// How a program of a service of an input changed inside it, if it did.
+fn change_in<R, M: Meter>(reader: &Metered<R, M>, program: u16) -> Option<ProgramChange> {
+    reader.meter()?.change_of(program)
+}
+
+/// Whether a program of the input with this number changed inside it, of those that a plan takes.
+fn has_change<R, M: Meter>(plan: &Plan, number: usize, reader: &Metered<R, M>) -> bool {
+    for service in plan.request().services() {
+        if service.input == number && change_in(reader, service.program).is_some() {
+            return true;
+        }
+    }
+    false
+}
+
+/// Says how a program of an input changed inside it.
+fn print_change<E: Write>(
+    number: usize,
+    program: u16,
+    found: ProgramChange,
+    err: &mut E,
+) -> io::Result<()> {
+    let packet = found.packet;
+    write!(err, "program: input {number}: ")?;
+    match found.change {
+        Change::Left => write!(err, "program {program} left the PAT")?,
+        Change::Moved => write!(err, "the PMT of program {program} went to another PID")?,
+        Change::Pmt => write!(err, "the PMT of program {program} changed")?,
+    }
+    writeln!(err, " at packet {packet}, which isn't followed")
+}
+
+/// Says of each service of a plan whose program changed inside its input how it did.
+fn print_changes<R, M: Meter, E: Write>(
+    plan: &Plan,
+    readers: &[Metered<R, M>],
+    err: &mut E,
+) -> io::Result<()> {
+    for service in plan.request().services() {
+        let (input, program) = (service.input, service.program);
+        if let Some(reader) = readers.get(input)
+            && let Some(found) = change_in(reader, program)
+        {
+            print_change(input, program, found, err)?;
+        }
+    }
+    Ok(())
+}
+
+/// Says what is wrong with the rate of an input, if something is. Of one whose programs changed it isn't said that it is variable.
 fn print_rate<E: Write>(
     number: usize,
     measured: Measured,
     stated: u64,
+    has_changed: bool,
     err: &mut E,
 ) -> io::Result<()> {
     let (pid, rate) = (measured.pid, measured.rate);
+    if measured.is_variable && has_changed {
+        return Ok(());
+    }
     if measured.is_variable {
         return writeln!(
             err,
@@ -245,6 +298,13 @@ pub fn is_input_wrong<R, M: Meter>(plan: &Plan, readers: &[Metered<R, M>]) -> bo
             return true;
         }
     }
+    for service in plan.request().services() {
+        if let Some(reader) = readers.get(service.input)
+            && change_in(reader, service.program).is_some()
+        {
+            return true;
+        }
+    }
     has_low_leak(plan, readers) || has_scrambled(plan, readers)
 }
 
@@ -257,10 +317,14 @@ pub fn print_measured<R: InputFile, M: Meter, E: Write>(
 ) -> io::Result<()> {
     for (number, (input, reader)) in plan.inputs().iter().zip(readers.iter()).enumerate() {
         match reader.measured() {
-            Some(measured) => print_rate(number, measured, input.rate, err)?,
+            Some(measured) => {
+                let has_changed = has_change(plan, number, reader);
+                print_rate(number, measured, input.rate, has_changed, err)?;
+            }
             None => print_unmeasured(number, reader, err)?,
         }
     }
+    print_changes(plan, readers, err)?;
     print_sum(plan, readers, err)?;
     print_leaks(plan, readers, err)?;
     print_scrambled(plan, readers, err)
@@ -275,9 +339,11 @@ pub fn print_wrong_rates<R, M: Meter, E: Write>(
 ) -> io::Result<()> {
     for (number, (input, reader)) in plan.inputs().iter().zip(readers.iter()).enumerate() {
         if let Some(measured) = reader.measured() {
-            print_rate(number, measured, input.rate, err)?;
+            let has_changed = has_change(plan, number, reader);
+            print_rate(number, measured, input.rate, has_changed, err)?;
         }
     }
+    print_changes(plan, readers, err)?;
     print_leaks(plan, readers, err)?;
     print_scrambled(plan, readers, err)
 }

@@ -150,6 +150,7 @@ impl Clocks {
     }
 
     /// A packet was seen.
+    #[inline(always)]
     pub fn add(&mut self, seen: Seen)
         ensures { self.new.seen ≡ seen ∷ self.old.seen }
     {

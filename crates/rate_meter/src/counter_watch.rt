@@ -36,6 +36,7 @@ impl Model for CounterWatch {
 }
 
 /// Whether a packet has the counter that follows this one.
+#[inline(always)]
 fn is_next(before: u16, now: Seen) -> bool
     requires { before < 65535 }
     ensures { result ≡ is_next_of before now }
@@ -48,6 +49,7 @@ fn is_next(before: u16, now: Seen) -> bool
 }
 
 /// Whether a packet has the counter that follows the one that is kept so, if one is known.
+#[inline(always)]
 fn goes_on(kept: u16, now: Seen) -> bool
     ensures { result ≡ goes_on_behind kept now }
 {
@@ -56,6 +58,7 @@ fn goes_on(kept: u16, now: Seen) -> bool
 
 /// A counter broke off at a packet of the PID with this place, or not, and the packet has a PCR, or not: whether one broke off since the
 /// PID's newest PCR, up to the packet. With the PCR that is forgotten.
+#[inline(always)]
 fn cut_behind(cut: &mut Vec<bool>, place: usize, is_broken: bool, reads: bool) -> bool
     requires { place < length cut.old.items }
     ensures length { length cut.new.items ≡ length cut.old.items }
@@ -89,6 +92,7 @@ impl CounterWatch {
     }
 
     /// A packet was seen: whether a counter broke off between it and the newest PCR of its PID.
+    #[inline(always)]
     pub fn add(&mut self, seen: Seen) -> bool
         ensures seen { self.new ≡ seen ∷ self.old }
         ensures cut { result ≡ is_cut_off seen self.old }

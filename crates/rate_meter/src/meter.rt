@@ -5,6 +5,7 @@ ghost use Rattle.rate_meter.specs.Meter.{new_meter, shown_piece};
 ghost use Rattle.rate_meter.specs.Steps.{Shown};
 
 use crate::measured::Measured;
+use crate::program_change::ProgramChange;
 use std::alloc::{AllocError, Global};
 use tspkt::PacketFormat;
 
@@ -27,6 +28,9 @@ pub trait Meter {
 
     /// The rate of a PID, 0 to 0x1FFF, where the stream runs at this rate, in its unit.
     fn pid_rate(&self, rate: u64, pid: u16) -> u64;
+
+    /// How a program of the stream's PAT changed first, if it did.
+    fn change_of(&self, program: u16) -> Option<ProgramChange>;
 
     /// How many packets of a PID, 0 to 0x1FFF, are scrambled.
     fn scrambled_of(&self, pid: u16) -> u64;

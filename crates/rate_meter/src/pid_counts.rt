@@ -46,6 +46,7 @@ impl PidCounts {
     }
 
     /// Counts a packet.
+    #[inline(always)]
     pub fn add(&mut self, seen: Seen)
         ensures { self.new ≡ seen ∷ self.old }
     {

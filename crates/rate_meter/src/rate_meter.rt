@@ -8,8 +8,10 @@ use crate::counter_watch::CounterWatch;
 use crate::measured::Measured;
 use crate::meter::Meter;
 use crate::pid_counts::PidCounts;
+use crate::program_change::ProgramChange;
 use crate::seen::Seen;
 use crate::stepper::Stepper;
+use crate::table_watch::TableWatch;
 use std::alloc::{AllocError, Global};
 use std::marker::Model;
 use tspkt::{MAX_LIMIT, PacketFormat};
@@ -25,6 +27,7 @@ pub struct RateMeter {
     scrambled: PidCounts,
     counters: CounterWatch,
     clocks: Clocks,
+    tables: TableWatch,
 }
 
 impl Model for RateMeter {
@@ -41,6 +44,7 @@ impl Model for RateMeter {
 }
 
 /// Counts a packet that is scrambled, and no other.
+#[inline(always)]
 fn count_if_scrambled(scrambled: &mut PidCounts, seen: Seen)
     ensures { scrambled.new ≡ (if seen.is_scrambled then seen ∷ scrambled.old else scrambled.old) }
 {
@@ -67,10 +71,12 @@ impl RateMeter {
             scrambled: PidCounts::new(alloc)?,
             counters: CounterWatch::new(alloc)?,
             clocks: Clocks::new(alloc),
+            tables: TableWatch::new(alloc, format)?,
         })
     }
 
     /// A packet was seen.
+    #[inline(always)]
     fn see(&mut self, seen: Seen)
         ensures step { self.new.shown.step ≡ self.old.shown.step }
         ensures seen { self.new.shown.seen ≡ seen ∷ self.old.shown.seen }
@@ -82,6 +88,7 @@ impl RateMeter {
     }
 
     /// Takes bytes from the front of a piece, and answers how many.
+    #[inline(always)]
     fn advance(&mut self, piece: &[u8]) -> usize
         requires some { 0 < length piece.now }
         requires position { self.old.shown.step.position + length piece.now ≤ MAX_LIMIT }
@@ -92,6 +99,7 @@ impl RateMeter {
     {
         let (count, seen) = self.stepper.step(piece);
         if let Some(seen) = seen {
+            self.tables.look(seen.pid, self.stepper.position(), piece);
             self.see(seen);
         }
         count
@@ -141,6 +149,11 @@ impl RateMeter {
         self.counts.rate(rate, pid)
     }
 
+    /// How a program of the stream's PAT changed first, if it did; of the first 64 that a PAT named.
+    pub fn change_of(&self, program: u16) -> Option<ProgramChange> {
+        self.tables.change_of(program)
+    }
+
     /// Whether each PID with PCRs has its clock: no more than 64 have PCRs, and no memory was refused.
     pub fn is_whole(&self) -> bool
         ensures { result ≡ self.now.is_whole }
@@ -183,6 +196,10 @@ impl Meter for RateMeter {
 
     fn pid_rate(&self, rate: u64, pid: u16) -> u64 {
         RateMeter::pid_rate(self, rate, pid)
+    }
+
+    fn change_of(&self, program: u16) -> Option<ProgramChange> {
+        RateMeter::change_of(self, program)
     }
 
     fn scrambled_of(&self, pid: u16) -> u64 {

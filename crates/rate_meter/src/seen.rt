@@ -109,6 +109,7 @@ fn is_discontinuous(head: &[u8]) -> bool
 
 impl Seen {
     /// The same, where a PCR that isn't to go on from the one before it has the discontinuity indicator.
+    #[inline(always)]
     pub(crate) fn cut_off(self, is_cut_off: bool) -> Seen
         ensures { result ≡ marked self is_cut_off }
     {
@@ -151,6 +152,7 @@ fn is_scrambled(head: &[u8]) -> bool
 
 /// What is seen of the packet at a position by its first 12 bytes.
 #[tactic(auto, unfolding(crate::specs::Steps::seen_of))]
+#[inline(always)]
 pub(crate) fn seen_at(position: u64, head: &[u8]) -> Option<Seen>
     requires { length head.now ≡ 12 }
     ensures { result ≡ seen_of position head.now }

@@ -150,6 +150,7 @@ impl Stepper {
     }
 
     /// Takes the first 12 bytes of a packet at once, and answers the packet, if it is in sync.
+    #[inline(always)]
     fn take_head(&mut self, head: &[u8]) -> Option<Seen>
         requires position { self.old.position + 12 ≤ MAX_LIMIT }
         requires head { length head.now ≡ 12 }
@@ -166,6 +167,7 @@ impl Stepper {
     }
 
     /// Takes bytes from the front of a piece, and answers how many, and the packet that they tell, if they tell one.
+    #[inline(always)]
     pub fn step(&mut self, piece: &[u8]) -> (usize, Option<Seen>)
         requires some { 0 < length piece.now }
         requires position { self.old.position + length piece.now ≤ MAX_LIMIT }
