@@ -7,7 +7,8 @@ them; tests stand in crates of their own. A comment makes the copy another one t
 while what it stands on is kept. It prints a line for each crate: its name, the processor seconds of its proof, of its tests and of its
 edits, and how long each took by the clock; then the sums, and at last the chain of crates that takes longest. A run over what is kept
 takes some seconds too, which are in these numbers. `--at-once N` in front of the words times so many crates beside each other: that is
-faster, and its numbers are greater.
+faster, and its numbers are greater. With `--first` in front of all, on a machine where nothing is kept yet, the copies have no such
+comment, each crate comes behind those that it stands on, and what is timed is kept, as the first `rt ci` on a machine would keep it.
 """
 
 import functools
@@ -17,7 +18,7 @@ import subprocess
 import sys
 import tempfile
 import time
-from concurrent.futures import ThreadPoolExecutor
+from concurrent.futures import FIRST_COMPLETED, ThreadPoolExecutor, wait
 from pathlib import Path
 
 TOP = Path(__file__).resolve().parent.parent
@@ -33,14 +34,16 @@ def read_uses():
     return uses
 
 
-def copy_to(folder, name):
-    """Copies what git has of the crates, without edits. That of this name gets a comment that no copy had before."""
+def copy_to(folder, name, is_first):
+    """Copies what git has of the crates, without edits. That of this name gets a comment that no copy had before, but the first time."""
     files = subprocess.run(["git", "ls-files", "-z", "-co", "--exclude-standard", "crates", "crates.txt", "HANDLES"],
                            cwd=TOP, capture_output=True, check=True, text=True).stdout
     for file in filter(None, files.split("\0")):
         if "/must-fail/" not in file and (TOP / file).exists():
             (folder / file).parent.mkdir(parents=True, exist_ok=True)
             shutil.copy2(TOP / file, folder / file)
+    if is_first:
+        return
     for root in "lib.rt", "main.rt":
         file = folder / "crates" / name / "src" / root
         if file.exists():
@@ -65,12 +68,12 @@ def timed(folder, name):
     return usage.ru_utime + usage.ru_stime, time.monotonic() - start
 
 
-def time_crate(name):
+def time_crate(name, is_first):
     """Times one crate in a copy of its own, and prints its line: of its proof, its tests and its edits the processor seconds, and the
     seconds by the clock."""
     with tempfile.TemporaryDirectory() as made:
         folder = Path(made)
-        copy_to(folder, name)
+        copy_to(folder, name, is_first)
         once = timed(folder, name)
         spent = [(0, 0), once, (0, 0)] if is_of_tests(name) else [once, (0, 0), (0, 0)]
         edits = TOP / "crates" / name / "must-fail"
@@ -78,7 +81,22 @@ def time_crate(name):
             shutil.copytree(edits, folder / "crates" / name / "must-fail")
             spent[2] = timed(folder, name)
         print_line(name, spent)
-        return name, spent
+        return spent
+
+
+def time_all(names, uses, at_once, is_first):
+    """Times the crates, so many at once, and each behind those of them that it stands on: the three times of each."""
+    spent, running = {}, {}
+    with ThreadPoolExecutor(at_once) as pool:
+        while len(spent) < len(names):
+            for name in names:
+                is_ready = all(used in spent for used in uses[name] if used in names)
+                if is_ready and name not in spent and name not in running and len(running) < at_once:
+                    running[name] = pool.submit(time_crate, name, is_first)
+            wait(running.values(), return_when=FIRST_COMPLETED)
+            for name in [name for name, timing in running.items() if timing.done()]:
+                spent[name] = running.pop(name).result()
+    return spent
 
 
 def print_line(name, spent):
@@ -98,13 +116,14 @@ def longest(uses, seconds):
 
 
 def main(words):
+    is_first = words[:1] == ["--first"]
+    words = words[is_first:]
     at_once = 1
     if words[:1] == ["--at-once"]:
         at_once, words = int(words[1]), words[2:]
     uses = read_uses()
     print("crate proof tests edits / by the clock", flush=True)
-    with ThreadPoolExecutor(at_once) as pool:
-        spent = dict(pool.map(time_crate, words or uses))
+    spent = time_all(words or list(uses), uses, at_once, is_first)
     print_line("all", [[sum(times[part][unit] for times in spent.values()) for unit in (0, 1)] for part in range(3)])
     seconds, chain = longest(uses, {name: times[0][1] + times[1][1] for name, times in spent.items()})
     print(f"the longest chain takes {seconds:.0f} s by the clock: {' '.join(chain)}")

@@ -72,32 +72,69 @@ def is_refused(said):
     return said.startswith("refused") and "only because" not in said
 
 
+def bodies_of(name):
+    """The names of a crate's wrong bodies."""
+    return sorted(file.stem for file in (BODIES / name).glob("*.edit"))
+
+
+def groups(names):
+    """The crates in groups that are tried together, each with a few dozen bodies: what a group showed is noted once it is done."""
+    group, count = [], 0
+    for name in names:
+        group.append(name)
+        count += len(bodies_of(name))
+        if count >= 24:
+            yield group
+            group, count = [], 0
+    if group:
+        yield group
+
+
+def try_group(names):
+    """Tries the wrong bodies of these crates, and answers what the log says."""
+    with tempfile.TemporaryDirectory() as made:
+        folder = Path(made)
+        copy_to(folder, names)
+        log = subprocess.run(["rt", "ci", *names], cwd=folder, stdout=subprocess.PIPE, stderr=subprocess.STDOUT).stdout
+    return log.decode(errors="replace")
+
+
+def note(name, total):
+    """Notes that all of a crate's bodies were refused at this checksum, or, where it is none, that they weren't."""
+    tried = read_tried()
+    tried.pop(name, None)
+    if total:
+        tried[name] = total
+    TRIED.write_text("".join(f"{crate} {total}\n" for crate, total in sorted(tried.items())))
+
+
+def judge(name, log, before):
+    """Prints what the log says of each body of a crate, notes it, and answers how many were refused, and how many weren't."""
+    said = {body: judged(log, name, body) for body in bodies_of(name)}
+    for body, words in said.items():
+        print(f"{name} {body}: {words}", flush=True)
+    refused = sum(map(is_refused, said.values()))
+    note(name, before if refused == len(said) and checksum(name) == before else None)
+    return refused, len(said) - refused
+
+
 def main(words):
     names = all_names() if words == ["all"] else words or untried()
     unknown = [name for name in names if not (BODIES / name).is_dir()]
     if unknown:
         sys.exit(f"wrong-bodies has none of {', '.join(unknown)}")
-    before = {name: checksum(name) for name in names}
-    with tempfile.TemporaryDirectory() as made:
-        folder = Path(made)
-        copy_to(folder, names)
-        log = subprocess.run(["rt", "ci", *names], cwd=folder, stdout=subprocess.PIPE, stderr=subprocess.STDOUT).stdout.decode(errors="replace")
     passed = failed = 0
-    for name in names:
+    for group in groups(names):
+        before = {name: checksum(name) for name in group}
+        log = try_group(group)
         wrong = 0
-        for edit in sorted(file.stem for file in (BODIES / name).glob("*.edit")):
-            said = judged(log, name, edit)
-            wrong += not is_refused(said)
-            passed += is_refused(said)
-            print(f"{name} {edit}: {said}")
+        for name in group:
+            refused, others = judge(name, log, before[name])
+            passed += refused
+            wrong += others
         failed += wrong
-        tried = read_tried()
-        tried.pop(name, None)
-        if not wrong and checksum(name) == before[name]:
-            tried[name] = before[name]
-        TRIED.write_text("".join(f"{crate} {total}\n" for crate, total in sorted(tried.items())))
-    if failed:
-        print(log[-4000:])
+        if wrong:
+            print(log[-4000:])
     print(f"{passed} passed, {failed} failed")
     return 1 if failed else 0
 
