@@ -124,6 +124,14 @@ mistake 'tables under another name' 3 's|^\[\[input\]\]$|[[inputs]]|' << 'END'
 fault 1 BadText
 line 20: unknown field `inputs`
 END
+mistake 'a table in the place of a list of tables' 3 's|^\[\[input\]\]$|[input]|' << 'END'
+fault 1 BadText
+line 20: [[input]] is meant where [input] stands
+END
+mistake 'streams beside their services' 3 's|^\[\[service.stream\]\]$|[[stream]]|' << 'END'
+fault 1 BadText
+line 35: [[service.stream]] is meant where [[stream]] stands
+END
 mistake 'hex digits with blanks' 3 's|"440B03|"44 0B 03 |' << 'END'
 fault 1 BadText
 line 18: transport_descriptors has byte 0x20 at place 2, which is no hex digit
@@ -185,7 +193,8 @@ input 0, plan.toml: it has no sync byte, 0x47, at its beginning: it is no transp
 END
 
 # north.ts with 16 bytes behind each packet; with free_CA_mode 1 in its SDT and a CRC that fits; without its PAT; without its PMT;
-# with a PAT of 22 other programs; and with one that names the network's PID alone. A file whose bytes 0x47 are 256 apart. A plan of 16
+# without its SDT; without null packets from its 1,001st packet on; with a PAT of 22 other programs; and with one that names the
+# network's PID alone. A file whose bytes 0x47 are 256 apart. A plan of 16
 # services whose NIT is too large: 5 bytes, the lengths of its two loops, a name of 64 bytes in a descriptor, 6 bytes, a service list
 # of 16, 900 bytes and the CRC.
 python3 - << 'END'
@@ -232,6 +241,8 @@ write("long.ts", (packet + bytes(16) for packet in packets))
 write("scrambled.ts", map(scrambled, packets))
 write("nopat.ts", (packet for packet in packets if pid(packet) != 0))
 write("nopmt.ts", (packet for packet in packets if pid(packet) != pmt))
+write("nosdt.ts", (packet for packet in packets if pid(packet) != 0x11))
+write("variable.ts", (packet for number, packet in enumerate(packets) if number < 1000 or pid(packet) != 0x1FFF))
 write("other.ts", (with_programs(packet, range(601, 623)) for packet in packets))
 write("network.ts", (with_programs(packet, [0]) for packet in packets))
 write("film.mp4", [b"\x00\x00\x00\x18ftypisom", bytes(range(256)) * 16])
@@ -276,6 +287,12 @@ mistake 'an input without the PMT' 3 's|"north.ts"|"nopmt.ts"|' << 'END'
 fault 5 NoProgram
 service 101 (input 0, program 1): the input's PAT has it, and its PMT was not found
 END
+mistake 'an input without an SDT' 3 's|"north.ts"|"nosdt.ts"|' << 'END'
+fault 6 NoSdtRow
+a service is not described in its input
+service 101 (input 0, program 1): the input has no complete SDT
+ffmpeg writes a file with one, and with other PIDs: ffmpeg -i 'nosdt.ts' -map 0:p:1 -c copy -copy_unknown -mpegts_service_id 1 -muxrate 1000000 new.ts
+END
 mistake 'an input with many other programs' 3 's|"north.ts"|"other.ts"|' << 'END'
 fault 5 NoProgram
 service 101 (input 0, program 1): the input has no such program; its PAT has programs 601, 602, 603, 604, 605, 606, 607, 608, 609, 610, 611, 612, 613, 614, 615, 616, 617, 618, 619, 620 and 2 more
@@ -313,6 +330,9 @@ end: all inputs ended
 rate: input 0 runs at 1000000 bits a second by the PCRs of PID 0x0101, 999 ppm below the stated 1001000: state 1000000
 END
 done
+mistake 'an input of variable rate' 0 's|"north.ts"|"variable.ts"|' << 'END'
+rate: input 0 gets them by ffmpeg, and other PIDs: ffmpeg -i 'variable.ts' -map 0:p:1 -c copy -copy_unknown -mpegts_service_id 1 -muxrate 1100000 new.ts
+END
 mistake 'a leak rate that is too low' 0 '0,/^leak = 2000000$/s||leak = 100000|' << 'END'
 leak: stream 0x0201 (input 0, PID 0x0102): 100000 bits a second, below its measured N: state more
 END

@@ -140,8 +140,8 @@ class Live:
 
     def said(self):
         """What it said."""
-        self.errors.seek(0)
-        return self.errors.read().decode()
+        with open(self.errors.name, encoding="utf-8") as file:
+            return file.read()
 
     def close(self):
         """Ends whatever goes on."""
@@ -210,7 +210,7 @@ class WhileAnInputWaits(CommandCase):
                     time.sleep(0.3)
                     run.end()
                 self.assertEqual(run.status(), 4)
-                self.assertEqual(run.said(), "fault file -\n-: it can't be written: Broken pipe (os error 32)\n")
+                self.assertEqual(run.said(), "fault file -\nstandard output: its reader is gone\n")
 
     def test_other_inputs_are_read_meanwhile(self):
         """The first input has no more than its tables and two packets. In threads the other one is read all the same, up to its ring."""

@@ -2,7 +2,7 @@
 
 use crate::measuring_inputs::measure;
 use crate::run_command::{Asked, run};
-use files::{CommandFault, FileCause, Files, InputFile, ReadPlan, read_plan};
+use files::{CommandFault, FileCause, Files, InputFile, NoNotices, ReadPlan, read_plan};
 use measuring::{is_input_wrong, is_too_much, print_measured};
 use printing::{
     StreamAnalysis, print_plan, print_rhythm, print_same_files, print_shape, strict_status,
@@ -212,7 +212,7 @@ fn check<F: Files, O: Write, E: Write>(
     out: &mut O,
     err: &mut E,
 ) -> Result<u8, CommandFault> {
-    let ReadPlan { plan, readers, .. } = read_plan(alloc, files, plan)?;
+    let ReadPlan { plan, readers, .. } = read_plan(alloc, files, &mut NoNotices, plan)?;
     print_plan(&plan, out)?;
     out.flush()?;
     let _ = print_rhythm(&plan, err);

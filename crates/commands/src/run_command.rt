@@ -8,8 +8,8 @@ use crate::commands::{end, end_over};
 use crate::measuring_inputs::tell_low_leaks;
 use crate::whole_run::run_plan;
 use files::{
-    CommandFault, FileIdentity, Files, InputFile, OutputFile, ReadPlan, open_again, open_output,
-    read_plan, stopped,
+    CommandFault, FileIdentity, Files, InputFile, NoNotices, OutputFile, ReadPlan, open_again,
+    open_output, read_plan, stopped,
 };
 use measuring::{Metered, is_input_wrong, print_wrong_rates, with_meters};
 use plan::Plan;
@@ -81,7 +81,7 @@ fn prepare<F: Files>(
 ) -> Result<Prepared<F::Again, F::Writer>, CommandFault>
     ensures { IfOk result (λ p. length p.readers.items ≡ length p.plan.request.inputs) }
 {
-    let read = read_plan(alloc, files, asked.plan)?;
+    let read = read_plan(alloc, files, &mut NoNotices, asked.plan)?;
     let identities = read.identities(alloc)?;
     let kept = read.plan.copy(alloc)?;
     let ReadPlan { plan, readers, .. } = read;
@@ -106,7 +106,7 @@ fn open_all<F: Files>(
     ensures { IfOk result (λ opened. length opened.0.items ≡ length plan.now.request.inputs) }
 {
     let readers = open_again(alloc, files, plan, readers)?;
-    let (writer, _) = open_output(alloc, files, name, read)?;
+    let (writer, _) = open_output(alloc, files, &mut NoNotices, name, read)?;
     Ok((readers, writer))
 }
 
@@ -172,7 +172,7 @@ fn tell_found<F: Files, R: InputFile, M: Meter, E: Write>(
 ) {
     let _ = print_end(&ran.plan, &ran.summary, &ran.readers, err);
     let _ = print_early_ends(&ran.plan, &ran.summary, err);
-    let _ = print_faults(&ran.summary, err);
+    let _ = print_faults(&ran.plan, &ran.summary, err);
     let _ = print_overfull(&ran.plan, &ran.summary, err);
     tell_partial(files, err);
     let _ = print_wrong_rates(&ran.plan, &ran.readers, err);

@@ -27,6 +27,15 @@ fn print_plan_fault<E: io::Write>(fault: &PlanFault, err: &mut E) -> io::Result<
     writeln!(err, "{fault}")
 }
 
+/// How a file that failed is called in words: by its name, if it has one, and `-` where it is written by what it is.
+fn shown_name<'a>(name: &'a str, cause: &FileCause) -> &'a str {
+    match name {
+        "" => "the name is empty",
+        "-" if cause.is_of_write() => "standard output",
+        _ => name,
+    }
+}
+
 impl CommandFault {
     /// That of a file.
     pub fn file(alloc: Global, name: &str, cause: FileCause) -> CommandFault {
@@ -58,16 +67,11 @@ impl CommandFault {
             }
             CommandFault::File(name, cause) => {
                 writeln!(err, "fault file {name}")?;
-                let shown = if name.is_empty() {
-                    "the name is empty"
-                } else {
-                    name.as_str()
-                };
-                writeln!(err, "{shown}: {cause}")
+                writeln!(err, "{}: {cause}", shown_name(name, cause))
             }
             CommandFault::Print(error) => {
                 writeln!(err, "fault file standard output")?;
-                writeln!(err, "standard output: it can't be written: {error}")
+                writeln!(err, "standard output: {}", FileCause::of_write(*error))
             }
             CommandFault::Memory => writeln!(err, "fault memory"),
         }

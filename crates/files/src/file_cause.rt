@@ -16,6 +16,9 @@ pub enum FileCause {
     /// A write failed.
     #[error("it can't be written: {0}")]
     Write(io::Error),
+    /// It is an output, and a pipe that nobody reads any more.
+    #[error("its reader is gone")]
+    NoReader,
     /// It is an output, which is written beside the name that it is to get, and no file can be made there.
     #[error("no new file can be made beside it: {0}")]
     Create(io::Error),
@@ -34,6 +37,25 @@ pub enum FileCause {
 }
 
 impl FileCause {
+    /// That of a write that failed with this reason.
+    pub fn of_write(error: io::Error) -> FileCause {
+        if error.kind() == ErrorKind::BrokenPipe {
+            FileCause::NoReader
+        } else {
+            FileCause::Write(error)
+        }
+    }
+
+    /// Whether it is a write that failed.
+    pub fn is_of_write(&self) -> bool {
+        matches!(self, FileCause::Write(_) | FileCause::NoReader)
+    }
+
+    /// Whether it is that a file can be read only once, and that no more of it is kept.
+    pub fn is_past_kept(&self) -> bool {
+        matches!(self, FileCause::Read(error) if error.kind() == ErrorKind::FileTooLarge)
+    }
+
     /// Whether it is want of memory.
     pub fn is_memory(&self) -> bool {
         match self {

@@ -60,6 +60,6 @@ impl<W: Write> Sink for FileWriter<W> {
 
 impl<W: Write> OutputFile for FileWriter<W> {
     fn cause(&self) -> FileCause {
-        FileCause::Write(self.error)
+        FileCause::of_write(self.error)
     }
 }

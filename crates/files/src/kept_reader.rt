@@ -7,7 +7,8 @@ use std::io::{Chain, Cursor, ErrorKind, Read};
 /// How many bytes are kept of a file that can be read only once, while its tables are sought: 64 MiB.
 const KEPT_LIMIT: usize = 67_108_864;
 
-const TOO_LATE: &str =
+/// What is said of a file of which no more is kept.
+pub(crate) const TOO_LATE: &str =
     "it can be read only once, and its tables are not in its first 67108864 bytes";
 
 /// What a file gives when it is read again: what was kept of it, and then its rest.

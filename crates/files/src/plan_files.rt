@@ -1,28 +1,26 @@
 //! A plan from its file and the files of its inputs.
 
-ghost use Rattle.std.specs.Prelude.{◌≡◌, ◌≤◌, ◌++◌, [], Ok, Some, true, false, length, map, is_some, IfOk, IfSome, OnOk};
-ghost use Rattle.acquire.specs.Seen.{findings_of};
-ghost use Rattle.plan.specs.Build.{build_fault_of};
-ghost use Rattle.plan_causes.specs.Causes.{IsCauseOf, fault_of};
+ghost use Rattle.std.specs.Prelude.{◌≡◌, ◌≤◌, ◌++◌, [], Ok, false, length, IfOk, OnOk};
 
 use crate::file_identity::FileIdentity;
 use crate::input_file::InputFile;
+use crate::notices::Notices;
 use crate::pat_programs::PatPrograms;
 use crate::placed_cause::PlacedCause;
+use crate::plan_faults::{find_lacking, plan_fault};
 use crate::plan_read::ReadPlan;
 use crate::sources::Sources;
-use crate::{CommandFault, FileCause, StreamShape, has_format, shape_of};
+use crate::{CommandFault, FileCause};
 use acquire::{Acquire, Found};
 use plan::Plan;
-use plan_causes::{PlanCause, ServiceNumbers, cause_of};
 use reading::{Source, Stop, StreamReader};
-use request::{Input, PlanFault, Request, Service};
+use request::{Input, PlanFault, Request};
 use selection::seek;
 use std::alloc::{AllocError, Global};
 use std::str;
 use tables::Pat;
 use text_causes::{bytes_cause, text_cause};
-use tspkt::{Item, Packet, PacketFormat};
+use tspkt::{Item, Packet};
 
 /// How many bytes are read at once.
 const PIECE: usize = 1 << 16;
@@ -64,8 +62,16 @@ fn read_text<R: Source>(alloc: Global, source: &mut R) -> Result<Vec<u8>, Stop>
 }
 
 /// A reader of the file with this name.
-fn open<F: Sources>(alloc: Global, files: &mut F, name: &str) -> Result<F::Reader, CommandFault> {
-    match files.reader(name) {
+fn open<F: Sources, N: Notices>(
+    alloc: Global,
+    files: &mut F,
+    notices: &mut N,
+    name: &str,
+) -> Result<F::Reader, CommandFault> {
+    notices.opens(name);
+    let opened = files.reader(name);
+    notices.goes_on();
+    match opened {
         Ok(reader) => Ok(reader),
         Err(cause) => Err(CommandFault::file(alloc, name, cause)),
     }
@@ -117,12 +123,13 @@ fn no_text_fault(alloc: Global, bytes: &[u8]) -> CommandFault {
 }
 
 /// The request that a plan's file writes, and which file that is.
-fn read_request<F: Sources>(
+fn read_request<F: Sources, N: Notices>(
     alloc: Global,
     files: &mut F,
+    notices: &mut N,
     name: &str,
 ) -> Result<(Request, Option<FileIdentity>), CommandFault> {
-    let mut source = open(alloc, files, name)?;
+    let mut source = open(alloc, files, notices, name)?;
     match read_text(alloc, &mut source) {
         Ok(bytes) => match str::from_utf8(&bytes) {
             Ok(text) => Ok((request_of(alloc, text)?, source.identity())),
@@ -185,15 +192,17 @@ fn is_lacking(acquire: &Acquire, request: &Request, number: usize) -> bool {
 
 /// Reads the input with this number until all that is wanted was found, or a program can't be found any more, or it ends. The answer is
 /// its reader, and why it couldn't be read, if it couldn't.
-fn read_tables<R: Source + Drop>(
+fn read_tables<R: Source + Drop, N: Notices>(
     alloc: Global,
+    notices: &mut N,
     acquire: &mut Acquire,
     request: &Request,
     number: usize,
-    format: PacketFormat,
+    input: &Input,
     source: R,
 ) -> Result<(R, Option<Stop>), AllocError> {
     let mut piece = vec![in alloc; 0; PIECE]?;
+    let format = input.format;
     let mut stream = StreamReader::new(alloc, format, source, format.limit());
     loop {
         if push_told(acquire, &mut stream)? || stream.is_over() {
@@ -202,161 +211,48 @@ fn read_tables<R: Source + Drop>(
         if is_lacking(acquire, request, number) {
             return Ok((stream.into_source(), None));
         }
+        notices.seeks(number, input.file.as_str(), acquire.pat().is_some());
         if let Err(stop) = stream.read(piece.as_mut_slice()) {
             return Ok((stream.into_source(), Some(stop)));
         }
     }
 }
 
-/// What is found in the input with this number, the programs of its PAT, and its reader.
-fn find<F: Sources>(
+/// What is found in the input with this number, the programs of its PAT, and its reader. Of one that can be read only once no more is
+/// looked at than is kept.
+fn find<F: Sources, N: Notices>(
     alloc: Global,
     files: &mut F,
+    notices: &mut N,
     request: &Request,
     number: usize,
     input: &Input,
 ) -> Result<(Found, PatPrograms, F::Reader), CommandFault> {
-    let (name, format) = (input.file.as_str(), input.format);
-    let source = open(alloc, files, name)?;
+    let name = input.file.as_str();
+    let source = open(alloc, files, notices, name)?;
     let mut acquire = seek(alloc, request, number)?;
-    let (reader, stop) = read_tables(alloc, &mut acquire, request, number, format, source)?;
+    let read = read_tables(alloc, notices, &mut acquire, request, number, input, source);
+    notices.goes_on();
+    let (reader, stop) = read?;
     let programs = PatPrograms::of(alloc, acquire.pat())?;
     match stop {
-        None => Ok((acquire.found(), programs, reader)),
-        Some(stop) => Err(stopped(alloc, name, &reader, stop, format.limit())),
-    }
-}
-
-/// Whether programs are sought in an input that has no complete PAT and none of them, and whose first bytes aren't packets of its format.
-fn is_no_stream(found: &Found, programs: &PatPrograms, format: PacketFormat, head: &[u8]) -> bool {
-    programs.numbers.is_none()
-        && !found.pmts.is_empty()
-        && found.pmts.iter().all(|pmt| pmt.is_none())
-        && !has_format(head, format)
-}
-
-/// What an input looks like, in words, and what the plan has to state where it can be read so.
-fn shape_words(alloc: Global, shape: StreamShape) -> Result<String, AllocError> {
-    match shape.format() {
-        Some(format) => format!(in alloc; "{shape}: state size = {}", format.stride()),
-        None => format!(in alloc; "{shape}"),
-    }
-}
-
-/// A cause of this fault of a plan, by what was found in its inputs. There is one wherever they give the plan this fault, and
-/// none of want of memory.
-fn cause_in(fault: PlanFault, request: &Request, found: &[Found]) -> Option<PlanCause>
-    ensures cause { IfSome result (IsCauseOf request.now (map findings_of found.now)) }
-    ensures fault { IfSome result (λ cause. fault_of cause ≡ fault) }
-    ensures some { build_fault_of request.now (map findings_of found.now) ≡ Some fault
-        → is_some result ≡ true }
-{
-    match cause_of(request, found) {
-        Some(cause) if cause.fault() == fault => Some(cause),
-        _ => None,
-    }
-}
-
-/// The first service of a plan whose program isn't among those of its input's PAT, where that is known.
-fn find_lacking<'a>(request: &'a Request, programs: &[PatPrograms]) -> Option<&'a Service> {
-    for service in request.services() {
-        if let Some(known) = programs.get(service.input)
-            && known.lacks(service.program)
-        {
-            return Some(service);
+        Some(stop) if !reader.cause().is_past_kept() => {
+            Err(stopped(alloc, name, &reader, stop, input.format.limit()))
         }
-    }
-    None
-}
-
-/// In words that a service's program isn't in its input, and what its input's PAT has.
-fn lacking_words(
-    alloc: Global,
-    service: ServiceNumbers,
-    programs: &PatPrograms,
-) -> Result<String, AllocError> {
-    format!(in alloc; "{service}: the input has no such program; {programs}")
-}
-
-/// A cause in words. A program that isn't found is told with what its input's PAT has.
-fn cause_words(
-    alloc: Global,
-    cause: &PlanCause,
-    programs: &[PatPrograms],
-) -> Result<String, AllocError> {
-    if let PlanCause::NoProgram(service) = cause
-        && let Some(programs) = programs.get(service.input)
-    {
-        return if programs.has(service.program) {
-            format!(in alloc; "{service}: the input's PAT has it, and its PMT was not found")
-        } else {
-            lacking_words(alloc, *service, programs)
-        };
-    }
-    format!(in alloc; "{cause}")
-}
-
-/// The cause of `NoProgram` in words: of the first input that is no stream of packets what it looks like, else the first service whose
-/// program its input's PAT lacks; none where there is neither.
-fn program_words<R: InputFile>(
-    alloc: Global,
-    request: &Request,
-    found: &[Found],
-    programs: &[PatPrograms],
-    readers: &[R],
-) -> Result<Option<String>, AllocError> {
-    let read = found.iter().zip(programs.iter().zip(readers.iter()));
-    for (number, (input, (found, (programs, reader)))) in request
-        .inputs()
-        .iter()
-        .zip(read)
-        .enumerate()
-    {
-        let head = reader.head();
-        if is_no_stream(found, programs, input.format, head) {
-            let (file, words) = (&input.file, shape_words(alloc, shape_of(head))?);
-            return Ok(Some(format!(in alloc; "input {number}, {file}: {words}")?));
-        }
-    }
-    let Some(service) = find_lacking(request, programs) else {
-        return Ok(None);
-    };
-    let Some(programs) = programs.get(service.input) else {
-        return Ok(None);
-    };
-    Ok(Some(lacking_words(alloc, ServiceNumbers::of(service), programs)?))
-}
-
-/// The fault of a plan, with its cause in words. Where a program isn't there, and an input has none of those that are sought in
-/// it, that is what the input looks like, if it is no stream of packets; else it is where the plan is at fault.
-fn plan_fault<R: InputFile>(
-    alloc: Global,
-    fault: PlanFault,
-    request: &Request,
-    found: &[Found],
-    programs: &[PatPrograms],
-    readers: &[R],
-) -> Result<CommandFault, AllocError> {
-    if fault == PlanFault::NoProgram
-        && let Some(words) = program_words(alloc, request, found, programs, readers)?
-    {
-        return Ok(CommandFault::PlanCause(fault, words));
-    }
-    match cause_in(fault, request, found) {
-        Some(cause) => Ok(CommandFault::PlanCause(fault, cause_words(alloc, &cause, programs)?)),
-        None => Ok(CommandFault::from(fault)),
+        _ => Ok((acquire.found(), programs, reader)),
     }
 }
 
 /// Sees that the inputs of a plan behind the first so many are there.
-fn open_others<F: Sources>(
+fn open_others<F: Sources, N: Notices>(
     alloc: Global,
     files: &mut F,
+    notices: &mut N,
     request: &Request,
     count: usize,
 ) -> Result<(), CommandFault> {
     for input in request.inputs().iter().skip(count) {
-        open(alloc, files, input.file.as_str())?;
+        open(alloc, files, notices, input.file.as_str())?;
     }
     Ok(())
 }
@@ -365,23 +261,24 @@ fn open_others<F: Sources>(
 ///
 /// The first fault ends it: of the plan's file, which may have 1,048,576 bytes; of its text; of the inputs in their order; and
 /// of the plan, without its cause where there is no memory for its words. Behind an input whose PAT lacks a program that is sought
-/// there no further one is read: each has only to be there.
-pub fn read_plan<F: Sources>(
+/// there no further one is read: each has only to be there. `notices` is told what is waited for.
+pub fn read_plan<F: Sources, N: Notices>(
     alloc: Global,
     files: &mut F,
+    notices: &mut N,
     name: &str,
 ) -> Result<ReadPlan<F::Reader>, CommandFault> {
-    let (request, identity) = read_request(alloc, files, name)?;
+    let (request, identity) = read_request(alloc, files, notices, name)?;
     let mut found = Vec::new(alloc);
     let mut programs = Vec::new(alloc);
     let mut readers = Vec::new(alloc);
     for (number, input) in request.inputs().iter().enumerate() {
-        let (tables, named, reader) = find(alloc, files, &request, number, input)?;
+        let (tables, named, reader) = find(alloc, files, notices, &request, number, input)?;
         found.push(tables)?;
         programs.push(named)?;
         readers.push(reader)?;
         if find_lacking(&request, &programs).is_some() {
-            open_others(alloc, files, &request, programs.len())?;
+            open_others(alloc, files, notices, &request, programs.len())?;
             break;
         }
     }

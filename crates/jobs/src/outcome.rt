@@ -41,7 +41,7 @@ pub fn check(outcome: &Outcome) -> Result<()> {
 pub fn print_outcome<O: Write>(name: &str, outcome: &Outcome, out: &mut O) -> io::Result<()> {
     let mut streams = Digest::new();
     print_delays(&outcome.plan, &outcome.summary, &mut streams)?;
-    print_faults(&outcome.summary, &mut streams)?;
+    print_faults(&outcome.plan, &outcome.summary, &mut streams)?;
     print_summary(&outcome.summary, out)?;
     let (bytes, value) = (outcome.digest.bytes(), outcome.digest.value());
     let streams = streams.value();

@@ -5,7 +5,7 @@ use advice::{left_rate, packets_rate};
 use files::InputFile;
 use plan::Plan;
 use rate_meter::{Change, Deviation, Measured, Meter, ProgramChange, off_by};
-use request::Stream;
+use request::{Input, Stream};
 use std::io;
 use std::io::Write;
 
@@ -77,26 +77,68 @@ fn print_changes<R, M: Meter, E: Write>(
     Ok(())
 }
 
-/// Says what is wrong with the rate of an input, if something is. Of one whose programs changed it isn't said that it is variable.
-fn print_rate<E: Write>(
+/// Says by which command a program of an input of variable rate gets null packets up to a constant one, as packets of 188 bytes: a tenth
+/// above the input's fastest second.
+fn print_filling<R, M: Meter, E: Write>(
+    input: &Input,
     number: usize,
+    program: u16,
     measured: Measured,
-    stated: u64,
-    has_changed: bool,
+    reader: &Metered<R, M>,
     err: &mut E,
 ) -> io::Result<()> {
-    let (pid, rate) = (measured.pid, measured.rate);
-    if measured.is_variable && has_changed {
+    let Some(meter) = reader.meter() else {
         return Ok(());
+    };
+    let fastest = meter.fastest(measured.pid).unwrap_or(measured.rate);
+    let rate = packets_rate(input.format, fastest);
+    let (file, filled) = (&input.file, rate.saturating_add(rate / 10));
+    writeln!(
+        err,
+        "rate: input {number} gets them by ffmpeg, and other PIDs: ffmpeg -i '{file}' -map 0:p:{program} -c copy -copy_unknown -mpegts_service_id {program} -muxrate {filled} new.ts"
+    )
+}
+
+/// Says that an input is of variable rate, and how it gets a constant one: of its first service in the plan.
+fn print_variable<R, M: Meter, E: Write>(
+    plan: &Plan,
+    input: &Input,
+    number: usize,
+    measured: Measured,
+    reader: &Metered<R, M>,
+    err: &mut E,
+) -> io::Result<()> {
+    let (pid, rate, stated) = (measured.pid, measured.rate, input.rate);
+    writeln!(
+        err,
+        "rate: input {number} is of variable rate by the PCRs of PID 0x{pid:04X}, {rate} bits a second in all; the plan states {stated} throughout: null packets have to make it constant first"
+    )?;
+    let services = plan.request().services();
+    match services.iter().find(|service| service.input == number) {
+        Some(service) => print_filling(input, number, service.program, measured, reader, err),
+        None => Ok(()),
     }
+}
+
+/// Says what is wrong with the rate of the input with this number, if something is. Of one whose programs changed it isn't said that it is
+/// variable.
+fn print_rate<R, M: Meter, E: Write>(
+    plan: &Plan,
+    input: &Input,
+    number: usize,
+    measured: Measured,
+    reader: &Metered<R, M>,
+    err: &mut E,
+) -> io::Result<()> {
     if measured.is_variable {
-        return writeln!(
-            err,
-            "rate: input {number} is of variable rate by the PCRs of PID 0x{pid:04X}, {rate} bits a second in all; the plan states {stated} throughout: null packets have to make it constant first"
-        );
+        return if has_change(plan, number, reader) {
+            Ok(())
+        } else {
+            print_variable(plan, input, number, measured, reader, err)
+        };
     }
-    match off_by(rate, stated) {
-        Some(found) => print_deviation(number, measured, stated, found, err),
+    match off_by(measured.rate, input.rate) {
+        Some(found) => print_deviation(number, measured, input.rate, found, err),
         None => Ok(()),
     }
 }
@@ -317,10 +359,7 @@ pub fn print_measured<R: InputFile, M: Meter, E: Write>(
 ) -> io::Result<()> {
     for (number, (input, reader)) in plan.inputs().iter().zip(readers.iter()).enumerate() {
         match reader.measured() {
-            Some(measured) => {
-                let has_changed = has_change(plan, number, reader);
-                print_rate(number, measured, input.rate, has_changed, err)?;
-            }
+            Some(measured) => print_rate(plan, input, number, measured, reader, err)?,
             None => print_unmeasured(number, reader, err)?,
         }
     }
@@ -339,8 +378,7 @@ pub fn print_wrong_rates<R, M: Meter, E: Write>(
 ) -> io::Result<()> {
     for (number, (input, reader)) in plan.inputs().iter().zip(readers.iter()).enumerate() {
         if let Some(measured) = reader.measured() {
-            let has_changed = has_change(plan, number, reader);
-            print_rate(number, measured, input.rate, has_changed, err)?;
+            print_rate(plan, input, number, measured, reader, err)?;
         }
     }
     print_changes(plan, readers, err)?;

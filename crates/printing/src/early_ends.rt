@@ -9,10 +9,10 @@ use std::io;
 use std::io::Write;
 
 /// The bytes of a slot.
-const SLOT: u64 = 188;
+pub(crate) const SLOT: u64 = 188;
 
 /// How far the input with this number was read, in milliseconds of the multiplex.
-fn reached_in(plan: &Plan, summary: &Summary, number: usize) -> u64 {
+pub(crate) fn reached_in(plan: &Plan, summary: &Summary, number: usize) -> u64 {
     match (plan.inputs().get(number), summary.inputs.get(number)) {
         (Some(input), Some(ran)) => {
             let bytes = bytes_read(input.format, &ran.report);

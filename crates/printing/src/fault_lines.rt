@@ -1,6 +1,10 @@
 //! The faults of the output of a run, in lines.
 
-use analyse::FaultKind;
+use crate::early_ends::{SLOT, reached_in};
+use advice::reached;
+use analyse::{Fault, FaultKind};
+use plan::Plan;
+use reading::Stop;
 use serial::Summary;
 use std::io;
 use std::io::Write;
@@ -15,9 +19,41 @@ const KINDS: [FaultKind; 6] = [
     FaultKind::PidError,
 ];
 
+/// The input of the stream that a fault says is missing from the output of a run, where that input had ended before.
+fn ended_before(plan: &Plan, summary: &Summary, fault: &Fault) -> Option<usize> {
+    if fault.kind != FaultKind::PidError {
+        return None;
+    }
+    let missing = fault.pid?;
+    let stream = plan
+        .streams()
+        .iter()
+        .find(|stream| stream.output_pid == missing)?;
+    let ran = summary.inputs.get(stream.input)?;
+    let time = reached(0, plan.rate(), fault.slot.saturating_mul(SLOT));
+    let is_left = ran.report.stopped == Some(Stop::Gate);
+    if is_left || reached_in(plan, summary, stream.input) > time {
+        return None;
+    }
+    Some(stream.input)
+}
+
+/// Prints a fault of the output of a run, and which input had ended, where that is why a stream is missing.
+fn print_fault<E: Write>(
+    plan: &Plan,
+    summary: &Summary,
+    fault: &Fault,
+    err: &mut E,
+) -> io::Result<()> {
+    match ended_before(plan, summary, fault) {
+        Some(input) => writeln!(err, "faults: {fault}: input {input} had ended"),
+        None => writeln!(err, "faults: {fault}"),
+    }
+}
+
 /// Prints the faults that were told of the output of a run, where there are some: how many there are of each kind, and the first
-/// ten.
-pub fn print_faults<E: Write>(summary: &Summary, err: &mut E) -> io::Result<()> {
+/// ten. Of a stream that is missing since its input ended it names the input.
+pub fn print_faults<E: Write>(plan: &Plan, summary: &Summary, err: &mut E) -> io::Result<()> {
     let counts = summary.fault_report.counts();
     for kind in KINDS {
         let count = counts.of(kind);
@@ -27,7 +63,7 @@ pub fn print_faults<E: Write>(summary: &Summary, err: &mut E) -> io::Result<()> 
         }
     }
     for fault in summary.fault_report.first() {
-        writeln!(err, "faults: {fault}")?;
+        print_fault(plan, summary, fault, err)?;
     }
     Ok(())
 }

@@ -26,6 +26,9 @@ pub trait Meter {
     /// What the clock with the most points says, of those that say a rate; none where no clock does.
     fn measured(&self) -> Option<Measured>;
 
+    /// The highest rate of a second by the clock of a PID, in bits a second, 0 where no second is over; none where it has no clock.
+    fn fastest(&self, pid: u16) -> Option<u64>;
+
     /// The rate of a PID, 0 to 0x1FFF, where the stream runs at this rate, in its unit.
     fn pid_rate(&self, rate: u64, pid: u16) -> u64;
 

@@ -194,6 +194,11 @@ impl Meter for RateMeter {
         RateMeter::measured(self)
     }
 
+    fn fastest(&self, pid: u16) -> Option<u64> {
+        let clock = self.clock_of(pid)?;
+        Some(clock.pace().fastest)
+    }
+
     fn pid_rate(&self, rate: u64, pid: u16) -> u64 {
         RateMeter::pid_rate(self, rate, pid)
     }

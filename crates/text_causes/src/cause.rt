@@ -4,6 +4,7 @@ ghost use Rattle.std.specs.Prelude.{◌≡◌, ◌≤◌, ◌==◌, length};
 ghost use Rattle.std.specs.List.{count_by};
 ghost use Rattle.text_causes.specs.Lines.{line_of};
 
+use crate::headers::{MistakenHeader, mistaken_header};
 use crate::hex_digits::digits_cause;
 use crate::key_fault::KeyFault;
 use crate::key_lines::top_key_line;
@@ -87,13 +88,28 @@ fn key_cause(alloc: Global, text: &str) -> Result<Option<String>, AllocError> {
     }
 }
 
-/// Why a text is no plan: the line at which it is no TOML; the key that is missing, with the line of the header of its table; the
-/// key that is unknown or of another type, with its line; or the hex digits that are wrong. The line is left out where it isn't
-/// known. None where nothing is wrong with the keys.
+/// Why a text that is no plan is none: a header that is written in the place of another one goes before what is said of the text.
+fn with_header(alloc: Global, text: &str, cause: String) -> Result<String, AllocError> {
+    match mistaken_header(text) {
+        Some((line, MistakenHeader { written, meant })) => {
+            format!(in alloc; "line {line}: {meant} is meant where {written} stands")
+        }
+        None => Ok(cause),
+    }
+}
+
+/// Why a text is no plan: a header that is written in the place of another one, as `[input]` in that of `[[input]]`; else the line at
+/// which it is no TOML; the key that is missing, with the line of the header of its table; the key that is unknown or of another type,
+/// with its line; or the hex digits that are wrong. The line is left out where it isn't known. None where nothing is wrong with the
+/// keys.
 pub fn text_cause(alloc: Global, text: &str) -> Result<Option<String>, AllocError> {
-    match syntax_cause(alloc, text)? {
-        Some(cause) => Ok(Some(cause)),
-        None => key_cause(alloc, text),
+    let found = match syntax_cause(alloc, text)? {
+        Some(cause) => Some(cause),
+        None => key_cause(alloc, text)?,
+    };
+    match found {
+        Some(cause) => Ok(Some(with_header(alloc, text, cause)?)),
+        None => Ok(None),
     }
 }
 

@@ -71,3 +71,40 @@ pub(crate) fn header_behind(
     }
     None
 }
+
+/// A header that is written in the place of another one, and that one.
+#[derive(Clone, Copy)]
+pub(crate) struct MistakenHeader {
+    pub written: &'static str,
+    pub meant: &'static str,
+}
+
+/// One of these.
+fn mistaken(written: &'static str, meant: &'static str) -> Option<MistakenHeader> {
+    Some(MistakenHeader { written, meant })
+}
+
+/// The header in a line, where it is written in the place of another one.
+fn mistaken_in(line: &str) -> Option<MistakenHeader> {
+    let (header, _) = line.split_once("#").unwrap_or((line, ""));
+    match header.trim() {
+        "[input]" => mistaken("[input]", "[[input]]"),
+        "[service]" => mistaken("[service]", "[[service]]"),
+        "[service.stream]" => mistaken("[service.stream]", "[[service.stream]]"),
+        "[stream]" => mistaken("[stream]", "[[service.stream]]"),
+        "[[stream]]" => mistaken("[[stream]]", "[[service.stream]]"),
+        _ => None,
+    }
+}
+
+/// The first line, from 1, whose header is written in the place of another one, and that header.
+pub(crate) fn mistaken_header(text: &str) -> Option<(usize, MistakenHeader)> {
+    let mut number = 0usize;
+    for content in text.lines() {
+        number = number.saturating_add(1);
+        if let Some(header) = mistaken_in(content) {
+            return Some((number, header));
+        }
+    }
+    None
+}
