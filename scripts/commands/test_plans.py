@@ -183,7 +183,7 @@ WRONG_KEYS = [
     ("offset = 0", 'offset = 0\nsize = "204"', 'line 16: invalid type: string "204", expected an integer in `input.size`'),
     ("\nleak", "\nrate = 5\nleak", "line 24: unknown field `rate` in `service.stream`"),
     ("leak = 2000000\n", 'leak = 1000\n[[service.stream]]\npid = 258\nout = "513"\nleak = 1000\n', 'line 27: invalid type: string "513", expected an integer in `service.stream.out`'),
-    ("[[input]]", "[input]", "line 12: invalid type: map, expected a sequence in `input`"),
+    ("[[input]]", "[input]", "line 12: [[input]] is meant where [input] stands"),
     ("[[service.stream]]", "[[service.streams]]", "line 21: unknown field `streams` in `service`"),
     ("[[input]]", "[[inputs]]\n[[input]]", "line 12: unknown field `inputs`"),
     ('transport_descriptors = ""', 'transport_descriptors = "410"', "line 11: transport_descriptors has an odd number of hex digits, 3"),
@@ -204,6 +204,13 @@ SDTS = [
 ]
 
 
+# How a service gets a description: the program of the example's input, at the input's rate.
+MENDED = (
+    "\nffmpeg writes a file with one, and with other PIDs: ffmpeg -i 'x.ts' -map 0:p:100 -c copy -copy_unknown -mpegts_service_id 100"
+    " -muxrate 1504000 new.ts"
+)
+
+
 class Plans(CommandCase):
     def at_fault(self, plan, fault, place, files=None):
         """`check` tells this fault and this place of a plan's text."""
@@ -220,7 +227,7 @@ class Plans(CommandCase):
         for sdt, fault, place in SDTS:
             with self.subTest(place):
                 files = {"x.ts": PAT + PMT + sdt + packets(range(5))}
-                self.at_fault(PLAN, fault, f"service 500 (input 0, program 100): {place}", files)
+                self.at_fault(PLAN, fault, f"service 500 (input 0, program 100): {place}{MENDED if fault == 'fault 6 NoSdtRow' else ''}", files)
 
     def test_a_wrong_key_is_told_with_its_line(self):
         """Inputs aren't looked for."""

@@ -10,11 +10,11 @@ use commands::command;
 use example::eight_packets;
 use std::alloc::Global;
 use std::process::Abort;
-use std::str;
 use std::sync::Wait;
 use std::test::Fail;
 use std::thread::Threads;
 use std::time::Clock;
+use std::{io, str};
 
 const RUN: [&str; 5] = ["run", "--plan", "x.toml", "--out", "out.ts"];
 
@@ -42,7 +42,7 @@ fn ends<T: Abort + Threads + Wait + Clock + Copy + Send + Drop + 'static>(
 ) -> Result<()> {
     let mut files = MemoryFiles::new(alloc, example::PLAN, input)?;
     let (mut out, mut err) = (Vec::new(alloc), Vec::new(alloc));
-    let (status, writer) = command(rt, alloc, words, &mut files, &mut out, &mut err);
+    let (status, writer) = command(rt, alloc, words, &mut files, &mut out, &mut err, io::sink());
     let written = writer.map(|sink| sink.into_inner().bytes.len());
     assert_eq!(rt; text(&err), wanted.2);
     assert_eq!(rt; text(&out), wanted.1);

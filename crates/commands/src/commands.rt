@@ -2,7 +2,8 @@
 
 use crate::measuring_inputs::measure;
 use crate::run_command::{Asked, run};
-use files::{CommandFault, FileCause, Files, InputFile, NoNotices, ReadPlan, read_plan};
+use files::{CommandFault, FileCause, Files, InputFile, ReadPlan, read_plan};
+use live::WaitTeller;
 use measuring::{is_input_wrong, is_too_much, print_measured};
 use printing::{
     StreamAnalysis, print_plan, print_rhythm, print_same_files, print_shape, strict_status,
@@ -37,11 +38,15 @@ const TOLD: u8 = 1;
 /// the run go to `err`.
 ///
 /// A run reads each input in a thread of its own, or all in the calling thread where the words ask for that.
+///
+/// What is waited for before a run or a check, once that takes two seconds, a thread says on
+/// `voice`, and nothing more behind it: so `voice` and `err` may be one file.
 pub fn command<
     T: Threads + Wait + Clock + Copy + Send + Drop + 'static,
     F: Files,
     O: Write,
     E: Write,
+    V: Write + Send + Drop + 'static,
     S: AsStr,
 >(
     rt: T,
@@ -50,6 +55,7 @@ pub fn command<
     files: &mut F,
     out: &mut O,
     err: &mut E,
+    voice: V,
 ) -> (u8, Option<F::Writer>)
 where
     F::Again: Send + 'static,
@@ -64,7 +70,7 @@ where
     match line(alloc, words) {
         Err(fault) => (print_line_fault(fault, out, err), None),
         Ok(Command::Check { plan, strict }) => {
-            let ended = check(alloc, files, plan, strict, out, err);
+            let ended = check(rt, alloc, files, plan, strict, out, err, voice);
             (end_over(plan, ended, out, err), None)
         }
         Ok(
@@ -97,7 +103,7 @@ where
                 delays,
                 strict,
             };
-            run::<T, F, O, E, RateMeter>(rt, alloc, files, &asked, out, err)
+            run::<T, F, O, E, V, RateMeter>(rt, alloc, files, &asked, out, err, voice)
         }
     }
 }
@@ -204,15 +210,26 @@ fn print_first<O: Write>(alloc: Global, out: &mut O) -> Result<u8, CommandFault>
 
 /// Shows a plan: its lines, and on `err` what is said of its rhythm and of its inputs' rates. A strict check ends with 1 where these
 /// aren't as they should be.
-fn check<F: Files, O: Write, E: Write>(
+fn check<
+    T: Threads + Wait + Clock + Copy + Send + Drop + 'static,
+    F: Files,
+    O: Write,
+    E: Write,
+    V: Write + Send + Drop + 'static,
+>(
+    rt: T,
     alloc: Global,
     files: &mut F,
     plan: &str,
     is_strict: bool,
     out: &mut O,
     err: &mut E,
+    voice: V,
 ) -> Result<u8, CommandFault> {
-    let ReadPlan { plan, readers, .. } = read_plan(alloc, files, &mut NoNotices, plan)?;
+    let mut teller = WaitTeller::new(rt, alloc, voice);
+    let read = read_plan(alloc, files, &mut teller, plan);
+    teller.end();
+    let ReadPlan { plan, readers, .. } = read?;
     print_plan(&plan, out)?;
     out.flush()?;
     let _ = print_rhythm(&plan, err);

@@ -8,9 +8,10 @@ use crate::commands::{end, end_over};
 use crate::measuring_inputs::tell_low_leaks;
 use crate::whole_run::run_plan;
 use files::{
-    CommandFault, FileIdentity, Files, InputFile, NoNotices, OutputFile, ReadPlan, open_again,
+    CommandFault, FileIdentity, Files, InputFile, Notices, OutputFile, ReadPlan, open_again,
     open_output, read_plan, stopped,
 };
+use live::WaitTeller;
 use measuring::{Metered, is_input_wrong, print_wrong_rates, with_meters};
 use plan::Plan;
 use printing::{
@@ -74,18 +75,27 @@ struct Ran<R> {
 }
 
 /// What a run needs. The output is made last, so that a refused run leaves none.
-fn prepare<F: Files>(
+fn prepare<F: Files, N: Notices>(
     alloc: Global,
     files: &mut F,
+    notices: &mut N,
     asked: &Asked,
 ) -> Result<Prepared<F::Again, F::Writer>, CommandFault>
     ensures { IfOk result (λ p. length p.readers.items ≡ length p.plan.request.inputs) }
 {
-    let read = read_plan(alloc, files, &mut NoNotices, asked.plan)?;
+    let read = read_plan(alloc, files, notices, asked.plan)?;
     let identities = read.identities(alloc)?;
     let kept = read.plan.copy(alloc)?;
     let ReadPlan { plan, readers, .. } = read;
-    let (readers, writer) = open_all(alloc, files, &plan, readers, asked.out, &identities)?;
+    let (readers, writer) = open_all(
+        alloc,
+        files,
+        notices,
+        &plan,
+        readers,
+        asked.out,
+        &identities,
+    )?;
     Ok(Prepared {
         plan,
         kept,
@@ -95,9 +105,10 @@ fn prepare<F: Files>(
 }
 
 /// The inputs of a plan, opened again, and then the output of this name, which has to be none of the files that were read.
-fn open_all<F: Files>(
+fn open_all<F: Files, N: Notices>(
     alloc: Global,
     files: &mut F,
+    notices: &mut N,
     plan: &Plan,
     readers: Vec<F::Reader>,
     name: &str,
@@ -106,17 +117,38 @@ fn open_all<F: Files>(
     ensures { IfOk result (λ opened. length opened.0.items ≡ length plan.now.request.inputs) }
 {
     let readers = open_again(alloc, files, plan, readers)?;
-    let (writer, _) = open_output(alloc, files, &mut NoNotices, name, read)?;
+    let (writer, _) = open_output(alloc, files, notices, name, read)?;
     Ok((readers, writer))
 }
 
+/// What a run needs, while a thread says on `voice` what is waited for.
+fn prepare_telling<
+    T: Threads + Wait + Clock + Copy + Send + Drop + 'static,
+    F: Files,
+    V: Write + Send + Drop + 'static,
+>(
+    rt: T,
+    alloc: Global,
+    files: &mut F,
+    asked: &Asked,
+    voice: V,
+) -> Result<Prepared<F::Again, F::Writer>, CommandFault>
+    ensures { IfOk result (λ p. length p.readers.items ≡ length p.plan.request.inputs) }
+{
+    let mut teller = WaitTeller::new(rt, alloc, voice);
+    let prepared = prepare(alloc, files, &mut teller, asked);
+    teller.end();
+    prepared
+}
+
 /// Makes the multiplex of a plan whose inputs have meters, and prints what became of it. Of a run that goes on until its inputs end, and
-/// by a low leak rate for days, it says first which leak rates are too low.
+/// by a low leak rate for days, it says first which leak rates are too low. What it waits for before it runs it says on `voice`.
 pub(crate) fn run<
     T: Threads + Wait + Clock + Copy + Send + Drop + 'static,
     F: Files,
     O: Write,
     E: Write,
+    V: Write + Send + Drop + 'static,
     M: Meter + Send + Drop + 'static,
 >(
     rt: T,
@@ -125,13 +157,14 @@ pub(crate) fn run<
     asked: &Asked,
     out: &mut O,
     err: &mut E,
+    voice: V,
 ) -> (u8, Option<F::Writer>)
 where
     F::Again: Send + 'static,
     F::Writer: Send + Drop + 'static,
     requires { IsAllowedLength asked.now.length }
 {
-    let prepared = match prepare(alloc, files, asked) {
+    let prepared = match prepare_telling(rt, alloc, files, asked, voice) {
         Ok(prepared) => prepared,
         Err(fault) => return (end_over(asked.plan, Err(fault), out, err), None),
     };

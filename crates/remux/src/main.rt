@@ -65,6 +65,15 @@ fn main(rt: HostRuntime) -> ExitCode {
         return ExitCode::from(no_memory(&mut err));
     };
     let mut files = SystemFiles::new(rt.alloc(), &rt, rt.stdout());
-    let (status, _) = command(rt, rt.alloc(), &words, &mut files, &mut out, &mut err);
+    let alloc = rt.alloc();
+    let (status, _) = command(
+        rt,
+        alloc,
+        &words,
+        &mut files,
+        &mut out,
+        &mut err,
+        rt.stderr(),
+    );
     ExitCode::from(status)
 }
