@@ -383,6 +383,9 @@ answer 'a run of too many slots' 2 run --plan plan.toml --out out.ts --slots 200
 error: invalid value '2000000' for '--slots <N>': 2000000 is not in 1..=1000000
   tip: '--all' goes on until the inputs end
 END
+answer 'a report of each moment' 2 run --plan plan.toml --out out.ts --report 0 << 'END'
+error: invalid value '0' for '--report <N>': 0 is not in 1..=3600
+END
 
 echo "$passed passed, $failed failed"
 [ "$failed" = 0 ]

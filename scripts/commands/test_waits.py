@@ -1,14 +1,15 @@
-"""What is said while a command waits, for the other end of a pipe or for tables, and of runs whose inputs end before others. A slot takes a
-millisecond, as a packet of an input does."""
+"""What is said while a command waits: for the other end of a pipe, for tables, and in a run that reports, for an input. A slot takes a
+millisecond, as a packet of an input does: when packet k of an input was read, slots 0 to k - 1 may go out."""
 import contextlib
 import os
+import re
 import subprocess
 import tempfile
 import time
 
 from does import CHECK, FILES, PROGRAM, CommandCase, does_once, lay
 from small import EIGHT, NULL, PAT, PLAN, PMT, SDT, TABLES, packets
-from test_pipes import PATIENCE, input_with, plan_of
+from test_pipes import ALL, PATIENCE, SERIAL, input_with, late, live, plan_of
 
 # What is said of a pipe that nobody opens, and of one that gives nothing.
 UNOPENED = "wait: {}: it isn't open yet: a pipe waits for its other end\n"
@@ -137,6 +138,95 @@ class BeforeARun(CommandCase):
         more = f"input 0, {name}: it can be read only once, and its tables are not in its first 67108864 bytes\n"
         self.assertTrue(file.err.startswith("fault 6 NoSdtRow\n"), file.err)
         self.assertEqual((without_waits(pipe.err).replace(f"'{name}'", "'x.ts'"), pipe.status), (file.err + more, 3))
+
+
+class InARun(CommandCase):
+    """Runs over pipes that report every second."""
+
+    def says(self, run, pattern, count=1):
+        """Waits until a run has said such a line so often, or more often."""
+        until = time.monotonic() + PATIENCE
+        while len(re.findall(pattern, run.said())) < count and time.monotonic() < until:
+            time.sleep(0.01)
+        self.assertGreaterEqual(len(re.findall(pattern, run.said())), count, run.said())
+
+    def says_no_more(self, run, pattern):
+        """For more than a second a run, which goes on reporting, says no such line again."""
+        before, reports = len(re.findall(pattern, run.said())), run.said().count("report: slots")
+        self.says(run, "report: slots", reports + 2)
+        self.assertEqual(len(re.findall(pattern, run.said())), before, run.said())
+
+    def test_an_input_that_all_wait_for_is_told(self):
+        """The second gives 100 packets, with or without others behind them that the plan doesn't name, and waits: it is told, and again
+        once it went on and waits anew. Slots 0 to 98 went out. What was read of its stream and didn't go out is its queue, which isn't full
+        yet: both inputs have a packet a slot."""
+        for way in ALL, SERIAL:
+            for tail in b"", 20 * NULL:
+                with self.subTest((way, tail[:1])), live(plan_of(inputs=2), inputs=2, words=[*way, "--report", "1"]) as run:
+                    run.feeds(input_with(400), then=run.end)
+                    run.feeds(input_with(100) + tail, 1)
+                    out = run.read(99 * 188)
+                    self.assertEqual(len(out), 99 * 188)
+                    sent = sum(out[at + 1:at + 3] == b"\x02\x01" for at in range(0, len(out), 188))
+                    line = "report: input 1 gives nothing for more than a second, and all wait for it\n"
+                    self.says(run, line)
+                    self.says_no_more(run, line)
+                    position, queue = 18800 + len(tail), 97 - sent
+                    self.says(run, f"report: slots 99 faults 0, input 0 position \\d+ queue \\d+, input 1 position {position} queue {queue} waited for\n")
+                    if not tail:
+                        run.feeds(packets(range(97, 107)), 1)
+                        self.assertEqual(len(run.read(10 * 188)), 10 * 188)
+                        self.says(run, line, 2)
+                    self.assertNotIn("input 0 gives nothing", run.said())
+                    run.end(1)
+                    run.read(10**6)
+                    self.assertEqual(run.status(), 0)
+
+    def test_an_input_that_begins_later_is_waited_for(self):
+        """From the start all wait for its first packet."""
+        plan = late(plan_of(inputs=2), 27_000_000)
+        with live(plan, inputs=2, words=[*ALL, "--report", "1"]) as run:
+            run.feeds(input_with(30))
+            run.feed(TABLES + 5 * NULL, 1)
+            self.says(run, r"report: slots 0 faults 0, input 0 position \d+ queue \d+, input 1 position 1504 queue 0 waited for\n")
+
+    def test_an_input_that_ends_while_others_go_on_is_told(self):
+        """Once, and behind it each report says it. Where all have ended nothing is told."""
+        for way in ALL, SERIAL:
+            with self.subTest(way), live(plan_of(inputs=2), inputs=2, words=[*way, "--report", "1"]) as run:
+                run.feeds(input_with(20))
+                run.feeds(input_with(100), 1)
+                run.read(19 * 188)
+                run.end(0)
+                run.read(79 * 188)
+                line = "report: input 0 ended at 3760, and others go on\n"
+                self.says(run, line)
+                self.says_no_more(run, line)
+                self.says(run, r"report: slots \d+ faults 0, input 0 position 3760 queue 0 ended, input 1 position 18800 ")
+                run.end(1)
+                run.read(10**6)
+                self.assertEqual(run.status(), 0)
+                self.assertNotIn("input 1 ended", run.said())
+
+    def test_faults_are_counted(self):
+        """The packet with counter 7 is missing: the output has a fault of its counter, and no other."""
+        octets = TABLES + packets([*range(7), *range(8, 50)])
+        for way in ALL, SERIAL:
+            with self.subTest(way), live(plan_of(), words=[*way, "--report", "1"]) as run:
+                run.feeds(octets)
+                run.read(51 * 188)
+                self.says(run, r"report: slots 51 faults 1, input 0 position 9776 queue \d+ waited for\n")
+                run.end()
+                run.read(10**6)
+                self.assertEqual(run.status(), 0)
+
+    def test_nothing_is_told_that_is_not_asked_for(self):
+        with live(plan_of(inputs=2), inputs=2) as run:
+            run.feeds(input_with(20))
+            run.feeds(input_with(10), 1)
+            run.read(9 * 188)
+            time.sleep(1.5)
+            self.assertEqual(without_waits(run.said()), "")
 
 
 class BehindARun(CommandCase):

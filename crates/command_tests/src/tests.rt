@@ -8,6 +8,7 @@ use crate::tests::memory_files::MemoryFiles;
 use anyhow::Result;
 use commands::command;
 use example::eight_packets;
+use live::WatchedFiles;
 use std::alloc::Global;
 use std::process::Abort;
 use std::sync::Wait;
@@ -40,10 +41,11 @@ fn ends<T: Abort + Threads + Wait + Clock + Copy + Send + Drop + 'static>(
     input: Vec<u8>,
     wanted: (u8, &str, &str, Option<usize>),
 ) -> Result<()> {
-    let mut files = MemoryFiles::new(alloc, example::PLAN, input)?;
+    let files = MemoryFiles::new(alloc, example::PLAN, input)?;
+    let mut files = WatchedFiles::new(alloc, files);
     let (mut out, mut err) = (Vec::new(alloc), Vec::new(alloc));
     let (status, writer) = command(rt, alloc, words, &mut files, &mut out, &mut err, io::sink());
-    let written = writer.map(|sink| sink.into_inner().bytes.len());
+    let written = writer.map(|sink| sink.into_inner().into_inner().bytes.len());
     assert_eq!(rt; text(&err), wanted.2);
     assert_eq!(rt; text(&out), wanted.1);
     assert_eq!(rt; status, wanted.0);

@@ -3,7 +3,7 @@
 use crate::measuring_inputs::measure;
 use crate::run_command::{Asked, run};
 use files::{CommandFault, FileCause, Files, InputFile, ReadPlan, read_plan};
-use live::WaitTeller;
+use live::{RunFiles, WaitTeller};
 use measuring::{is_input_wrong, is_too_much, print_measured};
 use printing::{
     StreamAnalysis, print_plan, print_rhythm, print_same_files, print_shape, strict_status,
@@ -39,14 +39,14 @@ const TOLD: u8 = 1;
 ///
 /// A run reads each input in a thread of its own, or all in the calling thread where the words ask for that.
 ///
-/// What is waited for before a run or a check, once that takes two seconds, a thread says on
+/// What is waited for before a run or a check, once that takes two seconds, and how far a run is that is asked for that, a thread says on
 /// `voice`, and nothing more behind it: so `voice` and `err` may be one file.
 pub fn command<
     T: Threads + Wait + Clock + Copy + Send + Drop + 'static,
-    F: Files,
+    F: RunFiles,
     O: Write,
     E: Write,
-    V: Write + Send + Drop + 'static,
+    V: Write + Copy + Send + Drop + 'static,
     S: AsStr,
 >(
     rt: T,
@@ -93,6 +93,7 @@ where
                 serial,
                 delays,
                 strict,
+                report,
             },
         ) => {
             let asked = Asked {
@@ -102,6 +103,7 @@ where
                 is_serial: serial,
                 delays,
                 strict,
+                report,
             };
             run::<T, F, O, E, V, RateMeter>(rt, alloc, files, &asked, out, err, voice)
         }

@@ -8,10 +8,10 @@ use crate::commands::{end, end_over};
 use crate::measuring_inputs::tell_low_leaks;
 use crate::whole_run::run_plan;
 use files::{
-    CommandFault, FileIdentity, Files, InputFile, Notices, OutputFile, ReadPlan, open_again,
-    open_output, read_plan, stopped,
+    CommandFault, FileCause, FileIdentity, Files, InputFile, Notices, OutputFile, ReadPlan,
+    open_again, open_output, read_plan, stopped,
 };
-use live::WaitTeller;
+use live::{Reporter, RunBoard, RunFiles, WaitTeller, print_board};
 use measuring::{Metered, is_input_wrong, print_wrong_rates, with_meters};
 use plan::Plan;
 use printing::{
@@ -21,9 +21,9 @@ use printing::{
 use rate_meter::Meter;
 use reading::{InputLimit, Stop};
 use serial::{RunFault, Summary};
-use std::alloc::Global;
+use std::alloc::{AllocError, Global};
 use std::io::Write;
-use std::sync::Wait;
+use std::sync::{Arc, Wait};
 use std::thread::Threads;
 use std::time::Clock;
 use words::{RunLength, most_slots};
@@ -43,6 +43,8 @@ pub(crate) struct Asked<'a> {
     pub delays: bool,
     /// Whether a run that shows what isn't as it should be ends with status 1.
     pub strict: bool,
+    /// After how many seconds each time it is said how far the run is, if it is.
+    pub report: Option<u64>,
 }
 
 /// The most bytes of an input of a run of this length.
@@ -58,6 +60,7 @@ fn input_limit(length: RunLength) -> InputLimit
 }
 
 /// What a run needs: a plan, what its inputs are read from, and what its output is written to.
+#[derive(Drop)]
 struct Prepared<R, W> {
     plan: Plan,
     /// An equal plan, for the names of the inputs.
@@ -74,19 +77,20 @@ struct Ran<R> {
     readers: Vec<R>,
 }
 
-/// What a run needs. The output is made last, so that a refused run leaves none.
-fn prepare<F: Files, N: Notices>(
+/// What a run needs, and the board on which it is noted how far it is. The output is made last, so that a refused run leaves none.
+fn prepare<F: RunFiles, N: Notices>(
     alloc: Global,
     files: &mut F,
     notices: &mut N,
     asked: &Asked,
-) -> Result<Prepared<F::Again, F::Writer>, CommandFault>
-    ensures { IfOk result (λ p. length p.readers.items ≡ length p.plan.request.inputs) }
+) -> Result<(Prepared<F::Again, F::Writer>, Arc<RunBoard, Global>), CommandFault>
+    ensures { IfOk result (λ p. length p.0.readers.items ≡ length p.0.plan.request.inputs) }
 {
     let read = read_plan(alloc, files, notices, asked.plan)?;
     let identities = read.identities(alloc)?;
     let kept = read.plan.copy(alloc)?;
     let ReadPlan { plan, readers, .. } = read;
+    let board = files.watch(alloc, &plan, asked.report.is_some())?;
     let (readers, writer) = open_all(
         alloc,
         files,
@@ -96,12 +100,13 @@ fn prepare<F: Files, N: Notices>(
         asked.out,
         &identities,
     )?;
-    Ok(Prepared {
+    let prepared = Prepared {
         plan,
         kept,
         readers,
         writer,
-    })
+    };
+    Ok((prepared, board))
 }
 
 /// The inputs of a plan, opened again, and then the output of this name, which has to be none of the files that were read.
@@ -124,7 +129,7 @@ fn open_all<F: Files, N: Notices>(
 /// What a run needs, while a thread says on `voice` what is waited for.
 fn prepare_telling<
     T: Threads + Wait + Clock + Copy + Send + Drop + 'static,
-    F: Files,
+    F: RunFiles,
     V: Write + Send + Drop + 'static,
 >(
     rt: T,
@@ -132,8 +137,8 @@ fn prepare_telling<
     files: &mut F,
     asked: &Asked,
     voice: V,
-) -> Result<Prepared<F::Again, F::Writer>, CommandFault>
-    ensures { IfOk result (λ p. length p.readers.items ≡ length p.plan.request.inputs) }
+) -> Result<(Prepared<F::Again, F::Writer>, Arc<RunBoard, Global>), CommandFault>
+    ensures { IfOk result (λ p. length p.0.readers.items ≡ length p.0.plan.request.inputs) }
 {
     let mut teller = WaitTeller::new(rt, alloc, voice);
     let prepared = prepare(alloc, files, &mut teller, asked);
@@ -142,13 +147,14 @@ fn prepare_telling<
 }
 
 /// Makes the multiplex of a plan whose inputs have meters, and prints what became of it. Of a run that goes on until its inputs end, and
-/// by a low leak rate for days, it says first which leak rates are too low. What it waits for before it runs it says on `voice`.
+/// by a low leak rate for days, it says first which leak rates are too low. What it waits for before it runs it says on `voice`, and how
+/// far it is, where it is asked for that.
 pub(crate) fn run<
     T: Threads + Wait + Clock + Copy + Send + Drop + 'static,
-    F: Files,
+    F: RunFiles,
     O: Write,
     E: Write,
-    V: Write + Send + Drop + 'static,
+    V: Write + Copy + Send + Drop + 'static,
     M: Meter + Send + Drop + 'static,
 >(
     rt: T,
@@ -164,7 +170,7 @@ where
     F::Writer: Send + Drop + 'static,
     requires { IsAllowedLength asked.now.length }
 {
-    let prepared = match prepare_telling(rt, alloc, files, asked, voice) {
+    let (prepared, board) = match prepare_telling(rt, alloc, files, asked, voice) {
         Ok(prepared) => prepared,
         Err(fault) => return (end_over(asked.plan, Err(fault), out, err), None),
     };
@@ -172,7 +178,9 @@ where
         tell_low_leaks(alloc, files, &prepared.plan, &prepared.readers, err);
     }
     let is_standard = files.is_standard_output(asked.out);
-    let (writer, ran) = run_prepared::<T, F, M>(rt, alloc, files, prepared, asked);
+    let (writer, ran) = run_reporting::<T, F, V, M>(
+        rt, alloc, files, prepared, &board, asked, voice,
+    );
     let status = match ran {
         Ok((ran, named)) => {
             let told = tell_run(&ran, is_standard, asked.delays, out, err);
@@ -181,12 +189,21 @@ where
             strict_status(asked.strict, is_sound(&ran), status)
         }
         Err(fault) => {
+            let has_left = has_no_reader(&fault);
             let status = end(Err(fault), out, err);
+            if has_left {
+                let _ = print_board(&board, err);
+            }
             tell_partial(files, err);
             status
         }
     };
     (status, Some(writer))
+}
+
+/// Whether a run failed since nobody reads its output any more.
+fn has_no_reader(fault: &CommandFault) -> bool {
+    matches!(fault, CommandFault::File(_, FileCause::NoReader))
 }
 
 /// Whether a run shows that its plan and its inputs are as they should be: the plan isn't overfull, no input ended before others, and
@@ -219,6 +236,58 @@ fn tell_partial<F: Files, E: Write>(files: &F, err: &mut E) {
     }
 }
 
+/// A thread that says on `voice` how far a run is, where that is asked for.
+fn start_reporter<
+    T: Threads + Wait + Clock + Copy + Send + Drop + 'static,
+    V: Write + Send + Drop + 'static,
+>(
+    rt: T,
+    alloc: Global,
+    board: &Arc<RunBoard, Global>,
+    asked: &Asked,
+    voice: V,
+) -> Result<Option<Reporter>, AllocError> {
+    match asked.report {
+        Some(seconds) => Ok(Some(Reporter::start(rt, alloc, board, seconds, voice)?)),
+        None => Ok(None),
+    }
+}
+
+/// How a run ended: by itself, and then what became of its output, or by a fault.
+type Ended<R> = Result<(Ran<R>, Result<u8, CommandFault>), CommandFault>;
+
+/// Makes the multiplex of a plan, as `run_prepared`, while a thread says on `voice` how far it is, where that is asked for.
+fn run_reporting<
+    T: Threads + Wait + Clock + Copy + Send + Drop + 'static,
+    F: Files,
+    V: Write + Send + Drop + 'static,
+    M: Meter + Send + Drop + 'static,
+>(
+    rt: T,
+    alloc: Global,
+    files: &mut F,
+    prepared: Prepared<F::Again, F::Writer>,
+    board: &Arc<RunBoard, Global>,
+    asked: &Asked,
+    voice: V,
+) -> (F::Writer, Ended<Metered<F::Again, M>>)
+where
+    F::Again: Send + 'static,
+    F::Writer: Send + Drop + 'static,
+    requires readers { length prepared.readers.items ≡ length prepared.plan.request.inputs }
+    requires length { IsAllowedLength asked.now.length }
+{
+    let Ok(reporter) = start_reporter(rt, alloc, board, asked, voice) else {
+        let Prepared { writer, .. } = prepared;
+        return (writer, Err(CommandFault::Memory));
+    };
+    let ended = run_prepared::<T, F, M>(rt, alloc, files, prepared, asked);
+    if let Some(reporter) = reporter {
+        reporter.end(&rt);
+    }
+    ended
+}
+
 /// Makes the multiplex of a plan. A run that has ended by itself is answered with what became of its output.
 fn run_prepared<
     T: Threads + Wait + Clock + Copy + Send + Drop + 'static,
@@ -230,10 +299,7 @@ fn run_prepared<
     files: &mut F,
     prepared: Prepared<F::Again, F::Writer>,
     asked: &Asked,
-) -> (
-    F::Writer,
-    Result<(Ran<Metered<F::Again, M>>, Result<u8, CommandFault>), CommandFault>,
-)
+) -> (F::Writer, Ended<Metered<F::Again, M>>)
 where
     F::Again: Send + 'static,
     F::Writer: Send + Drop + 'static,

@@ -6,6 +6,7 @@
 
 use commands::command;
 use files::{CommandFault, SystemFiles};
+use live::WatchedFiles;
 use std::fs::OpenOptions;
 use std::io::{BufWriter, ErrorKind, Write};
 use std::os::fd::{AsRawFd, IntoRawFd};
@@ -64,8 +65,8 @@ fn main(rt: HostRuntime) -> ExitCode {
     let Ok(mut out) = BufWriter::new(rt.alloc(), rt.stdout()) else {
         return ExitCode::from(no_memory(&mut err));
     };
-    let mut files = SystemFiles::new(rt.alloc(), &rt, rt.stdout());
     let alloc = rt.alloc();
+    let mut files = WatchedFiles::new(alloc, SystemFiles::new(alloc, &rt, rt.stdout()));
     let (status, _) = command(
         rt,
         alloc,

@@ -1,5 +1,5 @@
 -- What a command line may ask for (profile).
-use Rattle.std.specs.Prelude.{ℕ, ◌≤◌}
+use Rattle.std.specs.Prelude.{ℕ, ◌≤◌, IfSome}
 use Rattle.words.specs.declared.command.Command.{Command}
 use Rattle.words.specs.declared.command.Command.TheVariants.{Run, Check, Analyse}
 use Rattle.words.specs.declared.run_length.RunLength.{RunLength}
@@ -19,8 +19,9 @@ abbrev pub most_slots_of : RunLength → ℕ
 most_slots_of (Slots slots) = slots
 most_slots_of All = 1099511627776
 
--- the numbers of a command are in their ranges: slots of a run, a rate in bits a second, and a period in slots
+-- the numbers of a command are in their ranges: slots of a run and the seconds between its reports, a rate in bits a second, and a
+-- period in slots
 abbrev pub IsAllowed : Command → Type 0
-IsAllowed (Run plan out length serial delays strict) = IsAllowedLength length
+IsAllowed (Run plan out length serial delays strict report) = IsAllowedLength length × IfSome report (IsWithin 1 3600)
 IsAllowed (Check plan strict) = Unit {0}
 IsAllowed (Analyse format rate period file) = IsWithin 500000 100000000 rate × IsWithin 1 1000000 period

@@ -20,6 +20,8 @@ pub enum Command<'a> {
         delays: bool,
         /// Whether a run that shows that its plan or an input isn't as it should be ends with status 1.
         strict: bool,
+        /// After how many seconds each time it is said how far the run is, 1 to 3,600, if it is.
+        report: Option<u64>,
     },
     /// Make the plan, and show it.
     Check {
@@ -54,6 +56,8 @@ pub enum LineFault {
 
 /// The most slots of a run that isn't asked to go on until its inputs end, and of a watched period.
 pub(crate) const MOST_SLOTS: u64 = 1_000_000;
+/// The most seconds from one report of a run to the next.
+pub(crate) const MOST_SECONDS: u64 = 3_600;
 /// The least rate of a stream, in bits a second.
 pub(crate) const LEAST_RATE: u64 = 500_000;
 /// The largest one.

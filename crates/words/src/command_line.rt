@@ -4,7 +4,7 @@ ghost use Rattle.std.specs.Prelude.{◌≡◌, IfOk, IfSome};
 ghost use Rattle.tspkt.specs.PacketFormat.{stride_of};
 ghost use Rattle.words.specs.Ranges.{IsWithin, IsAllowedLength, IsAllowed};
 
-use crate::command::{Command, LEAST_RATE, LineFault, MOST_RATE, MOST_SLOTS};
+use crate::command::{Command, LEAST_RATE, LineFault, MOST_RATE, MOST_SECONDS, MOST_SLOTS};
 use crate::options::program;
 use crate::run_length::RunLength;
 use clap::error::ErrorKind;
@@ -35,6 +35,13 @@ fn length_of(matches: &ArgMatches) -> Option<RunLength>
     Some(RunLength::Slots(slots))
 }
 
+/// After how many seconds each time a run is to say how far it is, if it is to.
+fn report_of(matches: &ArgMatches) -> Option<u64>
+    ensures { IfSome result (IsWithin 1 3600) }
+{
+    within(matches.get_one::<u64>("report")?, 1, MOST_SECONDS)
+}
+
 /// The format of packets that stand so many bytes apart, if it is one.
 fn format_of(size: u64) -> Option<PacketFormat>
     ensures { IfSome result (λ format. stride_of format ≡ size) }
@@ -58,6 +65,7 @@ fn command_of<'a>(name: &str, matches: &ArgMatches<'a>) -> Option<Command<'a>>
             serial: matches.get_flag("serial"),
             delays: matches.get_flag("delays"),
             strict: matches.get_flag("strict"),
+            report: report_of(matches),
         }),
         "check" => Some(Command::Check {
             plan: matches.get_str("plan")?,

@@ -1,6 +1,6 @@
 //! The commands and their options, as the parser knows them, and their help.
 
-use crate::command::{LEAST_RATE, MOST_RATE, MOST_SLOTS};
+use crate::command::{LEAST_RATE, MOST_RATE, MOST_SECONDS, MOST_SLOTS};
 use clap::builder::ValueParser;
 use clap::{Arg, ArgAction, Command};
 use std::alloc::{AllocError, Global};
@@ -15,7 +15,7 @@ const EXAMPLE: &str = "Example, from the top of the repository:
 Status: 0 success, 1 analyse reported a fault or --strict what is wrong with a plan or an input, 2 refused words, 3 refused plan, 4 a file that failed, 5 out of memory.";
 
 const RUN_USAGE: &str =
-    "remux run --plan <F> --out <F> [--slots <N> | --all] [--serial] [--delays] [--strict]";
+    "remux run --plan <F> --out <F> [--slots <N> | --all] [--serial] [--delays] [--strict] [--report <N>]";
 
 const RUN_EXAMPLE: &str =
     "It prints a line for each input and one for the output, on standard error where the multiplex goes to standard output.
@@ -33,6 +33,9 @@ the plan is overfull; where the queue came to the plan's 'queue' it may be.
 A stream whose packets waited more than a second is reported on standard error, \
 and one whose queue came to the plan's 'queue' too; so are inputs whose rate isn't as the plan states or that ended a second before others, \
 and a 'leak' that is too low. With --strict the status of such a run is 1; its output is the same.
+
+With --report 10 it prints every 10 seconds how far the run is, on standard error; and at once where an input ends while others go on, \
+or makes all wait for more than a second.
 
 Example:
   ./remux run --plan examples/plan.toml --out out.ts --slots 50000";
@@ -119,6 +122,12 @@ fn strict<'a>(alloc: Global) -> Arg<'a> {
     flag(alloc, "strict", help)
 }
 
+/// The option `--report N`.
+fn report<'a>(alloc: Global) -> Arg<'a> {
+    let help = "Print on standard error every N seconds how far the run is, 1 to 3600";
+    number(alloc, "report", help, 1, MOST_SECONDS)
+}
+
 /// The option `--rate N`.
 fn rate<'a>(alloc: Global) -> Arg<'a> {
     let help = "The rate of the stream in bits a second, 500000 to 100000000";
@@ -168,7 +177,8 @@ fn run_command<'a>(alloc: Global) -> Result<Command<'a>, AllocError> {
             "delays",
             "Print on standard error how long streams waited",
         ))?
-        .arg(strict(alloc))
+        .arg(strict(alloc))?
+        .arg(report(alloc))
 }
 
 fn check_command<'a>(alloc: Global) -> Result<Command<'a>, AllocError> {
