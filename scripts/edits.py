@@ -2,8 +2,7 @@
 """Says which edits apply nowhere: of each wrong body in crates/*/must-fail and wrong-bodies it looks whether each text that is to be
 replaced stands exactly once in its file. Further pairs of an edit apply to what the earlier ones made. And it says of which crates the
 bodies in wrong-bodies aren't known to be refused as the crate stands now (`wrong_bodies.py`). It proves nothing. From anywhere:
-scripts/edits.py. The last line counts; the status is 1 where a text doesn't stand once, or where a crate changed since its bodies were
-refused."""
+scripts/edits.py. The last line counts; the status is 1 where a text doesn't stand once, or where a crate's bodies are to be tried."""
 
 import sys
 from pathlib import Path
@@ -52,9 +51,9 @@ def main():
             print(f"{edit.relative_to(TOP)}: {text}")
         wrong += bool(found)
     for name in untried():
-        is_changed = name in read_tried()
-        print(f"wrong-bodies/{name}: to be tried{', since its crate changed' if is_changed else ''}: scripts/wrong_bodies.py")
-        wrong += is_changed
+        why = "its crate changed" if name in read_tried() else "they weren't yet"
+        print(f"wrong-bodies/{name}: to be tried, since {why}: scripts/wrong_bodies.py {name}")
+        wrong += 1
     print(f"{len(edits) + len(all_names()) - wrong} passed, {wrong} failed")
     return 1 if wrong else 0
 
