@@ -1,8 +1,9 @@
 //! A multiplex of one input that keeps what it sends.
 
-ghost use Rattle.std.specs.Prelude.{◌≡◌, length, IfOk};
+ghost use Rattle.std.specs.Prelude.{◌≡◌, ◌<◌, true, length};
+ghost use Rattle.mux.specs.History.{slots};
 
-use crate::driven::{Item, stamped};
+use crate::item::{Item, stamped};
 use crate::plans::plan_with;
 use anyhow::{Result, bail};
 use mux::{RecordedMux, Slot, Taken};
@@ -14,13 +15,6 @@ use tspkt::Packet;
 /// How many of the first bytes of a packet are printed.
 const HEAD: usize = 28;
 
-/// A multiplex of one input that keeps what it sends.
-#[derive(Drop)]
-pub struct Kept {
-    mux: RecordedMux,
-    ghost inputs: { length mux.run.plan.request.inputs ≡ 1 },
-}
-
 /// Prints the first bytes of a packet in hex digits.
 fn print_head<W: Write>(packet: &Packet, out: &mut W) -> io::Result<()> {
     for byte in packet.bytes().iter().take(HEAD) {
@@ -30,64 +24,79 @@ fn print_head<W: Write>(packet: &Packet, out: &mut W) -> io::Result<()> {
     Ok(())
 }
 
-impl Kept {
-    /// One of the example's plan.
-    fn open(alloc: Global) -> Result<Kept> {
-        let plan = plan_with(alloc, 64, &[0])?;
-        if plan.inputs().len() != 1 {
-            bail!("the plan has another number of inputs");
-        }
-        let mux = RecordedMux::open(alloc, plan, 1_000)?;
-        Ok(Kept { mux })
-    }
+/// Whether it has an input.
+fn has_input(kept: &RecordedMux) -> bool
+    ensures { result ≡ true → 0 < length kept.now.run.plan.request.inputs }
+{
+    !kept.mux().plan().inputs().is_empty()
+}
 
-    /// Gives it a packet with this counter, which comes in that slot.
-    fn take(&mut self, counter: u64) -> Result<()> {
-        let item = stamped(Item {
-            pid: 257,
-            counter,
-            stamp: counter.saturating_mul(27_000).saturating_add(1_436),
-        })?;
-        match self.mux.take(0, item) {
-            Taken::Ok => Ok(()),
-            _ => bail!("packet {counter} was not taken"),
-        }
+/// Gives its input a packet with this counter, which comes in that slot.
+fn take(kept: &mut RecordedMux, counter: u64) -> Result<()> {
+    let item = stamped(Item {
+        pid: 257,
+        counter,
+        stamp: counter.saturating_mul(27_000).saturating_add(1_436),
+    })?;
+    if !has_input(kept) {
+        bail!("there is no input");
     }
+    match kept.take(0, item) {
+        Taken::Ok => Ok(()),
+        _ => bail!("packet {counter} was not taken"),
+    }
+}
 
-    /// Closes its input, and sends all slots: how many they are.
-    fn end(&mut self) -> Result<u64> {
-        if self.mux.close(0).is_err() {
-            bail!("not closed");
-        }
-        for slot in 0..1_000 {
-            match self.mux.slot() {
-                Slot::Sent(_) => {}
-                Slot::Done => return Ok(slot),
-                _ => bail!("slot {slot} was not sent"),
-            }
-        }
-        bail!("too many slots")
+/// Closes its input.
+fn close(kept: &mut RecordedMux) -> Result<()> {
+    if !has_input(kept) || kept.close(0).is_err() {
+        bail!("not closed");
     }
+    Ok(())
+}
 
-    /// Prints the packet of a slot.
-    fn print_packet<W: Write>(&self, slot: u64, out: &mut W) -> Result<()> {
-        if slot >= self.mux.mux().slots() {
-            bail!("slot {slot} was not sent");
+/// Sends the next slot.
+fn slot(kept: &mut RecordedMux) -> Slot {
+    kept.slot()
+}
+
+/// Closes its input, and sends all slots: how many they are.
+fn end(kept: &mut RecordedMux) -> Result<u64> {
+    close(kept)?;
+    for number in 0..1_000 {
+        match slot(kept) {
+            Slot::Sent(_) => {}
+            Slot::Done => return Ok(number),
+            _ => bail!("slot {number} was not sent"),
         }
-        print_head(&self.mux.emitted(slot), out)?;
-        Ok(())
     }
+    bail!("too many slots")
+}
+
+/// How many slots it sent.
+fn slots_of(kept: &RecordedMux) -> u64
+    ensures { result ≡ slots kept.now.events }
+{
+    kept.mux().slots()
+}
+
+/// The packet of a slot.
+fn packet(kept: &RecordedMux, slot: u64) -> Result<Packet> {
+    if slot >= slots_of(kept) {
+        bail!("slot {slot} was not sent");
+    }
+    Ok(kept.emitted(slot))
 }
 
 /// `kept COUNT`: so many packets go through; behind the last slot the packet of each is asked for, of which the first 28 bytes are printed.
 pub fn keep<W: Write>(alloc: Global, count: u64, out: &mut W) -> Result<()> {
-    let mut kept = Kept::open(alloc)?;
+    let mut kept = RecordedMux::open(alloc, plan_with(alloc, 64, &[0])?, 1_000)?;
     for counter in 0..count {
-        kept.take(counter)?;
+        take(&mut kept, counter)?;
     }
-    let slots = kept.end()?;
+    let slots = end(&mut kept)?;
     for slot in 0..slots {
-        kept.print_packet(slot, out)?;
+        print_head(&packet(&kept, slot)?, out)?;
         write!(out, ";")?;
     }
     Ok(())

@@ -3,8 +3,10 @@
 //! that each example of a plan comes with: a slot and a packet of an input take 27,000 ticks of 27 MHz.
 #![tactic(auto)]
 
+mod asking;
 mod calls;
-mod driven;
+mod driving;
+mod item;
 mod kept;
 mod numbers;
 mod plans;
@@ -15,10 +17,10 @@ use std::io::{BufWriter, Write};
 
 fn main(rt: HostRuntime) -> Result<()> {
     let alloc = rt.alloc();
-    let mut driven = None;
+    let mut opened = None;
     let mut out = BufWriter::new(alloc, rt.stdout())?;
     for line in rt.lines(alloc) {
-        tell(alloc, &mut driven, line?.as_str(), &mut out)?;
+        tell(alloc, &mut opened, line?.as_str(), &mut out)?;
     }
     out.flush()?;
     Ok(())
