@@ -11,17 +11,32 @@ mod kept;
 mod numbers;
 mod plans;
 
-use crate::calls::tell;
+use crate::calls::{let_go, tell};
 use anyhow::Result;
+use mux::Mux;
+use std::alloc::Global;
 use std::io::{BufWriter, Write};
+
+/// Tells each line of standard input.
+fn tell_lines<W: Write>(
+    alloc: Global,
+    rt: HostRuntime,
+    opened: &mut Option<Mux>,
+    out: &mut W,
+) -> Result<()> {
+    for line in rt.lines(alloc) {
+        tell(alloc, opened, line?.as_str(), out)?;
+    }
+    Ok(())
+}
 
 fn main(rt: HostRuntime) -> Result<()> {
     let alloc = rt.alloc();
-    let mut opened = None;
     let mut out = BufWriter::new(alloc, rt.stdout())?;
-    for line in rt.lines(alloc) {
-        tell(alloc, &mut opened, line?.as_str(), &mut out)?;
-    }
+    let mut opened = None;
+    let told = tell_lines(alloc, rt, &mut opened, &mut out);
+    let_go(opened);
+    told?;
     out.flush()?;
     Ok(())
 }
