@@ -9,10 +9,11 @@ use anyhow::{Result, bail};
 use mux::Mux;
 use std::alloc::Global;
 use std::io::Write;
+use std::mem;
 
 /// Prints what a line tells: itself where it is a comment, nothing where it is empty or opens a multiplex, and else what its call
 /// answered.
-pub fn tell<W: Write>(alloc: Global, mux: &mut Option<Mux>, line: &str, out: &mut W) -> Result<()> {
+pub fn tell<W: Write>(alloc: Global, mux: &mut Mux, line: &str, out: &mut W) -> Result<()> {
     if line.is_empty() {
         return Ok(());
     }
@@ -29,7 +30,7 @@ pub fn tell<W: Write>(alloc: Global, mux: &mut Option<Mux>, line: &str, out: &mu
 }
 
 /// Lets a multiplex go: each place that does is dear to prove, so all do it here.
-pub fn let_go(_mux: Option<Mux>) {}
+pub fn let_go(_mux: Mux) {}
 
 /// The name of a line's call, and the rest of the line.
 fn call_of(line: &str) -> (&str, &str) {
@@ -39,7 +40,7 @@ fn call_of(line: &str) -> (&str, &str) {
 /// Prints a line, and behind it what its call answered.
 fn answer<W: Write>(
     alloc: Global,
-    mux: &mut Option<Mux>,
+    mux: &mut Mux,
     line: &str,
     call: &str,
     numbers: &[u64],
@@ -56,15 +57,7 @@ fn answer<W: Write>(
 }
 
 /// Prints what a call of the multiplex that was opened last answered.
-fn of_opened<W: Write>(
-    mux: &mut Option<Mux>,
-    call: &str,
-    numbers: &[u64],
-    out: &mut W,
-) -> Result<()> {
-    let Some(mux) = mux else {
-        bail!("no multiplex was opened");
-    };
+fn of_opened<W: Write>(mux: &mut Mux, call: &str, numbers: &[u64], out: &mut W) -> Result<()> {
     if !of_packets(mux, call, numbers, out)? {
         of_counts(mux, call, numbers, out)?;
     }
@@ -73,7 +66,7 @@ fn of_opened<W: Write>(
 
 /// `open SLOTS QUEUE TIME..`: a multiplex for at most so many slots, with queues of so many packets, and an input that begins at each
 /// of these times. `fast SLOTS`: that of a fast input.
-fn open(alloc: Global, mux: &mut Option<Mux>, call: &str, numbers: &[u64]) -> Result<()> {
+fn open(alloc: Global, mux: &mut Mux, call: &str, numbers: &[u64]) -> Result<()> {
     let plan = if call == "fast" {
         fast_plan(alloc)?
     } else {
@@ -84,7 +77,7 @@ fn open(alloc: Global, mux: &mut Option<Mux>, call: &str, numbers: &[u64]) -> Re
         )?
     };
     let opened = asking::open(alloc, plan, at(numbers, 0)?)?;
-    let_go(mux.replace(opened));
+    let_go(mem::replace(mux, opened));
     Ok(())
 }
 

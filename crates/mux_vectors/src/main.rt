@@ -11,21 +11,18 @@ mod kept;
 mod numbers;
 mod plans;
 
+use crate::asking::open;
 use crate::calls::{let_go, tell};
+use crate::plans::fast_plan;
 use anyhow::Result;
 use mux::Mux;
 use std::alloc::Global;
 use std::io::{BufWriter, Write};
 
 /// Tells each line of standard input.
-fn tell_lines<W: Write>(
-    alloc: Global,
-    rt: HostRuntime,
-    opened: &mut Option<Mux>,
-    out: &mut W,
-) -> Result<()> {
+fn tell_lines<W: Write>(alloc: Global, rt: HostRuntime, mux: &mut Mux, out: &mut W) -> Result<()> {
     for line in rt.lines(alloc) {
-        tell(alloc, opened, line?.as_str(), out)?;
+        tell(alloc, mux, line?.as_str(), out)?;
     }
     Ok(())
 }
@@ -33,9 +30,10 @@ fn tell_lines<W: Write>(
 fn main(rt: HostRuntime) -> Result<()> {
     let alloc = rt.alloc();
     let mut out = BufWriter::new(alloc, rt.stdout())?;
-    let mut opened = None;
-    let told = tell_lines(alloc, rt, &mut opened, &mut out);
-    let_go(opened);
+    // That of no slot is there before the first is opened.
+    let mut mux = open(alloc, fast_plan(alloc)?, 0)?;
+    let told = tell_lines(alloc, rt, &mut mux, &mut out);
+    let_go(mux);
     told?;
     out.flush()?;
     Ok(())
