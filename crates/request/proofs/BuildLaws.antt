@@ -5,7 +5,7 @@ use Rattle.std.proofs.lemmas.List.Sums.{AllPass-from_list_all}
 use Rattle.std.proofs.lemmas.List.Elements.{All-weaker}
 use Rattle.std.proofs.lemmas.List.Folds.{list_all-map}
 use Rattle.request.specs.declared.plan_fault.PlanFault.{PlanFault}
-use Rattle.request.specs.declared.plan_fault.PlanFault.TheVariants.{BadText, OutOfRange, ServiceTaken, PidTaken, NoProgram, NoSdtRow, CaFound, RateMissing, StreamUnknown, TooLarge, RoundTooLong, PeriodTooLong, Memory}
+use Rattle.request.specs.declared.plan_fault.PlanFault.TheVariants.{BadText, OutOfRange, ServiceTaken, PidTaken, NoProgram, NoSdtRow, CaFound, RateMissing, StreamUnknown, TooLarge, RoundTooLong, PeriodTooLong, Memory, SwitchUneven, VersionWrong, PidReused, SwitchSlot, SwitchTooLong}
 use Rattle.request.specs.declared.settings.Settings.{Settings}
 use Rattle.request.specs.declared.input.Input.{Input}
 use Rattle.request.specs.declared.service.Service.{Service}
@@ -72,6 +72,11 @@ fault_told p StreamUnknown h = h
 fault_told p TooLarge h = h
 fault_told p RoundTooLong h = h
 fault_told p PeriodTooLong h = h
+fault_told p SwitchUneven h = h
+fault_told p VersionWrong h = h
+fault_told p PidReused h = h
+fault_told p SwitchSlot h = h
+fault_told p SwitchTooLong h = h
 
 -- the request of what was made
 pub made : (p : PartsValue) (settings : Settings) (inputs : List Input) (services : List Service) (streams : List Stream) (first second : List StreamRow)

@@ -6,8 +6,8 @@ ghost use Rattle.request.specs.PlanFault.{number_of};
 use std::alloc::{AllocError, AllocFailed};
 use thiserror::Error;
 
-/// Why a plan is refused. Of those that apply the one with the least number is answered, and want of memory only where
-/// none of the others applies, or where memory ends before the text is read.
+/// Why a plan is refused, or a schedule of plans. Of those that apply the one with the least number is answered, and want of
+/// memory only where none of the others applies, or where memory ends before the text is read.
 #[derive(Clone, Copy, Debug, PartialEq, Eq, Error)]
 pub enum PlanFault {
     /// The text isn't TOML, or a key is missing, unknown or of another type, or the hex digits are wrong.
@@ -50,10 +50,26 @@ pub enum PlanFault {
     /// There is no memory for the plan.
     #[error("no memory")]
     Memory,
+    /// A later plan of a schedule differs in its rate, its period, its watch, its queues or rings, an id, or an input.
+    #[error("a later plan differs in what all plans of a run have in common")]
+    SwitchUneven,
+    /// The version of a later plan isn't that of the plan before plus 1, modulo 32.
+    #[error("the version of a later plan is not the next one")]
+    VersionWrong,
+    /// A later plan has an output PID of an earlier one, and not for what the plan just before it has that PID for.
+    #[error("a later plan uses an output PID again")]
+    PidReused,
+    /// There are more than 16 later plans, or the slot of one is 0, no multiple of the period, not after the one before, or
+    /// above 999,999.
+    #[error("a later plan can't begin at its slot")]
+    SwitchSlot,
+    /// With the round of a later plan a table would come later than its limit, counted across the switch.
+    #[error("the tables of a later plan come too late after the switch")]
+    SwitchTooLong,
 }
 
 impl PlanFault {
-    /// The number by which the fault is known to users: 1 to 13, in the order of the names above.
+    /// The number by which the fault is known to users: 1 to 18, in the order of the names above.
     pub fn number(self) -> u8
         ensures { result ≡ number_of self }
     {
@@ -71,6 +87,11 @@ impl PlanFault {
             PlanFault::RoundTooLong => 11,
             PlanFault::PeriodTooLong => 12,
             PlanFault::Memory => 13,
+            PlanFault::SwitchUneven => 14,
+            PlanFault::VersionWrong => 15,
+            PlanFault::PidReused => 16,
+            PlanFault::SwitchSlot => 17,
+            PlanFault::SwitchTooLong => 18,
         }
     }
 }

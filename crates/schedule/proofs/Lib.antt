@@ -1,0 +1,11 @@
+pub mod SpanLaws
+pub mod JudgeLaws
+pub mod StreamLaws
+pub mod ForceLaws
+pub mod PidLaws
+pub mod TimeLaws
+pub mod ListLaws
+pub mod AllStreamsLaws
+pub mod PlaceLaws
+pub mod KeptLaws
+pub mod FindLaws

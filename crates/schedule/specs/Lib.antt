@@ -1,0 +1,5 @@
+pub mod Schedule
+pub mod Switches
+pub mod Streams
+pub mod Laws
+pub mod Keeping
