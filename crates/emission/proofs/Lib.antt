@@ -13,3 +13,8 @@ pub mod TablePidLaws
 pub mod TableLevelLaws
 pub mod TableSlotLaws
 pub mod StreamBufferLaws
+pub mod SpanLaws
+pub mod SpanFacts
+pub mod SpanBufferLaws
+pub mod SpanCounterLaws
+pub mod ScheduleLaws

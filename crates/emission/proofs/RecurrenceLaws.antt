@@ -1,4 +1,4 @@
--- Each table comes within its limit.
+-- Each table comes within its limit, in what a plan sends behind other packets too.
 use Rattle.std.proofs.Common.{ℕ, zero, suc, ◌+◌, ◌%◌, ◌<◌, ◌≤◌, ◌≡◌, List, [], ◌∷◌, ◌++◌, length, map, take, get_or, Some, refl, ap, ◌∙◌, subst, arith}
 use Rattle.std.specs.List.{slice_get, flat_map, range_with_len}
 use Rattle.std.proofs.lemmas.Option.{slice_get_within, slice_get-get_or, get_or_from_slice_get}
@@ -17,7 +17,7 @@ use Rattle.plan.specs.Build.{PlanValue, IsPlan}
 use Rattle.emission.specs.Emission.{of_pid, table_packet_at, IsEmission}
 use Rattle.emission.specs.Recurrence.{BeginsWithin, TablesRecur}
 use Rattle.emission.proofs.PlanFacts.{PlanFacts, plan_facts, fast_sections, slow_sections}
-use Rattle.emission.proofs.SlotLaws.{carried}
+use Rattle.emission.proofs.SlotLaws.{IsSpanOf, from_start, carried_behind}
 
 -- ---- where a section's first packet stands
 
@@ -40,41 +40,41 @@ first_place (x ∷ ss) (suc i) s e =
 
 -- ---- it comes again
 
-recurs : (p : PlanValue) (out : List (List ℕ)) (s : SectionOnPid) (window : ℕ) (place : TablePlace) → IsEmission p out → RecursWithin p.rounds place window
+recurs : (p : PlanValue) (before out : List (List ℕ)) (s : SectionOnPid) (window : ℕ) (place : TablePlace) → IsSpanOf p before out → RecursWithin p.rounds place window
     → table_packet_at p.tables place ≡ table_packet s.pid s.bytes 0 → BeginsWithin window s out
-recurs p out s window place h again is = λ first fits.
+recurs p before out s window place h again is = λ first fits.
     let found = again first in
     let m = found.0 in
     let low = found.1 in
     let high = found.2 in
     let q = get_or out m null_packet in
     let here : slice_get out m ≡ Some q = slice_get-get_or out m null_packet (omega arith) in
-    let c = carried p out m q (Some place) h here found.3 in
+    let c = carried_behind p before out m q (Some place) h here found.3 in
     let x = table_packet_at p.tables place in
-    let count = length (of_pid (pid_of x) (take m out)) in
+    let count = length (of_pid (pid_of x) (before ++ take m out)) in
     let few : count % 16 < 16 = omega arith in
     (m, low, high, (q, here, (count % 16, few, c ∙ ap (λ r. with_counter r (count % 16)) is)))
 
-fast_begins : (p : PlanValue) (out : List (List ℕ)) (i : ℕ) (s : SectionOnPid) → PlanFacts p → IsRounds p.rounds → IsEmission p out → slice_get (fast_sections p) i ≡ Some s → BeginsWithin (fast_limit_of p.request.rate) s out
-fast_begins p out i s f ok h e =
+fast_begins : (p : PlanValue) (before out : List (List ℕ)) (i : ℕ) (s : SectionOnPid) → PlanFacts p → IsRounds p.rounds → IsSpanOf p before out → slice_get (fast_sections p) i ≡ Some s → BeginsWithin (fast_limit_of p.request.rate) s out
+fast_begins p before out i s f ok h e =
     let at = first_place (fast_sections p) i s e in
     let within = slice_get_within (fast_packets p.tables) at.0 (table_packet s.pid s.bytes 0) at.1 in
     let len = f.basics.fast_len in
     let again = fast_recurs p.rounds at.0 ok (omega arith) in
-    recurs p out s (fast_limit_of p.request.rate) (Fast at.0) h (subst (λ rate. RecursWithin p.rounds (Fast at.0) (fast_limit_of rate)) f.basics.rate again)
+    recurs p before out s (fast_limit_of p.request.rate) (Fast at.0) h (subst (λ rate. RecursWithin p.rounds (Fast at.0) (fast_limit_of rate)) f.basics.rate again)
     (get_or_from_slice_get (fast_packets p.tables) at.0 (table_packet s.pid s.bytes 0) null_packet at.1)
 
-slow_begins : (p : PlanValue) (out : List (List ℕ)) (i : ℕ) (s : SectionOnPid) → PlanFacts p → IsRounds p.rounds → IsEmission p out → slice_get (slow_sections p) i ≡ Some s
+slow_begins : (p : PlanValue) (before out : List (List ℕ)) (i : ℕ) (s : SectionOnPid) → PlanFacts p → IsRounds p.rounds → IsSpanOf p before out → slice_get (slow_sections p) i ≡ Some s
     → BeginsWithin (sdt_limit_of p.request.rate) s out × BeginsWithin (nit_limit_of p.request.rate) s out
-slow_begins p out i s f ok h e =
+slow_begins p before out i s f ok h e =
     let at = first_place (slow_sections p) i s e in
     let within = slice_get_within (slow_packets p.tables) at.0 (table_packet s.pid s.bytes 0) at.1 in
     let len = f.basics.slow_len in
     let soon = slow_recurs p.rounds at.0 ok (omega arith) in
     let late = slow_recurs_late p.rounds at.0 ok (omega arith) in
     let is = get_or_from_slice_get (slow_packets p.tables) at.0 (table_packet s.pid s.bytes 0) null_packet at.1 in (
-      recurs p out s (sdt_limit_of p.request.rate) (Slow at.0) h (subst (λ rate. RecursWithin p.rounds (Slow at.0) (sdt_limit_of rate)) f.basics.rate soon) is,
-      recurs p out s (nit_limit_of p.request.rate) (Slow at.0) h (subst (λ rate. RecursWithin p.rounds (Slow at.0) (nit_limit_of rate)) f.basics.rate late) is,
+      recurs p before out s (sdt_limit_of p.request.rate) (Slow at.0) h (subst (λ rate. RecursWithin p.rounds (Slow at.0) (sdt_limit_of rate)) f.basics.rate soon) is,
+      recurs p before out s (nit_limit_of p.request.rate) (Slow at.0) h (subst (λ rate. RecursWithin p.rounds (Slow at.0) (nit_limit_of rate)) f.basics.rate late) is,
     )
 
 -- one of some that others stand behind, and the last one
@@ -87,14 +87,17 @@ pub last_behind : {X : Type 0} (xs : List X) (y : X) → slice_get (xs ++ y ∷ 
 last_behind [] y = refl
 last_behind (x ∷ xs) y = last_behind xs y
 
-pub recur : (p : PlanValue) (out : List (List ℕ)) → IsRequest p.request → IsPlan p → IsRounds p.rounds → IsEmission p out → TablesRecur p out
-recur p out r is ok h =
+pub span_recurs : (p : PlanValue) (before out : List (List ℕ)) → IsRequest p.request → IsPlan p → IsRounds p.rounds → IsSpanOf p before out → TablesRecur p out
+span_recurs p before out r is ok h =
     let f = plan_facts p r is in
     record {
-      pat = fast_begins p out 0 p.tables.pat f ok h refl;
-      pmts = λ i d l. fast_begins p out (suc i) (get_or p.tables.pmts i d) f ok h (slice_get-get_or p.tables.pmts i d l);
+      pat = fast_begins p before out 0 p.tables.pat f ok h refl;
+      pmts = λ i d l. fast_begins p before out (suc i) (get_or p.tables.pmts i d) f ok h (slice_get-get_or p.tables.pmts i d l);
       sdt = λ i d l.
           let s = get_or p.tables.sdt i d in
-          (slow_begins p out i s f ok h (get_before p.tables.sdt (p.tables.nit ∷ []) i s (slice_get-get_or p.tables.sdt i d l))).0;
-      nit = (slow_begins p out (length p.tables.sdt) p.tables.nit f ok h (last_behind p.tables.sdt p.tables.nit)).1;
+          (slow_begins p before out i s f ok h (get_before p.tables.sdt (p.tables.nit ∷ []) i s (slice_get-get_or p.tables.sdt i d l))).0;
+      nit = (slow_begins p before out (length p.tables.sdt) p.tables.nit f ok h (last_behind p.tables.sdt p.tables.nit)).1;
     }
+
+pub recur : (p : PlanValue) (out : List (List ℕ)) → IsRequest p.request → IsPlan p → IsRounds p.rounds → IsEmission p out → TablesRecur p out
+recur p out r is ok h = span_recurs p [] out r is ok (from_start p out h)

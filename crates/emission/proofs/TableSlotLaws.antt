@@ -1,13 +1,13 @@
--- In an emission of a plan the packets on the PIDs of tables stand in the slots of tables, since no stream goes out there.
+-- Of what a plan sends, also behind other packets, those on the PIDs of tables stand in the slots of tables, since no stream goes out
+-- there.
 use Rattle.std.proofs.Common.{ℕ, ◌+◌, ◌<◌, ◌≡◌, List, [], ◌∷◌, ◌++◌, true, false, Option, Some, None, length, take, map, get_or, eqb, arith, subst, sym, ap, refl, ◌∙◌, inl, inr}
 use Rattle.std.specs.Prelude.{◌≢◌, All}
 use Rattle.std.proofs.Math.Logic.{∥∥₁_elim}
 use Rattle.std.specs.Coded.{Coded-set, coded_ℕ}
 use Rattle.std.proofs.lemmas.Bool.{ne_eqb}
-use Rattle.std.proofs.lemmas.List.{length-take-le, length-append, length-map, get_or_append_left, get_or-append-add, get_or-map}
+use Rattle.std.proofs.lemmas.List.{length-append, length-map, get_or_append_left, get_or-append-add, get_or-map}
 use Rattle.std.proofs.lemmas.List.Folds.{list_any_none}
 use Rattle.std.proofs.lemmas.List.Elements.{All-nil, All-cons}
-use Rattle.std.proofs.lemmas.Option.{slice_get_within}
 use Rattle.tspkt.specs.Packet.{pid_of}
 use Rattle.tspkt.proofs.RewrittenLaws.{pid_of-null_packet}
 use Rattle.request.specs.declared.stream.Stream.{Stream}
@@ -18,12 +18,13 @@ use Rattle.buffers.specs.Level.{is_on_pids}
 use Rattle.plan.specs.Build.{PlanValue, IsPlan}
 use Rattle.emission.specs.Emission.{IsNullOrMapped, IsPacketOf, IsEmission}
 use Rattle.emission.specs.TableBuffers.{BufferFits, table_leak, TableBuffersFit}
+use Rattle.emission.proofs.SlotLaws.{IsSpanOf, from_start}
 use Rattle.emission.proofs.TableLevelLaws.{AreInTableSlots, table_buffer_fits}
 
 -- neither the null packets nor a stream are on this PID
-record IsTablePid (streams : List Stream) (pid : ℕ) : Type 0 where
-  not_null : pid ≢ 8191
-  not_mapped : All (λ (st : Stream). pid ≢ st.output_pid) streams
+pub record IsTablePid (streams : List Stream) (pid : ℕ) : Type 0 where
+  pub not_null : pid ≢ 8191
+  pub not_mapped : All (λ (st : Stream). pid ≢ st.output_pid) streams
 
 -- a packet of none of these PIDs
 not_on : (pids : List ℕ) (q : List ℕ) → All (λ pid. pid ≢ pid_of q) pids → is_on_pids pids q ≡ false
@@ -42,17 +43,15 @@ mapped_elsewhere streams pids q tables m = elim m [
 ]
 
 -- a packet on them is none of a slot without a table
-slot_of : (p : PlanValue) (out : List (List ℕ)) (pids : List ℕ) (q : List ℕ) (o : Option TablePlace) → All (IsTablePid p.request.streams) pids
+pub slot_of : (p : PlanValue) (out : List (List ℕ)) (pids : List ℕ) (q : List ℕ) (o : Option TablePlace) → All (IsTablePid p.request.streams) pids
     → IsPacketOf p out o q → is_on_pids pids q ≡ true → (place : TablePlace) × (o ≡ Some place)
 slot_of p out pids q (Some place) tables is on = (place, refl)
 slot_of p out pids q None tables is on = let off = mapped_elsewhere p.request.streams pids q tables is.1 in absurd (cc)
 
-in_table_slots : (p : PlanValue) (out : List (List ℕ)) (pids : List ℕ) → All (IsTablePid p.request.streams) pids → IsEmission p out
+in_table_slots : (p : PlanValue) (before out : List (List ℕ)) (pids : List ℕ) → All (IsTablePid p.request.streams) pids → IsSpanOf p before out
     → AreInTableSlots p.rounds pids out
-in_table_slots p out pids tables emission m q at on =
-    let here : length (take m out) ≡ m = length-take-le m out (let l = slice_get_within out m q at in omega arith) in
-    let P : ℕ → Type 0 = λ n. (place : TablePlace) × (table_at p.rounds n ≡ Some place) in
-    subst P here (slot_of p (take m out) pids q (table_at p.rounds (length (take m out))) tables (emission m q at) on)
+in_table_slots p before out pids tables emission m q at on =
+    slot_of p (before ++ take m out) pids q (table_at p.rounds m) tables (emission m q at) on
 
 -- a PID below those of plans
 kept_pid : (r : RequestValue) (pid : ℕ) → IsRequest r → pid < 32 → IsTablePid r.streams pid
@@ -83,12 +82,12 @@ pmt_pid r k d ok l = record { not_null = λ e. (let b = (ok.services k d l).pmt 
         ok.one_use_an_output_pid j (length outputs + k) 0 (omega arith) (omega arith) (at_stream ∙ sym same ∙ sym at_pmt)
 
 -- the rounds of a plan are those of its rate
-rate_of_rounds : (p : PlanValue) → IsPlan p → p.rounds.rate ≡ p.request.rate
+pub rate_of_rounds : (p : PlanValue) → IsPlan p → p.rounds.rate ≡ p.request.rate
 rate_of_rounds p plan = ∥∥₁_elim plan (Coded-set coded_ℕ _ _) (λ made. ap (λ (r : RoundsValue). r.rate) made.1.rounds)
 
 -- no transport buffer of a table is overrun
-pub table_buffers_fit : (p : PlanValue) (out : List (List ℕ)) → IsPlan p → IsRequest p.request → IsRounds p.rounds → IsEmission p out → TableBuffersFit p out
-table_buffers_fit p out plan request rounds emission = record {
+pub span_buffers_fit : (p : PlanValue) (before out : List (List ℕ)) → IsPlan p → IsRequest p.request → IsRounds p.rounds → IsSpanOf p before out → TableBuffersFit p out
+span_buffers_fit p before out plan request rounds emission = record {
   services = λ k d l. (
       let pmt = (get_or p.request.services k d).pmt in
       fit (0 ∷ pmt ∷ []) (two 0 pmt (kept 0 (omega arith)) (pmt_pid p.request k d request l)));
@@ -113,4 +112,7 @@ table_buffers_fit p out plan request rounds emission = record {
         let same = rate_of_rounds p plan in
         let rate = request.rate in
         subst (λ (r : ℕ). BufferFits r table_leak pids out) same
-        (table_buffer_fits p.rounds pids out rounds (omega arith) (omega arith) (in_table_slots p out pids tables emission))
+        (table_buffer_fits p.rounds pids out rounds (omega arith) (omega arith) (in_table_slots p before out pids tables emission))
+
+pub table_buffers_fit : (p : PlanValue) (out : List (List ℕ)) → IsPlan p → IsRequest p.request → IsRounds p.rounds → IsEmission p out → TableBuffersFit p out
+table_buffers_fit p out plan request rounds emission = span_buffers_fit p [] out plan request rounds (from_start p out emission)

@@ -2,3 +2,4 @@ pub mod Emission
 pub mod Agreement
 pub mod Recurrence
 pub mod TableBuffers
+pub mod Spans

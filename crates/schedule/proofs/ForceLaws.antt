@@ -88,7 +88,7 @@ pub number_within : (s : ScheduleValue) (stamp : ℕ) → number_for s stamp ≤
 number_within s stamp = begun_within (λ w. slot_time s.first w.slot) stamp s.later
 
 -- its slots ascend
-slots_ascend : (s : ScheduleValue) → SlotsFollow s → (i n : ℕ) → i + suc n ≤ length s.later → (span_at s i).slot < (span_at s (i + suc n)).slot
+pub slots_ascend : (s : ScheduleValue) → SlotsFollow s → (i n : ℕ) → i + suc n ≤ length s.later → (span_at s i).slot < (span_at s (i + suc n)).slot
 slots_ascend s follow i zero within =
     let e : i + 1 ≡ i + suc 0 = omega arith in
     subst (λ m. (span_at s i).slot < (span_at s m).slot) e (follow.each i (omega arith)).after

@@ -1,0 +1,13 @@
+use Rattle.emission.proofs.ScheduleLaws as laws
+use Rattle.emission.proofs.schedule_laws.spans_recur.Goals as goal
+
+pub returns : goal.returns
+returns c = λ out h.
+    laws.spans_recur c.args.schedule.now
+    (record {
+      schedule = c.later_plans.ensures.schedule;
+      plans = c.later_plans.ensures.plans;
+      force = c.plans_in_force.ensures;
+      pids = c.uses_of_pids.ensures;
+    })
+    out h
