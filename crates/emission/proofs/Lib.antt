@@ -18,3 +18,5 @@ pub mod SpanFacts
 pub mod SpanBufferLaws
 pub mod SpanCounterLaws
 pub mod ScheduleLaws
+pub mod ApartLaws
+pub mod BeginningLaws

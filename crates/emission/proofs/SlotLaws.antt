@@ -45,7 +45,7 @@ pub record IsNoOther (p : PlanValue) (pid : ℕ) : Type 0 where
   pub null : 0x1FFF ≡ pid → ⊥
   pub streams : (k : ℕ) (s : Stream) → k < length p.request.streams → (get_or p.request.streams k s).output_pid ≡ pid → ⊥
 
-null_pid : pid_of null_packet ≡ 0x1FFF
+pub null_pid : pid_of null_packet ≡ 0x1FFF
 unfolding null_packet
 null_pid = pid_at null_packet
 

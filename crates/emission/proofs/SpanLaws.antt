@@ -30,19 +30,19 @@ take_none zero none e = refl
 take_none (suc m) none e = ap (take (suc m)) e
 
 -- the first n, and m behind them
-take_on : {X : Type 0} (n m : ℕ) (xs : List X) → take n xs ++ take m (drop n xs) ≡ take (n + m) xs
+pub take_on : {X : Type 0} (n m : ℕ) (xs : List X) → take n xs ++ take m (drop n xs) ≡ take (n + m) xs
 take_on zero m xs = ap (λ k. take k xs) (sym (zero-add m))
 take_on (suc n) m [] = take_none m [] refl ∙ sym (take_none (suc n + m) [] refl)
 take_on (suc n) m (x ∷ xs) =
     let more : suc (n + m) ≡ suc n + m = omega arith in ap (λ ys. x ∷ ys) (take_on n m xs) ∙ ap (λ k. take k (x ∷ xs)) more
 
-take_of_take : {X : Type 0} (m n : ℕ) (xs : List X) → m ≤ n → take m (take n xs) ≡ take m xs
+pub take_of_take : {X : Type 0} (m n : ℕ) (xs : List X) → m ≤ n → take m (take n xs) ≡ take m xs
 take_of_take zero n xs l = refl
 take_of_take (suc m) zero xs l = absurd (omega arith)
 take_of_take (suc m) (suc n) [] l = refl
 take_of_take (suc m) (suc n) (x ∷ xs) l = ap (λ ys. x ∷ ys) (take_of_take m n xs (omega arith))
 
-take_of_cut : {X : Type 0} (from m to : ℕ) (xs : List X) → from + m ≤ to → take m (drop from (take to xs)) ≡ take m (drop from xs)
+pub take_of_cut : {X : Type 0} (from m to : ℕ) (xs : List X) → from + m ≤ to → take m (drop from (take to xs)) ≡ take m (drop from xs)
 take_of_cut zero m to xs l = take_of_take m to xs (omega arith)
 take_of_cut (suc from) m zero xs l = absurd (omega arith)
 take_of_cut (suc from) m (suc to) [] l = refl

@@ -29,7 +29,7 @@ slow_apart p k s f l =
     let range = f.streams_range k s l in
     All-weaker (λ q. (0x0010 ≤ pid_of q) × (pid_of q ≤ 0x0011)) (λ q. pid_of q ≡ pid_at p k s → ⊥) (λ q on e. absurd (omega (arith, on, range))) (slow_packets p.tables) f.slow_on
 
-apart_at : (p : PlanValue) (out : List (List ℕ)) (xs : List (List ℕ)) (j n : ℕ) → All GoesOut xs → All (λ q. pid_of q ≡ n → ⊥) xs → j < length xs
+pub apart_at : (p : PlanValue) (out : List (List ℕ)) (xs : List (List ℕ)) (j n : ℕ) → All GoesOut xs → All (λ q. pid_of q ≡ n → ⊥) xs → j < length xs
     → pid_of (counted_behind out (get_or xs j null_packet)) ≡ n → ⊥
 apart_at p out xs j n goes apart l e =
     let x = get_or xs j null_packet in

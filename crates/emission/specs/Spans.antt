@@ -1,10 +1,11 @@
 -- What a multiplex of a schedule sends: in each slot by the plan that is in force there, whose rounds begin with its span (profile). The
 -- continuity counter of each PID steps by one, modulo 16, across switches too: ISO/IEC 13818-1, 2.4.3.3.
-use Rattle.std.specs.Prelude.{◌≡◌, ◌⊎◌, ◌≤◌, ℕ, zero, suc, ◌+◌, ◌-◌, ◌%◌, true, List, [], ◌∷◌, length, take, drop, map, Option, Some, None, All, Any, Contains}
+use Rattle.std.specs.Prelude.{◌≡◌, ◌↔◌, ◌⊎◌, ◌≤◌, ◌<◌, ℕ, zero, suc, ◌+◌, ◌-◌, ◌%◌, true, List, [], ◌∷◌, length, take, drop, map, Option, Some, None, All, Any, Contains}
 use Rattle.std.specs.List.{slice_get, flat_map}
 use Rattle.tspkt.specs.Packet.{payload_of, payload_unit_start_indicator_of}
 use Rattle.tspkt.specs.Counters.{lawful_of}
 use Rattle.tspkt.specs.Counted.{with_counter}
+use Rattle.request.specs.declared.stream.Stream.{Stream}
 use Rattle.request.specs.Request.{ServiceValue}
 use Rattle.rounds.specs.declared.table_place.TablePlace.{TablePlace}
 use Rattle.rounds.specs.Rounds.{table_at}
@@ -15,6 +16,7 @@ use Rattle.emission.specs.Emission.{of_pid, IsPacketOf}
 use Rattle.emission.specs.Agreement.{BeginsRepetitionOf, payloads_of, starts_of}
 use Rattle.emission.specs.Recurrence.{TablesRecur}
 use Rattle.emission.specs.TableBuffers.{TableBuffersFit}
+use Rattle.buffers.specs.Level.{bytes_of_set, IsLevel}
 
 -- the span that slot m is in
 abbrev pub span_in_slot : ScheduleValue → ℕ → SpanValue
@@ -90,3 +92,21 @@ SpansRecur s out = OfEachSpan s out (λ p before part. TablesRecur p part)
 -- force. That is more than is asked.
 abbrev pub SpanBuffersFit : ScheduleValue → List (List ℕ) → Type 0
 SpanBuffersFit s out = (number : ℕ) → number ≤ length s.later → TableBuffersFit (plan_at s number) out
+
+-- a stream comes into force with the first plan that has it
+pub record ComesWith (s : ScheduleValue) (st : Stream) (number : ℕ) : Type 0 where
+  pub within : number ≤ length s.later
+  pub in_plan : Contains (plan_at s number).request.streams st
+  pub not_before : (k : ℕ) → k < number → Contains (plan_at s k).request.streams st → ⊥
+
+-- Nothing on the stream's PID went out before this slot, so the level of its transport buffer is the same whether its windows begin there
+-- or with the first slot.
+pub record BeginsIn (s : ScheduleValue) (out : List (List ℕ)) (st : Stream) (slot : ℕ) : Type 0 where
+  pub nothing_before : of_pid st.output_pid (take slot out) ≡ []
+  pub level : (n : ℕ)
+      → IsLevel st.leak s.first.request.rate (bytes_of_set (st.output_pid ∷ []) out) n
+      ↔ IsLevel st.leak s.first.request.rate (bytes_of_set (st.output_pid ∷ []) (drop slot out)) n
+
+-- each stream's buffer begins in the slot in which the stream comes into force
+abbrev pub StreamsBegin : ScheduleValue → List (List ℕ) → Type 0
+StreamsBegin s out = (st : Stream) (number : ℕ) → ComesWith s st number → BeginsIn s out st (span_at s number).slot

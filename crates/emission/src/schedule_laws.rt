@@ -3,7 +3,7 @@
 ghost use Rattle.std.specs.Prelude.{◌↔◌, ℕ, List};
 ghost use Rattle.schedule.specs.Schedule.{single};
 ghost use Rattle.emission.specs.Emission.{IsEmission};
-ghost use Rattle.emission.specs.Spans.{IsEmissionOf, SpansAgree, SpansRecur, SpanBuffersFit};
+ghost use Rattle.emission.specs.Spans.{IsEmissionOf, SpansAgree, SpansRecur, SpanBuffersFit, StreamsBegin};
 
 use plan::Plan;
 use schedule::Schedule;
@@ -38,6 +38,16 @@ pub fn spans_recur(schedule: &Schedule)
 /// No transport buffer of a table of any of the plans ever holds more than 512 bytes, across switches too.
 pub fn span_buffers_fit(schedule: &Schedule)
     ensures { (out : List (List ℕ)) → IsEmissionOf schedule.now out → SpanBuffersFit schedule.now out }
+{
+    let _ = schedule.later_plans();
+    plans_in_force(schedule);
+    uses_of_pids(schedule);
+}
+
+/// Nothing goes out on a stream's PID before the stream comes into force, so its transport buffer has the same level over all windows as
+/// over those that begin there.
+pub fn streams_begin(schedule: &Schedule)
+    ensures { (out : List (List ℕ)) → IsEmissionOf schedule.now out → StreamsBegin schedule.now out }
 {
     let _ = schedule.later_plans();
     plans_in_force(schedule);

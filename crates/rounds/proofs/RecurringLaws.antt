@@ -24,15 +24,19 @@ next_of t o first l =
       | inr p ↦ record { round = k; reached = omega arith; soon = omega arith }
     ]
 
-pub fast_recurs : (r : RoundsValue) (place : ℕ) → IsRounds r → place < r.fast_len → RecursWithin r (Fast place) (fast_limit_of r.rate)
-fast_recurs r place ok l first =
+pub fast_in_period : (r : RoundsValue) (place : ℕ) → IsRounds r → place < r.fast_len → RecursWithin r (Fast place) r.period
+fast_in_period r place ok l first =
     let g = positive r ok in
     let fits = step_within r place ok (omega arith) in
     let n = next_of r.period (place * r.gap) first (omega arith) in
+    (n.round * r.period + place * r.gap, n.reached, n.soon, due_fast r n.round place ok l)
+
+pub fast_recurs : (r : RoundsValue) (place : ℕ) → IsRounds r → place < r.fast_len → RecursWithin r (Fast place) (fast_limit_of r.rate)
+fast_recurs r place ok l first =
+    let found = fast_in_period r place ok l first in
     let limit = ok.period in
-    let a = n.reached in
-    let b = n.soon in
-    (n.round * r.period + place * r.gap, a, omega arith, due_fast r n.round place ok l)
+    let b = found.2 in
+    (found.0, found.1, omega arith, found.3)
 
 -- the slow packet of a place comes once in as many rounds as there are places
 cycle_of : (n length place period offset : ℕ) → n * (length * period) + (place * period + offset) ≡ (n * length + place) * period + offset

@@ -21,7 +21,7 @@ pub const LAST_SWITCH_SLOT: u64 = 999_999;
 const HALF_SECOND: u64 = 2 * 8 * 188;
 
 /// The plan of this number: the first has number 0.
-fn plan_at<'a>(first: &'a Plan, later: &'a [(u64, Plan)], number: usize) -> &'a Plan
+pub(crate) fn plan_at<'a>(first: &'a Plan, later: &'a [(u64, Plan)], number: usize) -> &'a Plan
     requires { number ≤ length later.now }
     ensures { result.now ≡ plan_at (schedule_of first.now later.now) number }
 {

@@ -9,7 +9,7 @@ ghost use Rattle.schedule.specs.Keeping.{times_of};
 
 use crate::all_streams::{kept_places, kept_streams};
 use crate::built::know_plans;
-use crate::judge::schedule_fault;
+use crate::judge::{plan_at, schedule_fault};
 use plan::{Plan, PlannedStream};
 use request::{PlanFault, Stream};
 use std::alloc::{AllocError, Global};
@@ -194,10 +194,7 @@ impl Schedule {
         requires { number ≤ length self.now.later }
         ensures { result.now ≡ plan_at self.now number }
     {
-        match number.checked_sub(1) {
-            None => &self.first,
-            Some(index) => &self.later[index].1,
-        }
+        plan_at(&self.first, &self.later, number)
     }
 
     /// The slot of the switch behind the plan of this number: from it on the next plan is in force. None behind the last plan.
@@ -222,6 +219,9 @@ impl Schedule {
         ensures value { result ≡ number_for self.now stamp }
         ensures within { result ≤ length self.now.later }
     {
+        if self.later.is_empty() {
+            return 0;
+        }
         times_come(&self.times, stamp)
     }
 

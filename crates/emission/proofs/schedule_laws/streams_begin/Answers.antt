@@ -1,0 +1,13 @@
+use Rattle.emission.proofs.BeginningLaws as laws
+use Rattle.emission.proofs.schedule_laws.streams_begin.Goals as goal
+
+pub returns : goal.returns
+returns c = λ out h.
+    laws.streams_begin c.args.schedule.now
+    (record {
+      schedule = c.later_plans.ensures.schedule;
+      plans = c.later_plans.ensures.plans;
+      force = c.plans_in_force.ensures;
+      pids = c.uses_of_pids.ensures;
+    })
+    out h
