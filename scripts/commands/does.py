@@ -21,7 +21,7 @@ CHECK = ["check", "--plan", "x.toml"]
 ANALYSE = ["analyse", "--rate", "1504000", "--period", "1000", "x.ts"]
 
 # What a run over FILES prints, and what it says of its end.
-LINES = """input 0 framed 8 malformed 0 unmapped 3 bad 0 losses 0 lost 0 taken 5 sent 5 queued 0
+LINES = """input 0 framed 8 malformed 0 unmapped 3 bad 0 losses 0 lost 0 taken 5 sent 5 dropped 0 queued 0
 slots 9 tables 3 elementary 5 null 1 faults 0
 """
 ENDED = "end: all inputs ended\n"

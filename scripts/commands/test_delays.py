@@ -56,7 +56,7 @@ class Delays(CommandCase):
         on each slot finds the queue full, with 4 packets. The last of 14 slots sends packet 12, while 13, 14 and 15 wait behind it and
         16 is held: 17 of 23 packets were read. 20 of 24 slots, and 10 of 14, have packets of the stream, and 97 of 100 carry no table.
         """
-        lines = """input 0 framed 23 malformed 0 unmapped 3 bad 0 losses 0 lost 0 taken 20 sent 20 queued 0
+        lines = """input 0 framed 23 malformed 0 unmapped 3 bad 0 losses 0 lost 0 taken 20 sent 20 dropped 0 queued 0
 slots 24 tables 3 elementary 20 null 1 faults 0
 """
         of_stream = "stream 0x0200 input 0 pid 0x0101 delay 324718 queue 4\n"
@@ -79,8 +79,8 @@ overfull: no packet waited a second: `queue` may be too small, raise it
         self.assertEqual(shorter.err, told)
 
     def test_packets_that_waited_long_are_named(self):
-        lines = """input 0 framed 323 malformed 0 unmapped 3 bad 0 losses 0 lost 0 taken 320 sent 320 queued 0
-input 1 framed 323 malformed 0 unmapped 3 bad 0 losses 0 lost 0 taken 320 sent 320 queued 0
+        lines = """input 0 framed 323 malformed 0 unmapped 3 bad 0 losses 0 lost 0 taken 320 sent 320 dropped 0 queued 0
+input 1 framed 323 malformed 0 unmapped 3 bad 0 losses 0 lost 0 taken 320 sent 320 dropped 0 queued 0
 slots 669 tables 28 elementary 640 null 1 faults 0
 """
         plain, strict = self.does(RUN[:-1], SLOW), self.does([*RUN[:-1], "--strict"], SLOW)
@@ -94,8 +94,8 @@ slots 669 tables 28 elementary 640 null 1 faults 0
         Slot 6 asks for packet 7 of the first, which has sent one of five by then; slot 5 asks for packet 6 of the second, which has sent
         none."""
         plan = settings() + input_of() + input_of("y.ts") + service() + service(1, of=1)
-        lines = """input 0 framed 8 malformed 0 unmapped 3 bad 0 losses 0 lost 0 taken 5 sent 5 queued 0
-input 1 framed 7 malformed 0 unmapped 3 bad 0 losses 0 lost 0 taken 4 sent 4 queued 0
+        lines = """input 0 framed 8 malformed 0 unmapped 3 bad 0 losses 0 lost 0 taken 5 sent 5 dropped 0 queued 0
+input 1 framed 7 malformed 0 unmapped 3 bad 0 losses 0 lost 0 taken 4 sent 4 dropped 0 queued 0
 slots 14 tables 4 elementary 9 null 1 faults 0
 """
         told = """stream 0x0200 input 0 pid 0x0101 delay 162000 queue 4

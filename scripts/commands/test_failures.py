@@ -47,7 +47,7 @@ def lines_of(read, is_end=False):
     slots = PACKET_SLOTS[taken - 1] + 1 if taken else 0
     tables = len([slot for slot in TABLE_SLOTS if slot < slots])
     return (
-        f"input 0 framed {framed} malformed 0 unmapped {framed - taken} bad 0 losses 0 lost {lost} taken {taken} sent {taken} queued 0\n"
+        f"input 0 framed {framed} malformed 0 unmapped {framed - taken} bad 0 losses 0 lost {lost} taken {taken} sent {taken} dropped 0 queued 0\n"
         f"slots {slots} tables {tables} elementary {taken} null {slots - tables - taken} faults 0\n"
     )
 

@@ -28,13 +28,13 @@ class Runs(CommandCase):
 
     def test_a_run_has_the_slots_that_are_asked_for(self):
         done = self.does([*RUN, "--slots", "3"])
-        lines = """input 0 framed 4 malformed 0 unmapped 3 bad 0 losses 0 lost 0 taken 1 sent 0 queued 1
+        lines = """input 0 framed 4 malformed 0 unmapped 3 bad 0 losses 0 lost 0 taken 1 sent 0 dropped 0 queued 1
 slots 3 tables 2 elementary 0 null 1 faults 0
 """
         self.ends(done, 0, lines, "end: the slot limit: input 0 was read to 50 %\n")
         self.writes(done, 564)
         done = self.does([*RUN, "--slots", "8"])
-        lines = """input 0 framed 8 malformed 0 unmapped 3 bad 0 losses 0 lost 0 taken 5 sent 4 queued 1
+        lines = """input 0 framed 8 malformed 0 unmapped 3 bad 0 losses 0 lost 0 taken 5 sent 4 dropped 0 queued 1
 slots 8 tables 3 elementary 4 null 1 faults 0
 """
         self.ends(done, 0, lines, "end: the slot limit: all inputs were read to their ends\n")
@@ -71,7 +71,7 @@ slots 8 tables 3 elementary 4 null 1 faults 0
         octets[1 + 188 * 4 + 3] = 0x00
         octets[1 + 188 * 8] = 0x00
         done = self.does(RUN, {**FILES, "x.ts": bytes(octets)})
-        told = "input 0 framed 9 malformed 1 unmapped 3 bad 1 losses 0 lost 1 taken 5 sent 5 queued 0"
+        told = "input 0 framed 9 malformed 1 unmapped 3 bad 1 losses 0 lost 1 taken 5 sent 5 dropped 0 queued 0"
         faults = "faults: 2 of 1.4 Continuity_count_error\nfaults: slot 6 1.4 0x0200\nfaults: slot 10 1.4 0x0200\n"
         self.assertEqual((done.out.splitlines()[0], done.err, done.status), (told, ENDED + faults, 0))
 
@@ -98,7 +98,7 @@ rate: input 0 can't be measured: fewer than two PCRs were found with no packet m
                 self.assertEqual((done.status, done.out, done.written), (3, "", None))
                 continue
             slots, tables, taken = slots_of(cut)
-            lines = f"""input 0 framed {cut // 188} malformed 0 unmapped 3 bad 0 losses 0 lost {cut % 188} taken {taken} sent {taken} queued 0
+            lines = f"""input 0 framed {cut // 188} malformed 0 unmapped 3 bad 0 losses 0 lost {cut % 188} taken {taken} sent {taken} dropped 0 queued 0
 slots {slots} tables {tables} elementary {taken} null 1 faults 0
 """
             self.ends(done, 0, lines, ENDED)

@@ -3,11 +3,13 @@ use Rattle.std.proofs.Common.{ℕ, ◌-◌, ◌≡◌, ◌≤◌, false, List, [
 use mathlib.Core.List.{IsPrefix}
 use Rattle.std.proofs.Math.Seq.{take-append_seam, drop-append_seam}
 use Rattle.std.specs.Prelude.{Result, Ok, Err, MatchResult}
+use Rattle.schedule.specs.Schedule.{ScheduleValue, single}
 use Rattle.emission.specs.Emission.{IsEmission}
+use Rattle.emission.specs.Spans.{IsEmissionOf}
 use Rattle.mux.specs.History.{slots}
 use Rattle.mux.proofs.Emitted.{length-emitted}
 use Rattle.feed.specs.Writers.{FeedWriterValue}
-use Rattle.feed.proofs.EmissionLaws.{emission_taken, lawful_as}
+use Rattle.feed.proofs.EmissionLaws.{emission_taken}
 use Rattle.station.specs.Stations.{StationValue}
 use Rattle.broadcast.specs.Broadcasts.{emitted_by}
 use Rattle.broadcast.specs.Keeping.{KeepsFeed}
@@ -22,7 +24,7 @@ keeps_appended s w v waiting left old same order =
     let sealed : v.is_sealed ≡ w.is_sealed = ap (λ (x : FeedWriterValue). x.is_sealed) same in
     let P : List (List ℕ) → Type 0 = λ x. IsPrefix x (emitted_by s) in
     record {
-      plan = ap (λ (x : FeedWriterValue). x.plan) same ∙ old.plan;
+      schedule = old.schedule ∙ sym (ap (λ (x : FeedWriterValue). single x.plan) same);
       begins = subst P (sym published) old.begins;
       rest = λ unsealed. old.rest (sym sealed ∙ unsealed) ∙ (λ i. sym published i ++ sym order i);
     }
@@ -35,19 +37,20 @@ keeps_published s w v waiting unsealed old is =
     let all : emitted_by s ≡ v.published ++ (v.behind ++ waiting) =
     old.rest unsealed ∙ (sym (append_assoc w.published w.behind waiting) ∙ (λ i. sym published i ++ (sym behind i ++ waiting))) in
     record {
-      plan = ap (λ (x : FeedWriterValue). x.plan) is ∙ old.plan;
+      schedule = old.schedule ∙ sym (ap (λ (x : FeedWriterValue). single x.plan) is);
       begins = (v.behind ++ waiting, sym all);
       rest = λ _. all;
     }
 
 -- What may be published.
 
-pub may_publish : (s : StationValue) (w : FeedWriterValue) (waiting : List (List ℕ)) → w.is_sealed ≡ false → KeepsFeed s w waiting → IsEmission s.history.run.plan (emitted_by s) → IsEmission w.plan (w.published ++ w.behind)
+pub may_publish : (s : StationValue) (w : FeedWriterValue) (waiting : List (List ℕ)) → w.is_sealed ≡ false → KeepsFeed s w waiting → IsEmissionOf s.history.run.schedule (emitted_by s) → IsEmission w.plan (w.published ++ w.behind)
 may_publish s w waiting unsealed keeps law =
     let these = w.published ++ w.behind in
     let all : emitted_by s ≡ these ++ waiting = keeps.rest unsealed ∙ sym (append_assoc w.published w.behind waiting) in
     let first : take (length these) (emitted_by s) ≡ these = ap (take (length these)) all ∙ take-append_seam these waiting in
-    lawful_as s.history.run.plan w.plan (take (length these) (emitted_by s)) these keeps.plan (sym first) (emission_taken s.history.run.plan (emitted_by s) (length these) law)
+    let of_plan : IsEmission w.plan (emitted_by s) = subst (λ (z : ScheduleValue). IsEmissionOf z (emitted_by s)) keeps.schedule law in
+    subst (IsEmission w.plan) first (emission_taken w.plan (emitted_by s) (length these) of_plan)
 
 -- Where there is no memory to publish, nothing changed.
 
@@ -67,8 +70,8 @@ nothing_lost published sent begins =
 
 pub count_within : (s : StationValue) (published : List (List ℕ)) (n m : ℕ) → IsPrefix published (emitted_by s) → n ≡ slots s.history.events → m ≡ length published → m ≤ n
 count_within s published n m begins sent shown =
-    omega (arith, sent, shown, prefix_length published (emitted_by s) begins, length-emitted s.history.run.plan s.history.events)
+    omega (arith, sent, shown, prefix_length published (emitted_by s) begins, length-emitted s.history.run.schedule s.history.events)
 
 pub count_behind : (s : StationValue) (published : List (List ℕ)) (n m : ℕ) → n ≡ slots s.history.events → m ≡ length published → n - m ≡ length (drop (length published) (emitted_by s))
 count_behind s published n m sent shown =
-    omega (arith, sent, shown, length-drop (length published) (emitted_by s), length-emitted s.history.run.plan s.history.events)
+    omega (arith, sent, shown, length-drop (length published) (emitted_by s), length-emitted s.history.run.schedule s.history.events)

@@ -1,56 +1,27 @@
 -- What a tick of a station sends.
-use Rattle.std.proofs.Common.{ℕ, zero, suc, ◌+◌, ◌-◌, ◌≡◌, ◌≢◌, ◌⊎◌, Bool, true, false, List, [], ◌∷◌, ◌++◌, length, slice_get, Some, MatchBool, if◌then◌else◌, refl, ap, sym, subst, ◌∙◌, arith, inl, inr, append-nil, append_assoc, length-append}
-use Rattle.plan.specs.Build.{PlanValue}
+use Rattle.std.proofs.Common.{ℕ, suc, ◌+◌, ◌-◌, ◌≡◌, ◌≢◌, Bool, true, false, List, [], ◌∷◌, ◌++◌, length, slice_get, Some, MatchBool, refl, ap, sym, subst, ◌∙◌, arith, inl, inr, append_assoc, length-append}
+use Rattle.schedule.specs.Schedule.{ScheduleValue}
 use Rattle.tspkt.specs.declared.stamped.Stamped.{Stamped}
 use Rattle.mux.specs.declared.event.Event.{Event}
-use Rattle.mux.specs.declared.event.Event.TheVariants.{Took, Full, Close, Slot}
+use Rattle.mux.specs.declared.event.Event.TheVariants.{Took, Switch}
 use Rattle.mux.specs.declared.sending.Sending.{Sending}
 use Rattle.mux.specs.declared.sending.Sending.TheVariants as sending
-use Rattle.mux.specs.History.{History, with_event, emitted, slots, full_noted, packet_behind}
-use Rattle.mux.specs.Answers.{SendAnswers, NotesFull}
+use Rattle.mux.specs.History.{History, with_event, in_force, emitted, slots, packet_behind}
+use Rattle.mux.specs.Answers.{SendAnswers}
 use Rattle.emission.proofs.RecurrenceLaws.{last_behind}
 use Rattle.mux.proofs.Emitted.{length-emitted}
 use Rattle.station.specs.declared.inlet.Inlet.{Inlet}
 use Rattle.station.specs.Stations.{StationValue}
-use Rattle.station.specs.Moving.{with_taken, MovesIn, EndsBy, Ending, Nothing, Mark, HeldBack, IsHeldBack}
+use Rattle.station.specs.Moving.{with_taken, MovesIn}
 use Rattle.station.specs.Ticking.{MovesAll, Ticks}
-use Rattle.station.proofs.AdvancingLaws.{Emits}
+use Rattle.station.proofs.AdvancingLaws.{Emits, silent, unsent, ends_emits}
 use Rattle.broadcast.specs.Broadcasts.{emitted_by}
-
-silent : (a b : History) → b ≡ a → Emits a b []
-silent a b e = record {
-  run = ap (λ (h : History). h.run) e;
-  out = ap (λ (h : History). emitted h.run.plan h.events) e ∙ sym (append-nil (emitted a.run.plan a.events));
-}
-
--- an event that sends nothing
-unsent : (a b : History) (e : Event) → emitted a.run.plan (e ∷ a.events) ≡ emitted a.run.plan a.events → b ≡ with_event a e → Emits a b []
-unsent a b e same is = record {
-  run = ap (λ (h : History). h.run) is;
-  out = ap (λ (h : History). emitted h.run.plan h.events) is ∙ (same ∙ sym (append-nil (emitted a.run.plan a.events)));
-}
 
 emits_on : (a b c : History) (xs ys : List (List ℕ)) → Emits a b xs → Emits b c ys → Emits a c (xs ++ ys)
 emits_on a b c xs ys first next = record {
   run = next.run ∙ first.run;
-  out = next.out ∙ (ap (λ v. v ++ ys) first.out ∙ append_assoc (emitted a.run.plan a.events) xs ys);
+  out = next.out ∙ (ap (λ v. v ++ ys) first.out ∙ append_assoc (emitted a.run.schedule a.events) xs ys);
 }
-
-noted : (i : ℕ) (a b : History) (item : Stamped) → NotesFull a i item b → Emits a b []
-noted i a b item is =
-    let e = with_event a (Full i is.0) in
-    let P : Bool → Type 0 = λ v. b ≡ (if v then a else e) → Emits a b [] in
-    let both : (v : Bool) → P v = λ v. elim v as P [ true ↦ λ is'. silent a b is' | false ↦ λ is'. unsent a b (Full i is.0) refl is' ] in
-    both (full_noted i a.events) is.3
-
-held_back : (i : ℕ) (a b : History) (item : Stamped) (is_closed : Bool) → IsHeldBack i a item b is_closed → Emits a b []
-held_back i a b item true is = unsent a b (Close i) refl is.1
-held_back i a b item false is = noted i a b item is.1
-
-ends_emits : (i : ℕ) (a : History) (x : Inlet) (b : History) (y : Inlet) (ending : Ending) → EndsBy i a x b y ending → Emits a b []
-ends_emits i a x b y Nothing is = silent a b is.1
-ends_emits i a x b y Mark is = unsent a b (Close i) refl is.1
-ends_emits i a x b y (HeldBack item came) is = held_back i a b item y.is_closed is.1
 
 taken_emits : (i : ℕ) (items : List Stamped) (a : History) → Emits a (with_taken i items a) []
 taken_emits i [] a = silent a a refl
@@ -77,17 +48,18 @@ unsent_emits a b sending.Done is not_sent = silent a b is.0
 unsent_emits a b sending.RunFull is not_sent = silent a b is.0
 unsent_emits a b (sending.NotReady i) is not_sent = silent a b is.0
 unsent_emits a b sending.Memory is not_sent = silent a b is.0
+unsent_emits a b sending.Switched is not_sent = unsent a b (Switch (in_force a.events + 1)) refl is.2
 unsent_emits a b sending.Sent is not_sent = absurd (not_sent refl)
 
 sent_emits : (a b : History) (is : SendAnswers a sending.Sent b) → (packet : List ℕ) × Emits a b (packet ∷ [])
 sent_emits a b is = (
-  packet_behind a.run.plan a.events (emitted a.run.plan a.events) is.1.0,
-  record { run = ap (λ (h : History). h.run) is.1.2; out = ap (λ (h : History). emitted h.run.plan h.events) is.1.2 },
+  packet_behind a.run.schedule a.events (emitted a.run.schedule a.events) is.1.0,
+  record { run = ap (λ (h : History). h.run) is.1.2; out = ap (λ (h : History). emitted h.run.schedule h.events) is.1.2 },
 )
 
 pub nothing_sent : (old : StationValue) (answer : Sending) (new : StationValue) → Ticks old answer new → answer ≢ sending.Sent → emitted_by new ≡ emitted_by old ++ []
 nothing_sent old answer new ticks not_sent =
-    let moves = all_emit 0 old.history.run.plan.request.ring old.history old.inputs ticks.between new.inputs ticks.moves in
+    let moves = all_emit 0 old.history.run.schedule.first.request.ring old.history old.inputs ticks.between new.inputs ticks.moves in
     (emits_on old.history ticks.between new.history [] [] moves (unsent_emits ticks.between new.history answer ticks.sends not_sent)).out
 
 -- a slot was sent: its packet stands behind those before, and is the last one
@@ -96,15 +68,15 @@ pub record SendsLast (old new : StationValue) : Type 0 where
   pub out : emitted_by new ≡ emitted_by old ++ packet ∷ []
   pub last : slice_get (emitted_by new) (slots new.history.events - 1) ≡ Some packet
 
-last_one : (p : PlanValue) (h : List Event) (before : List (List ℕ)) (packet : List ℕ) → emitted p h ≡ before ++ packet ∷ [] → slice_get (emitted p h) (slots h - 1) ≡ Some packet
-last_one p h before packet out =
-    let at : slots h - 1 ≡ length before = omega (arith, length-emitted p h, ap (λ (v : List (List ℕ)). length v) out, length-append before (packet ∷ [])) in
-    ap (slice_get (emitted p h)) at ∙ (ap (λ (v : List (List ℕ)). slice_get v (length before)) out ∙ last_behind before packet)
+last_one : (s : ScheduleValue) (h : List Event) (before : List (List ℕ)) (packet : List ℕ) → emitted s h ≡ before ++ packet ∷ [] → slice_get (emitted s h) (slots h - 1) ≡ Some packet
+last_one s h before packet out =
+    let at : slots h - 1 ≡ length before = omega (arith, length-emitted s h, ap (λ (v : List (List ℕ)). length v) out, length-append before (packet ∷ [])) in
+    ap (slice_get (emitted s h)) at ∙ (ap (λ (v : List (List ℕ)). slice_get v (length before)) out ∙ last_behind before packet)
 
 pub slot_sent : (old : StationValue) (answer : Sending) (new : StationValue) → Ticks old answer new → answer ≡ sending.Sent → SendsLast old new
 slot_sent old answer new ticks is =
     let P : Sending → Type 0 = λ v. SendAnswers ticks.between v new.history in
-    let moves = all_emit 0 old.history.run.plan.request.ring old.history old.inputs ticks.between new.inputs ticks.moves in
+    let moves = all_emit 0 old.history.run.schedule.first.request.ring old.history old.inputs ticks.between new.inputs ticks.moves in
     let sends = sent_emits ticks.between new.history (subst P is ticks.sends) in
     let out = (emits_on old.history ticks.between new.history [] (sends.0 ∷ []) moves sends.1).out in
-    record { packet = sends.0; out = out; last = last_one new.history.run.plan new.history.events (emitted_by old) sends.0 out }
+    record { packet = sends.0; out = out; last = last_one new.history.run.schedule new.history.events (emitted_by old) sends.0 out }

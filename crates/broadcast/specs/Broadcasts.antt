@@ -15,7 +15,7 @@ pub record BroadcastValue : Type 0 where
 
 -- all packets that a station sent, one a slot, oldest first
 abbrev pub emitted_by : StationValue → List (List ℕ)
-emitted_by s = emitted s.history.run.plan s.history.events
+emitted_by s = emitted s.history.run.schedule s.history.events
 
 -- those that aren't published
 abbrev pub behind_of : BroadcastValue → List (List ℕ)

@@ -1,14 +1,15 @@
 -- How a broadcast keeps what isn't published yet (profile).
 use Rattle.std.specs.Prelude.{◌≡◌, ℕ, List, ◌++◌, true, false}
 use mathlib.Core.List.{IsPrefix}
+use Rattle.schedule.specs.Schedule.{single}
 use Rattle.feed.specs.Writers.{FeedWriterValue}
 use Rattle.station.specs.Stations.{StationValue}
 use Rattle.broadcast.specs.Broadcasts.{emitted_by}
 
--- The feed is of the station's plan, and what was published begins what the station sent. While more may be published, the rest of it
+-- The feed is of the station's one plan, and what was published begins what the station sent. While more may be published, the rest of it
 -- is behind in the feed, and then what waits for memory to be appended.
 pub record KeepsFeed (s : StationValue) (w : FeedWriterValue) (waiting : List (List ℕ)) : Type 0 where
-  pub plan : w.plan ≡ s.history.run.plan
+  pub schedule : s.history.run.schedule ≡ single w.plan
   pub begins : IsPrefix w.published (emitted_by s)
   pub rest : w.is_sealed ≡ false → emitted_by s ≡ w.published ++ (w.behind ++ waiting)
 

@@ -2,7 +2,9 @@
 
 ghost use Rattle.std.specs.Prelude.{◌≡◌, ◌≢◌, ◌<◌, ◌≤◌, ◌^◌, ◌++◌, [], List, ℕ, Some, None, true, false, length, replicate, IfOk, IfSome, MatchOption};
 ghost use Rattle.std.specs.List.{slice_get};
+ghost use Rattle.schedule.specs.Schedule.{single};
 ghost use Rattle.mux.specs.History.{slots};
+ghost use Rattle.mux.specs.Lawful.{input_count};
 ghost use Rattle.mux.specs.Totals.{IsTotals, IsCounts};
 ghost use Rattle.station.specs.Stations.{rings_of};
 ghost use Rattle.station.specs.Ticking.{Ticks};
@@ -20,6 +22,7 @@ use marks::Mark;
 use mux::{Counts, Sending, Totals};
 use plan::Plan;
 use port::{FinishedPort, Port};
+use schedule::Schedule;
 use station::{Settled, Station};
 use std::alloc::{AllocError, Global};
 use std::marker::Model;
@@ -73,13 +76,13 @@ impl Broadcast {
     ) -> Result<(Broadcast, Vec<Port>, Vec<FeedReader>), AllocError>
         requires slots { slots ≤ 2 ^ 40 }
         requires readers { (0 < readers) × (readers < 5) }
-        ensures station { IfOk result (λ r. IsOpened plan slots r.0.station r.1.items) }
+        ensures station { IfOk result (λ r. IsOpened (single plan) slots r.0.station r.1.items) }
         ensures feed { IfOk result (λ r. r.0 ≡ new_broadcast r.0.station r.0.feed) }
         ensures readers { IfOk result (λ r. r.2.items ≡ replicate readers (new_reader plan r.0.feed)) }
     {
         let sent = Vec::with_capacity(alloc, MAX_STEPS)?;
         let (feed, readers) = feed::open(rt, alloc, &plan, readers)?;
-        match Station::open(alloc, plan, slots) {
+        match Station::open(alloc, Schedule::single(alloc, plan), slots) {
             Ok((station, ports)) => {
                 let broadcast = Broadcast {
                     station,
@@ -261,8 +264,8 @@ impl<E: PublishingEnd> Broadcast<E> {
 
     /// What became of the packets that were taken of an input.
     pub fn totals(&self, input: usize) -> Totals
-        requires { input < length self.now.station.history.run.plan.request.inputs }
-        ensures { IsTotals self.now.station.history.run.plan input self.now.station.history.events result }
+        requires { input < input_count self.now.station.history.run.schedule }
+        ensures { IsTotals self.now.station.history.run.schedule input self.now.station.history.events result }
     {
         self.station.totals(input)
     }

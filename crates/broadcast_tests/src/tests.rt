@@ -3,6 +3,8 @@
 //! PMT, packet 1, the SDT, and packets 2, 3 and 4.
 
 ghost use Rattle.std.specs.Prelude.{◌≡◌, ◌<◌, length};
+ghost use Rattle.schedule.specs.Streams.{all_streams};
+ghost use Rattle.mux.specs.Lawful.{input_count};
 
 mod asking;
 mod device;
@@ -27,7 +29,7 @@ use std::sync::Wait;
 /// Both packets of the ring are taken, and the slot is the PAT. Both readers read it, the second without a mark.
 fn publishes_the_pat<T: Abort + Wait>(rt: &T, alloc: Global, seats: &mut Seats)
     requires feed { seats.old.first.known.feed ≡ seats.old.broadcast.feed }
-    requires inputs { 0 < length seats.old.broadcast.station.history.run.plan.request.inputs }
+    requires inputs { 0 < input_count seats.old.broadcast.station.history.run.schedule }
     ensures run { seats.new.broadcast.station.history.run ≡ seats.old.broadcast.station.history.run }
 {
     let Seats {
@@ -44,7 +46,7 @@ fn publishes_the_pat<T: Abort + Wait>(rt: &T, alloc: Global, seats: &mut Seats)
 
 /// Slot 1 has the time 28,436 and slot 3 has 82,436, so the delays say that the packets came at 1,436 and 28,436.
 fn shows_the_delays<T: Abort + Wait>(rt: &T, broadcast: &mut Broadcast)
-    requires { 0 < length broadcast.old.station.history.run.plan.request.streams }
+    requires { 0 < length (all_streams broadcast.old.station.history.run.schedule) }
 {
     sends(rt, broadcast, 1);
     delayed(rt, broadcast, 27_000);

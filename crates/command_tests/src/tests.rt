@@ -54,7 +54,7 @@ fn ends<T: Abort + Threads + Wait + Clock + Copy + Send + Drop + 'static>(
 }
 
 const LINES: &str =
-    "input 0 framed 8 malformed 0 unmapped 3 bad 0 losses 0 lost 0 taken 5 sent 5 queued 0
+    "input 0 framed 8 malformed 0 unmapped 3 bad 0 losses 0 lost 0 taken 5 sent 5 dropped 0 queued 0
 slots 9 tables 3 elementary 5 null 1 faults 0
 ";
 

@@ -6,7 +6,7 @@ ghost use Rattle.words.specs.Ranges.{IsAllowedLength};
 
 use crate::commands::{end, end_over};
 use crate::measuring_inputs::tell_low_leaks;
-use crate::whole_run::run_plan;
+use crate::whole_run::run_schedule;
 use files::{
     CommandFault, FileCause, FileIdentity, Files, InputFile, Notices, OutputFile, ReadPlan,
     open_again, open_output, read_plan, stopped,
@@ -20,6 +20,7 @@ use printing::{
 };
 use rate_meter::Meter;
 use reading::{InputLimit, Stop};
+use schedule::Schedule;
 use serial::{RunFault, Summary};
 use std::alloc::{AllocError, Global};
 use std::io::Write;
@@ -317,7 +318,10 @@ where
     };
     let (slots, limit) = (most_slots(asked.length), input_limit(asked.length));
     let is_serial = asked.is_serial;
-    match run_plan(rt, alloc, is_serial, plan, slots, limit, readers, writer) {
+    let schedule = Schedule::single(alloc, plan);
+    match run_schedule(
+        rt, alloc, is_serial, schedule, slots, limit, readers, writer,
+    ) {
         (writer, Ok((summary, readers))) => {
             let ran = Ran {
                 plan: kept,

@@ -1,8 +1,8 @@
-//! The runs of a plan: in threads, and in one thread alone.
+//! The runs of a schedule: in threads, and in one thread alone.
 
 ghost use Rattle.std.specs.Prelude.{◌≡◌, ◌⊎◌, ◌^◌, ◌≤◌, List, true, false, length, map, Err, IfOk, IfErr, OnOk};
 ghost use Rattle.mux.specs.declared.event.Event.{Event};
-ghost use Rattle.mux.specs.Plans.{IsMultiplexPlan};
+ghost use Rattle.mux.specs.Plans.{IsMultiplexSchedule};
 ghost use Rattle.reading.specs.Failures.{FailsOnce};
 ghost use Rattle.reading.specs.InputLimit.{IsAllowed};
 ghost use Rattle.serial.specs.Outcome.{HasRun as HasRunInOneThread, HasBegun as HasBegunInOneThread, FailuresAreTold};
@@ -10,8 +10,8 @@ ghost use Rattle.serial.specs.Running.{TakesAsNeeded};
 ghost use Rattle.threaded.specs.Outcome.{HasRun as HasRunInThreads, HasBegun as HasBegunInThreads};
 
 use crate::open_gate::OpenGate;
-use plan::Plan;
 use reading::{InputLimit, Source};
+use schedule::Schedule;
 use serial::{RunFault, Sink, Summary, run_serial_within};
 use std::alloc::{AllocError, Global};
 use std::sync::Wait;
@@ -19,14 +19,14 @@ use std::thread::Threads;
 use std::time::Clock;
 use threaded::run_threads;
 
-/// Runs a plan, in one thread alone if `is_serial`, and else with a thread for each input and one for the output: reads one reader an
+/// Runs a schedule, in one thread alone if `is_serial`, and else with a thread for each input and one for the output: reads one reader an
 /// input, at most as many bytes of each as `limit` says at the input's format (up to 140,737,488,355,328), and writes the packet of
 /// each slot, at most so many slots (0 to 2^40).
 ///
 /// The writer comes back, and without a fault what became of the run and the readers, in their order. `Memory` is answered where
 /// memory or a thread was refused, and no write failed before, and by a run in threads also where a write failed and an input wanted
 /// memory; `Write` where a write failed and no input did. What was written is then a beginning of a sound multiplex.
-pub(crate) fn run_plan<
+pub(crate) fn run_schedule<
     T: Threads + Wait + Clock + Copy + Send + Drop + 'static,
     R: Source + Send + Drop + 'static,
     W: Sink + Send + Drop + 'static,
@@ -34,7 +34,7 @@ pub(crate) fn run_plan<
     rt: T,
     alloc: Global,
     is_serial: bool,
-    plan: Plan,
+    schedule: Schedule,
     slots: u64,
     limit: InputLimit,
     readers: Vec<R>,
@@ -42,22 +42,22 @@ pub(crate) fn run_plan<
 ) -> (W, Result<(Summary, Vec<R>), RunFault>)
     requires slots { slots ≤ 2 ^ 40 }
     requires limit { IsAllowed limit }
-    requires readers { length readers.items ≡ length plan.request.inputs }
+    requires readers { length readers.items ≡ length schedule.first.request.inputs }
     ensures serial { is_serial ≡ true → IfOk result.1 (λ done. (h : List Event)
-        × HasRunInOneThread (record { run = record { plan = plan; limit = slots }; events = h }) limit
+        × HasRunInOneThread (record { run = record { schedule = schedule; limit = slots }; events = h }) limit
         (map R.remaining readers.items) (map R.remaining done.1.items)
         (W.contents writer) (W.contents result.0) done.0
-        × TakesAsNeeded (record { plan = plan; limit = slots }) h) }
+        × TakesAsNeeded (record { schedule = schedule; limit = slots }) h) }
     ensures threads { is_serial ≡ false → IfOk result.1 (λ done. (h : List Event)
-        × HasRunInThreads (record { run = record { plan = plan; limit = slots }; events = h }) limit
+        × HasRunInThreads (record { run = record { schedule = schedule; limit = slots }; events = h }) limit
         (map R.remaining readers.items) (map R.remaining done.1.items)
         (W.contents writer) (W.contents result.0) done.0) }
     ensures serial_begins { is_serial ≡ true → IfErr result.1 (λ fault. (h : List Event)
-        × HasBegunInOneThread R.remaining R.failures (record { run = record { plan = plan; limit = slots }; events = h }) limit
+        × HasBegunInOneThread R.remaining R.failures (record { run = record { schedule = schedule; limit = slots }; events = h }) limit
         readers.items (W.contents writer) (W.contents result.0) fault
-        × TakesAsNeeded (record { plan = plan; limit = slots }) h) }
+        × TakesAsNeeded (record { schedule = schedule; limit = slots }) h) }
     ensures threads_begins { is_serial ≡ false → IfErr result.1 (λ fault. (h : List Event)
-        × HasBegunInThreads R.remaining R.failures (record { run = record { plan = plan; limit = slots }; events = h }) limit
+        × HasBegunInThreads R.remaining R.failures (record { run = record { schedule = schedule; limit = slots }; events = h }) limit
         readers.items (W.contents writer) (W.contents result.0) (W.failures writer) (W.failures result.0) fault) }
     ensures readers { IfOk result.1 (λ done. length done.1.items ≡ length readers.items) }
     ensures read_failed { IfOk result.1 (λ done.
@@ -69,21 +69,20 @@ pub(crate) fn run_plan<
     ensures write_failed { result.1 ≡ Err RunFault.Write → FailsOnce (W.failures writer) (W.failures result.0) }
 {
     if is_serial {
-        run_serial_within(alloc, plan, slots, limit, readers, writer)
+        run_serial_within(alloc, schedule, slots, limit, readers, writer)
     } else {
-        run_in_threads(rt, alloc, plan, slots, limit, readers, writer)
+        run_in_threads(rt, alloc, schedule, slots, limit, readers, writer)
     }
 }
 
-/// What every plan keeps.
-fn known(plan: &Plan)
-    ensures { IsMultiplexPlan plan.now }
+/// What every schedule keeps.
+fn known(schedule: &Schedule)
+    ensures { IsMultiplexSchedule schedule.now }
 {
-    let _ = plan.request().rate();
-    let _ = plan.rounds().rate();
+    let _ = schedule.later_plans();
 }
 
-/// Runs a plan with a thread for each input, whose gates never say no, and one for the output.
+/// Runs a schedule with a thread for each input, whose gates never say no, and one for the output.
 fn run_in_threads<
     T: Threads + Wait + Clock + Copy + Send + Drop + 'static,
     R: Source + Send + Drop + 'static,
@@ -91,7 +90,7 @@ fn run_in_threads<
 >(
     rt: T,
     alloc: Global,
-    plan: Plan,
+    schedule: Schedule,
     slots: u64,
     limit: InputLimit,
     readers: Vec<R>,
@@ -99,13 +98,13 @@ fn run_in_threads<
 ) -> (W, Result<(Summary, Vec<R>), RunFault>)
     requires slots { slots ≤ 2 ^ 40 }
     requires limit { IsAllowed limit }
-    requires readers { length readers.items ≡ length plan.request.inputs }
+    requires readers { length readers.items ≡ length schedule.first.request.inputs }
     ensures runs { IfOk result.1 (λ done. (h : List Event)
-        × HasRunInThreads (record { run = record { plan = plan; limit = slots }; events = h }) limit
+        × HasRunInThreads (record { run = record { schedule = schedule; limit = slots }; events = h }) limit
         (map R.remaining readers.items) (map R.remaining done.1.items)
         (W.contents writer) (W.contents result.0) done.0) }
     ensures begins { IfErr result.1 (λ fault. (h : List Event)
-        × HasBegunInThreads R.remaining R.failures (record { run = record { plan = plan; limit = slots }; events = h }) limit
+        × HasBegunInThreads R.remaining R.failures (record { run = record { schedule = schedule; limit = slots }; events = h }) limit
         readers.items (W.contents writer) (W.contents result.0) (W.failures writer) (W.failures result.0) fault) }
     ensures readers { IfOk result.1 (λ done. length done.1.items ≡ length readers.items) }
     ensures read_failed { IfOk result.1 (λ done.
@@ -115,11 +114,11 @@ fn run_in_threads<
         ⊎ FailsOnce (W.failures writer) (W.failures result.0) }
     ensures write_failed { result.1 ≡ Err RunFault.Write → FailsOnce (W.failures writer) (W.failures result.0) }
 {
-    known(&plan);
+    known(&schedule);
     let Ok(gates) = vec![in alloc; OpenGate; readers.len()] else {
         return (writer, Err(RunFault::Memory));
     };
-    match run_threads(alloc, rt, plan, slots, limit, readers, gates, writer) {
+    match run_threads(alloc, rt, schedule, slots, limit, readers, gates, writer) {
         (writer, Ok((summary, lent))) => match without_gates(alloc, lent) {
             Ok(readers) => (writer, Ok((summary, readers))),
             Err(_) => (writer, Err(RunFault::Memory)),

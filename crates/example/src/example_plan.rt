@@ -2,12 +2,14 @@
 
 ghost use Rattle.std.specs.Prelude.{◌≡◌, ◌<◌, ◌≤◌, length, IfOk};
 ghost use Rattle.mux.specs.declared.mux.TheConstants.{MAX_SLOTS};
+ghost use Rattle.mux.specs.Lawful.{input_count};
 
 use acquire::Found;
 use anyhow::{Error, Result, bail};
 use mux::{MAX_SLOTS, Mux};
 use plan::Plan;
 use request::Request;
+use schedule::Schedule;
 use section::{crc, packets_of};
 use selection::seek;
 use std::alloc::{AllocError, Global};
@@ -113,17 +115,17 @@ pub fn planned(alloc: Global, text: &str, packets: &[Packet]) -> Result<Plan> {
 /// A multiplex of a plan that has so many inputs, for at most this many slots.
 pub fn open(alloc: Global, plan: Plan, inputs: usize, slots: u64) -> Result<Mux>
     requires { slots ≤ MAX_SLOTS }
-    ensures { IfOk result (λ m. length m.run.plan.request.inputs ≡ inputs) }
+    ensures { IfOk result (λ m. input_count m.run.schedule ≡ inputs) }
 {
     if plan.inputs().len() != inputs {
         bail!("the plan has another number of inputs");
     }
-    Ok(Mux::open(alloc, plan, slots)?)
+    Ok(Mux::open(alloc, Schedule::single(alloc, plan), slots)?)
 }
 
 /// A multiplex of the example's plan, for as many slots as a run may have.
 pub(crate) fn opened(alloc: Global) -> Result<Mux>
-    ensures { IfOk result (λ m. length m.run.plan.request.inputs ≡ 1) }
+    ensures { IfOk result (λ m. input_count m.run.schedule ≡ 1) }
 {
     let tables = tables(alloc)?;
     open(alloc, planned(alloc, PLAN, &tables)?, 1, MAX_SLOTS)

@@ -1,6 +1,7 @@
 //! The first run: an input of five packets, framed, taken and sent.
 
-ghost use Rattle.std.specs.Prelude.{◌<◌, length};
+ghost use Rattle.std.specs.Prelude.{◌<◌};
+ghost use Rattle.mux.specs.Lawful.{input_count};
 
 use crate::example_plan;
 use crate::input_packets::packets;
@@ -16,7 +17,7 @@ const SLOTS: usize = 2;
 
 /// Takes the packets of an input, each stamped with the time of its byte 10.
 fn take_all(alloc: Global, mux: &mut Mux, input: usize, bytes: Vec<u8>) -> Result<()>
-    requires { input < length mux.old.run.plan.request.inputs }
+    requires { input < input_count mux.old.run.schedule }
 {
     let pieces = vec![in alloc; bytes]?;
     for item in &frame(alloc, &pieces)? {
@@ -48,7 +49,7 @@ fn send(alloc: Global, mux: &mut Mux) -> Result<Vec<Packet>> {
 
 /// The packets of the slots of a multiplex whose first input has these bytes.
 fn slots_of(alloc: Global, mux: &mut Mux, bytes: Vec<u8>) -> Result<Vec<Packet>>
-    requires { 0 < length mux.old.run.plan.request.inputs }
+    requires { 0 < input_count mux.old.run.schedule }
 {
     take_all(alloc, mux, 0, bytes)?;
     send(alloc, mux)

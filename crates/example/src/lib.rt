@@ -7,8 +7,10 @@ mod example_plan;
 mod first_run;
 mod input_packets;
 mod plan_text;
+mod second_plan;
 
 pub use example_plan::{PLAN, add_section, open, planned, tables};
 pub use first_run::first_slots;
 pub use input_packets::{add_packets, eight_packets, packets};
 pub use plan_text::{plan_of, plan_with_rings, service, settings, settings_with_rings};
+pub use second_plan::{plan_a_period, switched};

@@ -13,6 +13,7 @@ use crate::stream_maker::StreamMaker;
 use anyhow::{Result, bail};
 use plan::Plan;
 use reading::{InputLimit, ReadSource};
+use schedule::Schedule;
 use serial::{RunFault, Summary, WriteSink, run_serial_within};
 use std::alloc::Global;
 use std::sync::Wait;
@@ -55,7 +56,8 @@ fn run_alone(alloc: Global, plan: Plan, readers: Vec<Reader>) -> Ran
     requires { length readers.items ≡ length plan.request.inputs }
 {
     let sink = WriteSink::new(Digest::new());
-    let (sink, result) = run_serial_within(alloc, plan, SLOTS, LIMIT, readers, sink);
+    let schedule = Schedule::single(alloc, plan);
+    let (sink, result) = run_serial_within(alloc, schedule, SLOTS, LIMIT, readers, sink);
     (sink.into_inner(), result.map(|(summary, _)| summary))
 }
 
@@ -72,7 +74,8 @@ fn run_together<T: Threads + Wait + Clock + Copy + Send + Drop + 'static>(
         return (Digest::new(), Err(RunFault::Memory));
     };
     let sink = WriteSink::new(Digest::new());
-    let (sink, result) = run_threads(alloc, rt, plan, SLOTS, LIMIT, readers, gates, sink);
+    let schedule = Schedule::single(alloc, plan);
+    let (sink, result) = run_threads(alloc, rt, schedule, SLOTS, LIMIT, readers, gates, sink);
     (sink.into_inner(), result.map(|(summary, _)| summary))
 }
 

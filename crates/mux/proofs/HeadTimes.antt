@@ -41,3 +41,9 @@ heads_set {heads} {queues} {streams} kept k time q now is at =
 pub time_of_head : (items : List Stamped) (item : Stamped) → slice_get items 0 ≡ Some item → first_stamp items ≡ item.stamp
 time_of_head [] item at = cc
 time_of_head (x ∷ xs) item at = ap (λ (y : Stamped). y.stamp) (same_Some x item at)
+
+pub keeps_as : {heads now : List Head} {queues later : List QueueValue} {streams : List Stream} → now ≡ heads → later ≡ queues → KeepsHeads heads queues streams → KeepsHeads now later streams
+keeps_as {heads} {now} {queues} {later} {streams} h q kept = record {
+  times_are = ap (map time_of) h ∙ kept.times_are ∙ ap (map head_time) (sym q);
+  pids_are = ap (map pid_of_head) h ∙ kept.pids_are;
+}

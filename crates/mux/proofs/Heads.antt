@@ -9,7 +9,7 @@ use Rattle.mux.specs.declared.content.Content.TheVariants.{Elementary}
 use Rattle.mux.specs.declared.event.Event.{Event}
 use Rattle.mux.specs.declared.input_state.InputState.{InputState}
 use Rattle.std.proofs.lemmas.Option.{same_Some}
-use Rattle.mux.specs.History.{Run, History, slots, slot_time, emitted}
+use Rattle.mux.specs.History.{Run, History, slots, emitted}
 use Rattle.mux.specs.Answers.{SendAnswers, SlotAnswers}
 use Rattle.mux.specs.declared.sending.Sending.TheVariants as sending
 use Rattle.mux.specs.declared.slot.Slot.TheVariants as slot
@@ -19,6 +19,7 @@ use Rattle.mux.specs.Keeping.{AgreesWith, queue_of}
 use Rattle.mux.proofs.Contents.{stream_choice}
 use Rattle.mux.proofs.Plans.{IsAt}
 use Rattle.mux.proofs.Steps.{queue_at}
+use Rattle.schedule.specs.Schedule.{slot_time}
 
 -- the reference to a value that is there
 pub some_of : {X : Type 0} (o : Option (Bor X)) (x : X) → option_copied o ≡ Some x → IsSome o
@@ -32,13 +33,13 @@ copied_is o r x e c = sym c ∙ ap option_copied e
 pub record GoesNext (r : Run) (h : List Event) (q : QueueValue) : Type 0 where
   pub item : Stamped
   pub head : slice_get q.items 0 ≡ Some item
-  pub due : item.stamp ≤ slot_time r.plan (slots h)
+  pub due : item.stamp ≤ slot_time r.schedule.first (slots h)
 
 pub goes_next : {r : Run} {h : List Event} {states : List InputState} {queues : List QueueValue} → AgreesWith r h states queues → (k : ℕ) (st : Stream) (q : QueueValue)
-    → IsAt r.plan k st → q ≡ get_or queues k q → IsContent r.plan h (Elementary st) → GoesNext r h q
+    → IsAt r.schedule k st → q ≡ get_or queues k q → IsContent r.schedule h (Elementary st) → GoesNext r h q
 goes_next {r} {h} kept k st q at q_at content =
-    let chosen = stream_choice r.plan h st content in
-    let q_is : q ≡ queue_of r.plan.request.queue h st = queue_at kept k st q at q_at in
+    let chosen = stream_choice r.schedule h st content in
+    let q_is : q ≡ queue_of r.schedule h st = queue_at kept k st q at q_at in
     record {
       item = chosen.0;
       head = ap (λ (x : QueueValue). slice_get x.items 0) q_is ∙ chosen.1.head;
@@ -47,7 +48,7 @@ goes_next {r} {h} kept k st q at q_at content =
 
 -- what `send_next` answers, with the packet that is lent behind it, is what `slot` answers
 pub lent_last : (old new : History) (o : Option (Bor (List ℕ))) (r : Bor (List ℕ)) → SendAnswers old sending.Sent new → o ≡ Some r
-    → option_copied o ≡ slice_get (emitted new.run.plan new.events) (slots new.events - 1) → SlotAnswers old (slot.Sent r.now) new
+    → option_copied o ≡ slice_get (emitted new.run.schedule new.events) (slots new.events - 1) → SlotAnswers old (slot.Sent r.now) new
 lent_last old new o r answer is last =
     let sent = answer.1 in
     (answer.0, (sent.0, sent.1, (sent.2, same_Some _ _ (sym (copied_is o r _ is last) ∙ last_sent old new answer))))

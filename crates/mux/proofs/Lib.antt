@@ -1,7 +1,8 @@
 pub mod Lists
 pub mod Plans
+pub mod Force
 pub mod Contents
-pub mod Mapped
+pub mod QueueLengths
 pub mod Refusals
 pub mod Queues
 pub mod Counting
@@ -18,6 +19,10 @@ pub mod ClockLaws
 pub mod Sound
 pub mod Heads
 pub mod Steps
+pub mod Slots
+pub mod SwitchSteps
+pub mod SwitchLoop
+pub mod SpanOf
 pub mod Peaks
 pub mod Noted
 pub mod HeadTimes

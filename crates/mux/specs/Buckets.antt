@@ -5,7 +5,8 @@ use Rattle.request.specs.declared.stream.Stream.{Stream}
 use Rattle.buffers.specs.Level.{bytes_of_set}
 use Rattle.buffers.specs.BucketValue.{BucketValue, IsBucket, IsFilledBy, after_packet, after_others}
 use Rattle.emission.specs.TableBuffers.{BufferFits}
-use Rattle.plan.specs.Build.{PlanValue}
+use Rattle.schedule.specs.Schedule.{ScheduleValue}
+use Rattle.schedule.specs.Streams.{all_streams}
 
 -- a stream's bucket before the first slot, at this rate of the multiplex
 abbrev pub empty_bucket : ℕ → Stream → BucketValue
@@ -20,11 +21,11 @@ pub record IsBucketOf (rate : ℕ) (out : List (List ℕ)) (st : Stream) (b : Bu
   pub filled : IsFilledBy b (bytes_of_set (st.output_pid ∷ []) out)
   pub fits : BufferFits b.multiplex_rate b.leak (st.output_pid ∷ []) out
 
--- there is one a stream, in the plan's order
-pub record AreBuckets (p : PlanValue) (out : List (List ℕ)) (buckets : List BucketValue) : Type 0 where
-  pub count : length buckets ≡ length p.request.streams
-  pub each : (k : ℕ) (st : Stream) → slice_get p.request.streams k ≡ Some st
-      → (b : BucketValue) × (slice_get buckets k ≡ Some b) × IsBucketOf p.request.rate out st b
+-- there is one a stream of the schedule, by its place
+pub record AreBuckets (s : ScheduleValue) (out : List (List ℕ)) (buckets : List BucketValue) : Type 0 where
+  pub count : length buckets ≡ length (all_streams s)
+  pub each : (k : ℕ) (st : Stream) → slice_get (all_streams s) k ≡ Some st
+      → (b : BucketValue) × (slice_get buckets k ≡ Some b) × IsBucketOf s.first.request.rate out st b
 
 -- whether the slot carries the packet of stream k, if it carries one of a stream at all
 abbrev pub carries_stream : Option ℕ → ℕ → Bool

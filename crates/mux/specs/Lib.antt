@@ -10,6 +10,7 @@ pub mod SlotClock
 pub mod PidCounters
 pub mod Buckets
 pub mod KeptBucket
+pub mod Switching
 pub mod Keeping
 pub mod HeadList
 pub mod Choosing

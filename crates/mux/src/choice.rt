@@ -5,7 +5,7 @@ ghost use Rattle.std.specs.List.{slice_get};
 ghost use Rattle.tspkt.specs.declared.stamped.Stamped.{Stamped};
 ghost use Rattle.request.specs.declared.stream.Stream.{Stream};
 ghost use Rattle.mux.specs.declared.input_state.InputState.{InputState};
-ghost use Rattle.mux.specs.Keeping.{ready_at, without_full, KeepsNoted, KeepsHeads, head_time};
+ghost use Rattle.mux.specs.Keeping.{ready_at, without_notes, KeepsNoted, KeepsHeads, head_time};
 ghost use Rattle.mux.specs.HeadList.{head_at};
 ghost use Rattle.mux.specs.Choosing.{Leads, Follows, IsBetterHead, IsNoBetterHead, IsEligibleHead, IsFirstHead};
 
@@ -40,22 +40,23 @@ pub(crate) fn first_unready(inputs: &[InputState], now: u64) -> Option<usize>
         → IsTrue (ready_at now (slice_index_or inputs.now j d)))) }
 {
     for (i, x) in inputs.iter().enumerate() {
-        if !(now < x.last_stamp || x.closed || x.full_noted) {
+        if !(now < x.last_stamp || x.closed || x.full_noted || x.early_noted) {
             return Some(i);
         }
     }
     None
 }
 
-/// Forgets the full queues that were noted, where the mark says that there is one.
-pub(crate) fn clear_full(inputs: &mut Vec<InputState>, is_noted: &mut bool)
+/// Forgets what was noted of the inputs, where the mark says that something was.
+pub(crate) fn clear_notes(inputs: &mut Vec<InputState>, is_noted: &mut bool)
     requires { KeepsNoted is_noted.old inputs.old.items }
-    ensures inputs { inputs.new.items ≡ map without_full inputs.old.items }
+    ensures inputs { inputs.new.items ≡ map without_notes inputs.old.items }
     ensures noted { is_noted.new ≡ false }
 {
     if *is_noted {
         for x in inputs.iter_mut() {
             x.full_noted = false;
+            x.early_noted = false;
         }
         *is_noted = false;
     }

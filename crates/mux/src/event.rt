@@ -12,8 +12,12 @@ pub enum Event {
     Took(usize, Stamped),
     /// The queue of this stream, of this input, was found full.
     Full(usize, Stream),
+    /// The next packet of this input was found to belong to a later plan.
+    Early(usize),
     /// This input was closed.
     Close(usize),
     /// A slot was sent.
     Slot(Content),
+    /// The plan of this number came into force.
+    Switch(usize),
 }

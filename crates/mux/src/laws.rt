@@ -2,7 +2,7 @@
 
 ghost use Rattle.mux.specs.Faithful.{OutputsAgree, OutputIsUnique, OpensOnce, EventsAreAppended};
 
-/// Of two lawful histories over one plan and the same packets, one's output begins the other's.
+/// Of two lawful histories over one schedule and the same packets, one's output begins the other's.
 pub fn outputs_agree()
     ensures { OutputsAgree }
 {}

@@ -7,10 +7,12 @@ pub enum Offered {
     Taken,
     /// Its input was closed.
     Closed,
-    /// No stream of the plan has its PID.
+    /// No stream of the plan that it belongs to has its PID.
     Stranger,
     /// Its time is before that of the packet that was last taken of its input.
     Backward,
+    /// It belongs to a plan after the one in force.
+    Early,
     /// The queue of its stream is full.
     Full,
     /// The memory for the event was refused.

@@ -1,10 +1,13 @@
 //! What `send_next` answers.
 
-/// What became of a slot. Only `Sent` changes the multiplex, which then lends the packet as its last.
+/// What became of a slot. `Sent` and `Switched` alone change the multiplex; after `Sent` it lends the packet
+/// as its last.
 #[derive(Clone, Copy, Debug, PartialEq, Eq)]
 pub enum Sending {
     /// A packet was sent.
     Sent,
+    /// The next plan came into force, and nothing was sent.
+    Switched,
     /// An input isn't ready, and this is the least one.
     NotReady(usize),
     /// All inputs are closed, and nothing waits in a queue.

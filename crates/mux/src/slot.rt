@@ -7,11 +7,13 @@ ghost use Rattle.mux.specs.Answers.{SendAnswers, SlotAnswers};
 use crate::sending::Sending;
 use tspkt::Packet;
 
-/// What became of a slot. Only `Sent` changes the multiplex.
+/// What became of a slot. `Sent` and `Switched` alone change the multiplex.
 #[derive(Drop)]
 pub enum Slot {
     /// This packet was sent.
     Sent(Packet),
+    /// The next plan came into force, and nothing was sent.
+    Switched,
     /// An input isn't ready, and this is the least one.
     NotReady(usize),
     /// All inputs are closed, and nothing waits in a queue.
@@ -25,10 +27,11 @@ pub enum Slot {
 /// The same answer of `slot`, where no packet was sent.
 pub(crate) fn without_packet(answer: Sending) -> Slot
     requires { answer ≢ Sending.Sent }
-    ensures { (h : History) → SendAnswers h answer h → SlotAnswers h result h }
+    ensures { (h new : History) → SendAnswers h answer new → SlotAnswers h result new }
 {
     match answer {
         Sending::Sent => unreachable!(),
+        Sending::Switched => Slot::Switched,
         Sending::NotReady(input) => Slot::NotReady(input),
         Sending::Done => Slot::Done,
         Sending::RunFull => Slot::RunFull,

@@ -9,10 +9,12 @@ pub enum Taken {
     Ok,
     /// Its input was closed.
     Closed(Stamped),
-    /// No stream of the plan has its PID.
+    /// No stream of the plan that it belongs to has its PID.
     Stranger(Stamped),
     /// Its time is before that of the packet that was last taken of its input.
     Backward(Stamped),
+    /// It belongs to a plan after the one in force.
+    Early(Stamped),
     /// The queue of its stream is full.
     Full(Stamped),
     /// The memory for the event was refused.

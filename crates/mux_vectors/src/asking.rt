@@ -2,11 +2,14 @@
 //! proved without it.
 
 ghost use Rattle.std.specs.Prelude.{◌≡◌, ◌<◌, ◌≤◌, ◌^◌, true, length};
+ghost use Rattle.schedule.specs.Streams.{all_streams};
+ghost use Rattle.mux.specs.History.{plan_in_force};
+ghost use Rattle.mux.specs.Lawful.{input_count};
 
 use crate::item::{Item, stamped};
 use anyhow::{Result, bail};
 use mux::{Counts, Mux, Offered, Peak, Sending, Slot, Taken, Totals};
-use plan::Plan;
+use schedule::Schedule;
 use std::alloc::Global;
 use tspkt::Packet;
 
@@ -20,22 +23,22 @@ fn within_most(slots: u64) -> u64
     slots.min(MOST_SLOTS)
 }
 
-/// A multiplex of this plan, for at most so many slots.
-pub fn open(alloc: Global, plan: Plan, slots: u64) -> Result<Mux> {
+/// A multiplex of this schedule, for at most so many slots.
+pub fn open(alloc: Global, schedule: Schedule, slots: u64) -> Result<Mux> {
     let slots = within_most(slots);
-    Ok(Mux::open(alloc, plan, slots)?)
+    Ok(Mux::open(alloc, schedule, slots)?)
 }
 
 /// Whether a multiplex has an input of this number.
 fn has_input(mux: &Mux, input: usize) -> bool
-    ensures { result ≡ true → input < length mux.now.run.plan.request.inputs }
+    ensures { result ≡ true → input < input_count mux.now.run.schedule }
 {
-    input < mux.plan().inputs().len()
+    input < mux.schedule().plan(0).inputs().len()
 }
 
-/// Whether it has a stream of this number.
+/// Whether its plan in force has a stream of this number.
 fn has_stream(mux: &Mux, stream: usize) -> bool
-    ensures { result ≡ true → stream < length mux.now.run.plan.request.streams }
+    ensures { result ≡ true → stream < length (plan_in_force mux.now.run.schedule mux.now.events).request.streams }
 {
     stream < mux.plan().streams().len()
 }
@@ -122,10 +125,17 @@ pub fn level(mux: &Mux, stream: usize) -> Result<u64> {
     Ok(mux.level(stream))
 }
 
+/// Whether its schedule has a stream at this place.
+fn has_place(mux: &Mux, place: usize) -> bool
+    ensures { result ≡ true → place < length (all_streams mux.now.run.schedule) }
+{
+    place < mux.schedule().streams().len()
+}
+
 /// The longest delay of a stream, and its fullest queue.
-pub fn peak(mux: &Mux, stream: usize) -> Result<Peak> {
-    if !has_stream(mux, stream) {
+pub fn peak(mux: &Mux, place: usize) -> Result<Peak> {
+    if !has_place(mux, place) {
         bail!("no such stream");
     }
-    Ok(mux.peak(stream))
+    Ok(mux.peak(place))
 }

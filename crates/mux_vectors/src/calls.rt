@@ -3,9 +3,10 @@
 use crate::item::Item;
 use crate::kept::keep;
 use crate::numbers::{at, count_at, numbers};
-use crate::plans::{fast_plan, plan_with};
+use crate::plans::{fast, single};
 use crate::{asking, driving};
 use anyhow::{Result, bail};
+use example::switched;
 use mux::Mux;
 use std::alloc::Global;
 use std::io::Write;
@@ -23,7 +24,7 @@ pub fn tell<W: Write>(alloc: Global, mux: &mut Mux, line: &str, out: &mut W) -> 
     }
     let (call, words) = call_of(line);
     let numbers = numbers(alloc, words)?;
-    if call == "open" || call == "fast" {
+    if matches!(call, "open" | "fast" | "switched") {
         return open(alloc, mux, call, &numbers);
     }
     answer(alloc, mux, line, call, &numbers, out)
@@ -65,18 +66,18 @@ fn of_opened<W: Write>(mux: &mut Mux, call: &str, numbers: &[u64], out: &mut W) 
 }
 
 /// `open SLOTS QUEUE TIME..`: a multiplex for at most so many slots, with queues of so many packets, and an input that begins at each
-/// of these times. `fast SLOTS`: that of a fast input.
+/// of these times. `fast SLOTS`: that of a fast input. `switched SLOTS`: one whose stream goes over to another PID at slot 100.
 fn open(alloc: Global, mux: &mut Mux, call: &str, numbers: &[u64]) -> Result<()> {
-    let plan = if call == "fast" {
-        fast_plan(alloc)?
-    } else {
-        plan_with(
+    let schedule = match call {
+        "fast" => fast(alloc)?,
+        "switched" => switched(alloc)?,
+        _ => single(
             alloc,
             count_at(numbers, 1)?,
             numbers.get(2..).unwrap_or(&[]),
-        )?
+        )?,
     };
-    let opened = asking::open(alloc, plan, at(numbers, 0)?)?;
+    let opened = asking::open(alloc, schedule, at(numbers, 0)?)?;
     let_go(mem::replace(mux, opened));
     Ok(())
 }

@@ -20,6 +20,7 @@ fn back_of(taken: Taken) -> Option<(Offered, Stamped)> {
         Taken::Closed(back) => Some((Offered::Closed, back)),
         Taken::Stranger(back) => Some((Offered::Stranger, back)),
         Taken::Backward(back) => Some((Offered::Backward, back)),
+        Taken::Early(back) => Some((Offered::Early, back)),
         Taken::Full(back) => Some((Offered::Full, back)),
         Taken::Memory(back) => Some((Offered::Memory, back)),
     }
@@ -79,6 +80,7 @@ pub fn slot<W: Write>(mux: &mut Mux, out: &mut W) -> Result<()> {
     match asking::slot(mux) {
         Slot::Sent(packet) => print_packet(&packet, out)?,
         Slot::NotReady(input) => write!(out, "NotReady({input})")?,
+        Slot::Switched => write!(out, "Switched")?,
         Slot::Done => write!(out, "Done")?,
         Slot::RunFull => write!(out, "RunFull")?,
         Slot::Memory => write!(out, "Memory")?,
@@ -134,8 +136,11 @@ pub fn counts<W: Write>(mux: &Mux, out: &mut W) -> Result<()> {
 /// `totals INPUT`
 pub fn totals<W: Write>(mux: &Mux, input: usize, out: &mut W) -> Result<()> {
     let totals = asking::totals(mux, input)?;
-    let (taken, sent, queued) = (totals.taken, totals.sent, totals.queued);
-    write!(out, "taken {taken}, sent {sent}, queued {queued}")?;
+    let (taken, sent, dropped, queued) = (totals.taken, totals.sent, totals.dropped, totals.queued);
+    write!(
+        out,
+        "taken {taken}, sent {sent}, dropped {dropped}, queued {queued}"
+    )?;
     Ok(())
 }
 

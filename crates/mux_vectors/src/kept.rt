@@ -1,10 +1,11 @@
 //! A multiplex of one input that keeps what it sends.
 
-ghost use Rattle.std.specs.Prelude.{◌≡◌, ◌<◌, true, length};
+ghost use Rattle.std.specs.Prelude.{◌≡◌, ◌<◌, true};
 ghost use Rattle.mux.specs.History.{slots};
+ghost use Rattle.mux.specs.Lawful.{input_count};
 
 use crate::item::{Item, stamped};
-use crate::plans::plan_with;
+use crate::plans::single;
 use anyhow::{Result, bail};
 use mux::{RecordedMux, Slot, Taken};
 use std::alloc::Global;
@@ -26,9 +27,9 @@ fn print_head<W: Write>(packet: &Packet, out: &mut W) -> io::Result<()> {
 
 /// Whether it has an input.
 fn has_input(kept: &RecordedMux) -> bool
-    ensures { result ≡ true → 0 < length kept.now.run.plan.request.inputs }
+    ensures { result ≡ true → 0 < input_count kept.now.run.schedule }
 {
-    !kept.mux().plan().inputs().is_empty()
+    !kept.mux().schedule().plan(0).inputs().is_empty()
 }
 
 /// Gives its input a packet with this counter, which comes in that slot.
@@ -106,7 +107,7 @@ fn let_go(_kept: RecordedMux) {}
 
 /// `kept COUNT`: so many packets go through; behind the last slot the packet of each is asked for, of which the first 28 bytes are printed.
 pub fn keep<W: Write>(alloc: Global, count: u64, out: &mut W) -> Result<()> {
-    let mut kept = RecordedMux::open(alloc, plan_with(alloc, 64, &[0])?, 1_000)?;
+    let mut kept = RecordedMux::open(alloc, single(alloc, 64, &[0])?, 1_000)?;
     let told = go_through(&mut kept, count, out);
     let_go(kept);
     told

@@ -13,7 +13,7 @@ mod plans;
 
 use crate::asking::open;
 use crate::calls::{let_go, tell};
-use crate::plans::fast_plan;
+use crate::plans::fast;
 use anyhow::Result;
 use mux::Mux;
 use std::alloc::Global;
@@ -31,7 +31,7 @@ fn main(rt: HostRuntime) -> Result<()> {
     let alloc = rt.alloc();
     let mut out = BufWriter::new(alloc, rt.stdout())?;
     // That of no slot is there before the first is opened.
-    let mut mux = open(alloc, fast_plan(alloc)?, 0)?;
+    let mut mux = open(alloc, fast(alloc)?, 0)?;
     let told = tell_lines(alloc, rt, &mut mux, &mut out);
     let_go(mux);
     told?;

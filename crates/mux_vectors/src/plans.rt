@@ -1,8 +1,8 @@
-//! Plans of multiplexes.
+//! Schedules of multiplexes.
 
 use anyhow::Result;
 use example::{plan_of, planned, tables};
-use plan::Plan;
+use schedule::Schedule;
 use std::alloc::Global;
 
 /// The example plan with an input at four times the rate of the multiplex, whose stream's buffer leaks a quarter of it.
@@ -33,11 +33,13 @@ leak = 376000
 ";
 
 /// That of a fast input.
-pub fn fast_plan(alloc: Global) -> Result<Plan> {
-    planned(alloc, FAST_INPUT, &tables(alloc)?)
+pub fn fast(alloc: Global) -> Result<Schedule> {
+    let plan = planned(alloc, FAST_INPUT, &tables(alloc)?)?;
+    Ok(Schedule::single(alloc, plan))
 }
 
 /// The example plan with queues of so many packets, and inputs that begin at these times, each with the example's service.
-pub fn plan_with(alloc: Global, queue: usize, offsets: &[u64]) -> Result<Plan> {
-    plan_of(alloc, queue, offsets)
+pub fn single(alloc: Global, queue: usize, offsets: &[u64]) -> Result<Schedule> {
+    let plan = plan_of(alloc, queue, offsets)?;
+    Ok(Schedule::single(alloc, plan))
 }

@@ -1,14 +1,14 @@
 -- What each packet of an emission is, and that the packets of PAT and PMTs repeat their sections.
 use Rattle.std.proofs.Common.{◌≡◌, ℕ, zero, suc, ◌+◌, ◌-◌, ◌%◌, ◌<◌, ◌≤◌, ◌==◌, List, [], ◌∷◌, ◌++◌, length, map, take, get_or, refl, sym, ◌∙◌, ap, subst, arith, Option, Some, None, Bool, true, false, if◌then◌else◌}
 use Rattle.std.specs.Prelude.{not, is_some}
-use Rattle.std.specs.List.{All, slice_get, filter, flat_map, range_with_len}
+use Rattle.std.specs.List.{All, slice_get, flat_map, range_with_len}
 use Rattle.std.proofs.lemmas.Bool.{eq-eqb, eqb-true, ne_eqb}
 use Rattle.std.proofs.lemmas.List.{length-take, append-nil, take-append-le}
 use Rattle.std.proofs.lemmas.Nat.{mod_below}
 use Rattle.std.proofs.Math.Seq.{take-append-add}
 use Rattle.std.proofs.lemmas.List.FromFn.{length-map-range_with_len, get_or-map-range_with_len}
-use Rattle.std.proofs.lemmas.List.Elements.{All-nil, All-cons, All-head, All-tail, All-take, All-weaker, filter-append}
-use Rattle.std.proofs.lemmas.Option.{slice_get_within, slice_get-get_or, get_or_from_slice_get}
+use Rattle.std.proofs.lemmas.List.Elements.{All-head, All-tail, All-take, All-weaker, filter-append}
+use Rattle.std.proofs.lemmas.Option.{get_or_from_slice_get}
 use Rattle.tspkt.specs.Bits.{field}
 use Rattle.tspkt.specs.Packet.{fault_of, pid_of, null_packet, transport_scrambling_control_of, IsPacket}
 use Rattle.tspkt.specs.Counted.{with_counter}
@@ -16,26 +16,21 @@ use Rattle.tspkt.proofs.PacketFields.{sync_at, scrambling_at}
 use Rattle.section.specs.Packetized.{packet_count_of}
 use Rattle.rounds.specs.declared.table_place.TablePlace.{TablePlace}
 use Rattle.rounds.specs.declared.table_place.TablePlace.TheVariants.{Fast, Slow}
-use Rattle.rounds.specs.Rounds.{IsRounds, table_at, fast_limit_of, RecursWithin}
-use Rattle.rounds.proofs.RecurringLaws.{are_places, fast_recurs}
+use Rattle.rounds.specs.Rounds.{IsRounds, table_at}
+use Rattle.rounds.proofs.RecurringLaws.{are_places}
 use Rattle.output_tables.specs.Output.{table_packet}
 use Rattle.output_tables.specs.OnPid.{SectionOnPid, packets_on_pid}
 use Rattle.output_tables.specs.TableSet.{fast_packets, slow_packets}
 use Rattle.plan.specs.Build.{PlanValue}
-use Rattle.emission.specs.Emission.{of_pid, IsEmission}
-use Rattle.emission.specs.Agreement.{RepeatSections}
+use Rattle.emission.specs.Emission.{of_pid, counted_behind, IsPacketOf}
 use Rattle.emission.proofs.TablePacketLaws.{counted_is, counted_packet, table_packet_reads}
 use Rattle.emission.proofs.SectionPacketLaws.{HasPid, all_made, all_flat, all_on_pid}
 use Rattle.emission.proofs.PlanFacts.{PlanFacts, fast_sections, slow_sections}
-use Rattle.emission.proofs.WalkLaws.{turns, fast_one, fast_in_turn}
-use Rattle.emission.proofs.RepeatLaws.{numbered}
-use Rattle.emission.proofs.CycleLaws.{filter_place}
+use Rattle.emission.proofs.RepeatLaws.{numbered_from}
+use Rattle.emission.proofs.CycleLaws.{RepeatsBy}
 use Rattle.emission.proofs.RecurrenceLaws.{get_behind}
-use Rattle.emission.proofs.SlotLaws.{IsNoOther, carried, fast_steps}
 use Rattle.analyse.specs.Slots.{is_packet, is_good}
 use Rattle.output_faults.proofs.ReadingLaws.{IsPiece, AreRepeated}
-use Rattle.output_faults.proofs.CountLaws.{place_counted}
-use Rattle.output_faults.proofs.CarriedLaws.{Carries, EndsWithin}
 
 -- ---- each packet
 
@@ -79,30 +74,23 @@ packet_good q p =
     let byte = p.bytes 0 in
     eq-eqb (get_or q 0 0) 0x47 (omega (arith, first, sync_at q, byte))
 
-pub each_sound : (p : PlanValue) (out : List (List ℕ)) (m : ℕ) (q : List ℕ) → PlanFacts p → IsRounds p.rounds → IsEmission p out → slice_get out m ≡ Some q → IsSound q
-each_sound p out m q f ok h e = by_place (table_at p.rounds m) refl
-  where
-    by_place : (o : Option TablePlace) → table_at p.rounds m ≡ o → IsSound q
-    by_place None t = let c = carried p out m q None h e t in record { whole = is_accepted q c.0.accepted; good = packet_good q c.0 }
-    by_place (Some (Fast j)) t =
-        let c = carried p out m q (Some (Fast j)) h e t in
-        let within = are_places p.rounds ok m (Fast j) t in
-        let x = get_or (fast_packets p.tables) j null_packet in
-        let stays = all_stay_sound (fast_sections p) f.fast_pids j null_packet (omega (arith, f.basics.fast_len)) in
-        subst IsSound (sym c) (stays.sound (length (of_pid (pid_of x) (take m out)) % 16) (omega arith))
-    by_place (Some (Slow j)) t =
-        let c = carried p out m q (Some (Slow j)) h e t in
-        let within = are_places p.rounds ok m (Slow j) t in
-        let x = get_or (slow_packets p.tables) j null_packet in
-        let stays = all_stay_sound (slow_sections p) f.slow_pids j null_packet (omega (arith, f.basics.slow_len)) in
-        subst IsSound (sym c) (stays.sound (length (of_pid (pid_of x) (take m out)) % 16) (omega arith))
-
-pub all_sound : (p : PlanValue) (out : List (List ℕ)) → PlanFacts p → IsRounds p.rounds → IsEmission p out → All IsSound out
-all_sound p out f ok h = λ k d l. each_sound p out k (get_or out k d) f ok h (slice_get-get_or out k d l)
+-- a packet that a plan sends is sound, whatever went out before it
+pub placed_sound : (p : PlanValue) → PlanFacts p → IsRounds p.rounds → (before : List (List ℕ)) (n : ℕ) (q : List ℕ) (o : Option TablePlace) → table_at p.rounds n ≡ o → IsPacketOf p before o q → IsSound q
+placed_sound p f ok before n q None t c = record { whole = is_accepted q c.0.accepted; good = packet_good q c.0 }
+placed_sound p f ok before n q (Some (Fast j)) t c =
+    let within = are_places p.rounds ok n (Fast j) t in
+    let x = get_or (fast_packets p.tables) j null_packet in
+    let stays = all_stay_sound (fast_sections p) f.fast_pids j null_packet (omega (arith, f.basics.fast_len)) in
+    subst IsSound (sym c) (stays.sound (length (of_pid (pid_of x) before) % 16) (omega arith))
+placed_sound p f ok before n q (Some (Slow j)) t c =
+    let within = are_places p.rounds ok n (Slow j) t in
+    let x = get_or (slow_packets p.tables) j null_packet in
+    let stays = all_stay_sound (slow_sections p) f.slow_pids j null_packet (omega (arith, f.basics.slow_len)) in
+    subst IsSound (sym c) (stays.sound (length (of_pid (pid_of x) before) % 16) (omega arith))
 
 -- ---- the packets of a section on its PID
 
-own_length : (s : SectionOnPid) → length (flat_map packets_on_pid (s ∷ [])) ≡ packet_count_of s.bytes
+pub own_length : (s : SectionOnPid) → length (flat_map packets_on_pid (s ∷ [])) ≡ packet_count_of s.bytes
 own_length s =
     ap length (append-nil (packets_on_pid s)) ∙ length-map-range_with_len (table_packet s.pid s.bytes) 0 (packet_count_of s.bytes)
 
@@ -114,39 +102,36 @@ own_at s k r l e =
 below_count : (section : List ℕ) (k : ℕ) → k % packet_count_of section < packet_count_of section
 below_count section k = let c = packet_count_of section in mod_below k c (omega arith)
 
-repeats_pieces : (s : SectionOnPid) (sent : List (List ℕ)) → HasPid s → RepeatSections (s ∷ []) sent → AreRepeated s.bytes 0 sent
-repeats_pieces s sent fits h = λ k q e.
+-- what repeats the packets of a section repeats its pieces
+pub pieces : (s : SectionOnPid) (earlier : ℕ) (sent : List (List ℕ)) → HasPid s → RepeatsBy (numbered_from earlier) (flat_map packets_on_pid (s ∷ [])) sent → AreRepeated s.bytes 0 earlier sent
+pieces s earlier sent fits h = λ k q e.
     let c = packet_count_of s.bytes in
-    let turn = h.packets k q e in
+    let turn = h k q e in
     let l = below_count s.bytes k in
     let there : slice_get (flat_map packets_on_pid (s ∷ [])) (k % c) ≡ Some turn.0 = sym (ap (λ n. slice_get (flat_map packets_on_pid (s ∷ [])) (k % n)) (own_length s)) ∙ turn.1 in
-    let is : q ≡ with_counter (table_packet s.pid s.bytes (k % c)) (k % 16) = turn.2 ∙ ap (λ r. with_counter r (k % 16)) (own_at s (k % c) turn.0 l there) in
-    let reads = table_packet_reads s.pid s.bytes (k % c) (k % 16) fits (omega arith) l in
-    let piece : IsPiece s.bytes (k % c) (k % 16) q =
-    subst (IsPiece s.bytes (k % c) (k % 16)) (sym is) (record { loaded = reads.loaded; start = reads.start; counter = reads.counter; payload = reads.payload }) in
+    let counter = (earlier + k) % 16 in
+    let is : q ≡ with_counter (table_packet s.pid s.bytes (k % c)) counter = turn.2 ∙ ap (λ r. with_counter r counter) (own_at s (k % c) turn.0 l there) in
+    let reads = table_packet_reads s.pid s.bytes (k % c) counter fits (omega arith) l in
+    let piece : IsPiece s.bytes (k % c) counter q =
+    subst (IsPiece s.bytes (k % c) counter) (sym is) (record { loaded = reads.loaded; start = reads.start; counter = reads.counter; payload = reads.payload }) in
     let z : k ≡ 0 + k = omega arith in
-    subst (λ (n : ℕ). IsPiece s.bytes (n % c) (n % 16) q) z piece
+    subst (λ (n : ℕ). IsPiece s.bytes (n % c) counter q) z piece
 
-clear_of : (s : SectionOnPid) (sent : List (List ℕ)) (k : ℕ) (q : List ℕ) → HasPid s → RepeatSections (s ∷ []) sent → slice_get sent k ≡ Some q → transport_scrambling_control_of q ≡ 0
-clear_of s sent k q fits h e =
-    let turn = h.packets k q e in
-    let cycle = flat_map packets_on_pid (s ∷ []) in
-    let place = k % length cycle in
-    let within = slice_get_within cycle place turn.0 turn.1 in
-    let stays : StaysSound (get_or cycle place turn.0) = all_stay_sound (s ∷ []) (All-cons HasPid s [] fits (All-nil HasPid)) place turn.0 within in
-    let same : get_or cycle place turn.0 ≡ turn.0 = get_or_from_slice_get cycle place turn.0 turn.0 turn.1 in
-    let clear = (subst StaysSound same stays).clear (k % 16) (omega arith) in
-    ap transport_scrambling_control_of turn.2 ∙ clear
+-- a packet that a plan sends of a table isn't scrambled
+clear_place : (ss : List SectionOnPid) (before : List (List ℕ)) (q : List ℕ) (j : ℕ) → All HasPid ss → j < length (flat_map packets_on_pid ss) → q ≡ counted_behind before (get_or (flat_map packets_on_pid ss) j null_packet)
+    → transport_scrambling_control_of q ≡ 0
+clear_place ss before q j fits l is =
+    let x = get_or (flat_map packets_on_pid ss) j null_packet in
+    ap transport_scrambling_control_of is ∙ (all_stay_sound ss fits j null_packet l).clear (length (of_pid (pid_of x) before) % 16) (omega arith)
 
-pub carries : (s : SectionOnPid) (pid : ℕ) (out : List (List ℕ)) → HasPid s → All IsSound out → RepeatSections (s ∷ []) (of_pid pid out) → Carries s.bytes pid out
-carries s pid out fits sound h = record {
-  whole = All-weaker IsSound (λ q. is_packet q ≡ true) (λ q i. i.whole) out sound;
-  clear = λ k d l e.
-      let q = get_or out k d in
-      let there : slice_get out k ≡ Some q = slice_get-get_or out k d l in
-      clear_of s (of_pid pid out) (length (of_pid pid (take k out))) q fits h (filter_place (λ r. pid_of r == pid) out k q there (eq-eqb _ _ e));
-  repeats = repeats_pieces s (of_pid pid out) fits h;
-}
+pub placed_clear : (p : PlanValue) → PlanFacts p → IsRounds p.rounds → (before : List (List ℕ)) (n : ℕ) (q : List ℕ) (place : TablePlace) → table_at p.rounds n ≡ Some place → IsPacketOf p before (Some place) q
+    → transport_scrambling_control_of q ≡ 0
+placed_clear p f ok before n q (Fast j) t c =
+    let within = are_places p.rounds ok n (Fast j) t in
+    clear_place (fast_sections p) before q j f.fast_pids (omega (arith, f.basics.fast_len, within)) c
+placed_clear p f ok before n q (Slow j) t c =
+    let within = are_places p.rounds ok n (Slow j) t in
+    clear_place (slow_sections p) before q j f.slow_pids (omega (arith, f.basics.slow_len, within)) c
 
 -- ---- where the last packet of a section stands in the list of the tables' packets
 
@@ -210,38 +195,3 @@ last_place (x ∷ ss) (suc i) s h e apart =
       at = get_behind qs rest later.place ∙ later.at;
       before = ap (λ l. length l + 1) counted ∙ later.before;
     }
-
--- ---- it ends within its limit
-
-no_turns : (p : PlanValue) → turns fast_one p.rounds 0 ≡ 0
-unfolding turns
-no_turns p = refl
-
-pub ends_within : (p : PlanValue) (out : List (List ℕ)) (s : SectionOnPid) → PlanFacts p → IsRounds p.rounds → IsEmission p out → HasPid s → IsNoOther p s.pid
-    → All (λ r. pid_of r ≡ s.pid → ⊥) (slow_packets p.tables) → LastPlace (fast_sections p) s → of_pid s.pid (fast_packets p.tables) ≡ flat_map packets_on_pid (s ∷ [])
-    → EndsWithin (fast_limit_of p.request.rate) s.bytes s.pid out
-ends_within p out s f ok h fits n absent last own = λ first room.
-    let c = packet_count_of s.bytes in
-    let xs = fast_packets p.tables in
-    let test : List ℕ → Bool = λ r. pid_of r == s.pid in
-    let inside = slice_get_within xs last.place (table_packet s.pid s.bytes (c - 1)) last.at in
-    let len = f.basics.fast_len in
-    let recurs = subst (λ rate. RecursWithin p.rounds (Fast last.place) (fast_limit_of rate)) f.basics.rate (fast_recurs p.rounds last.place ok (omega arith)) in
-    let found = recurs first in
-    let m = found.0 in
-    let low = found.1 in
-    let high = found.2 in
-    let q = get_or out m null_packet in
-    let here : slice_get out m ≡ Some q = slice_get-get_or out m null_packet (omega arith) in
-    let sent = carried p out m q (Some (Fast last.place)) h here found.3 in
-    let x = get_or xs last.place null_packet in
-    let is : x ≡ table_packet s.pid s.bytes (c - 1) = get_or_from_slice_get xs last.place (table_packet s.pid s.bytes (c - 1)) null_packet last.at in
-    let counter = length (of_pid (pid_of x) (take m out)) % 16 in
-    let on : pid_of q ≡ s.pid =
-    ap pid_of (sent ∙ ap (λ r. with_counter r counter) is) ∙ (table_packet_reads s.pid s.bytes (c - 1) counter fits (omega arith) (omega arith)).on_pid in
-    let turn : turns fast_one p.rounds m % length xs ≡ last.place = ap (λ k. turns fast_one p.rounds m % k) (sym len) ∙ fast_in_turn p.rounds m last.place ok found.3 in
-    let size : length (filter test xs) ≡ c = ap length own ∙ own_length s in
-    let before = last.before in
-    let counted = place_counted test numbered xs out (turns fast_one p.rounds) m last.place (omega arith) (no_turns p) (fast_steps p out s.pid f ok h n absent) (omega arith) turn (omega arith) in
-    let there : length (of_pid s.pid (take m out)) % c ≡ length (filter test (take last.place xs)) = ap (λ k. length (of_pid s.pid (take m out)) % k) (sym size) ∙ counted in
-    (m, low, high, (q, record { there = here; on = on; last = omega arith }))

@@ -1,7 +1,14 @@
 pub mod ReadingLaws
 pub mod CountLaws
 pub mod ToldLaws
-pub mod CarriedLaws
+pub mod GapLaws
+pub mod ReadLaws
+pub mod RowLaws
 pub mod EmittedLaws
-pub mod FaultFreeLaws
+pub mod SectionFacts
 pub mod OutputFaultLaws
+pub mod ScheduleTold
+pub mod SpanReadLaws
+pub mod SpanEndLaws
+pub mod ScheduleFaultLaws
+pub mod PlanTold

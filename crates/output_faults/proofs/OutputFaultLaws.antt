@@ -1,45 +1,38 @@
--- What the analyser tells of an emission of a plan.
-use Rattle.std.proofs.Common.{◌≡◌, ◌≢◌, ℕ, zero, suc, ◌+◌, ◌%◌, ◌<◌, ◌==◌, List, [], ◌∷◌, ◌++◌, length, take, drop, get_or, refl, sym, ◌∙◌, ap, subst, arith, add-one, append_assoc, Option, Some, None, Bool, true, false, ◌&&◌, inl, inr}
+-- What the analyser tells of packets that are sound, and of counters.
+use Rattle.std.proofs.Common.{◌≡◌, ◌≤◌, ◌≢◌, ℕ, zero, suc, ◌+◌, ◌<◌, ◌==◌, List, [], ◌∷◌, ◌++◌, length, take, drop, get_or, refl, sym, ◌∙◌, ap, subst, arith, add-one, append_assoc, Option, Some, Bool, true, false, ◌&&◌}
 use Rattle.std.specs.Prelude.{not}
 use Rattle.std.specs.List.{All, Contains, slice_get}
 use Rattle.std.proofs.lemmas.Bool.{and_parts, eq-eqb, ne_eqb}
 use Rattle.std.proofs.lemmas.List.{take-append-drop}
-use Rattle.std.proofs.lemmas.List.Elements.{All-cons, All-append, All-nil, All-weaker, All-take, filter-append}
+use Rattle.std.proofs.lemmas.List.Elements.{All-weaker, All-take, filter-append}
 use Rattle.std.proofs.lemmas.Option.{slice_get_within, slice_get-get_or, get_or_from_slice_get}
-use Rattle.tspkt.specs.Packet.{pid_of, null_packet}
+use Rattle.tspkt.specs.Packet.{pid_of}
 use Rattle.tspkt.specs.Counters.{lawful_of}
-use Rattle.tspkt.proofs.RewrittenLaws.{pid_of-null_packet}
-use Rattle.rounds.specs.declared.table_place.TablePlace.{TablePlace}
-use Rattle.rounds.specs.declared.table_place.TablePlace.TheVariants.{Fast, Slow}
-use Rattle.rounds.specs.Rounds.{IsRounds, table_at}
-use Rattle.rounds.proofs.RecurringLaws.{are_places}
-use Rattle.request.specs.Request.{IsRequest}
 use Rattle.request.specs.declared.stream.Stream.{Stream}
-use Rattle.output_tables.specs.OnPid.{SectionOnPid}
-use Rattle.output_tables.specs.TableSet.{fast_packets, slow_packets}
-use Rattle.plan.specs.Build.{PlanValue, IsPlan}
-use Rattle.emission.specs.Emission.{of_pid, counted_behind, IsNullOrMapped, IsEmission}
-use Rattle.emission.proofs.SectionPacketLaws.{GoesOut}
-use Rattle.emission.proofs.PlanFacts.{plan_facts, packets_have, fast_sections, slow_sections}
-use Rattle.emission.proofs.SlotLaws.{carried}
-use Rattle.emission.proofs.AgreementLaws.{agree}
+use Rattle.emission.specs.Emission.{of_pid}
 use Rattle.analyse.specs.Slots.{slot_at, is_packet, packets_of_pid, is_sync_lost_at, is_sync_byte_bad_at}
 use Rattle.analyse.specs.Faults.{is_counter_bad_at, last_is_lawful, faults}
 use Rattle.analyse.specs.declared.fault_kind.FaultKind.{FaultKind}
-use Rattle.analyse.specs.declared.fault_kind.FaultKind.TheVariants.{TsSyncLoss, SyncByteError, PatError2, ContinuityCountError, PmtError2}
+use Rattle.analyse.specs.declared.fault_kind.FaultKind.TheVariants.{TsSyncLoss, SyncByteError, ContinuityCountError}
 use Rattle.analyse.specs.declared.fault.Fault.{Fault}
-use Rattle.output_faults.specs.ToldFaults.{TellsNo, TellsNoSyncFault, TellsNoTableFault, IsOfStream, IsUnlawful, UnlawfulWentOut, counter_fault, CounterFaultsAreOfStreams, AreLawfulAsTaken, UnlawfulWasTaken, CounterFaultsAreAsTaken}
+use Rattle.output_faults.specs.ToldFaults.{TellsNo, TellsNoSyncFault, IsOfStream, IsUnlawful, UnlawfulWentOut, counter_fault, CounterFaultsAreOfStreams, AreLawfulAsTaken, UnlawfulWasTaken, CounterFaultsAreAsTaken}
 use Rattle.output_faults.proofs.ToldLaws.{PassesKind, Passes, all_pass, counter_told, lawful_there}
 use Rattle.emission.proofs.CycleLaws.{filter_yes}
-use Rattle.output_faults.proofs.CarriedLaws.{all_kept}
-use Rattle.output_faults.proofs.EmittedLaws.{IsSound, all_sound}
-use Rattle.output_faults.proofs.FaultFreeLaws.{no_pat_error, no_pmt_error}
+use Rattle.output_faults.proofs.ReadLaws.{all_kept}
+use Rattle.output_faults.proofs.EmittedLaws.{IsSound}
 
 -- a kind of which no test passes isn't told
-none_told : (rate period : ℕ) (out : List (List ℕ)) (kind : FaultKind) → ((m : ℕ) (pid : Option ℕ) → m < length out → PassesKind rate period out kind m pid → ⊥) → TellsNo kind (faults rate period out)
+pub none_told : (rate period : ℕ) (out : List (List ℕ)) (kind : FaultKind) → ((m : ℕ) (pid : Option ℕ) → m < length out → PassesKind rate period out kind m pid → ⊥) → TellsNo kind (faults rate period out)
 none_told rate period out kind h =
     All-weaker (Passes rate period out) (λ (f : Fault). f.kind ≢ kind)
     (λ f passes is. h f.slot f.pid passes.0 (subst (λ (k : FaultKind). PassesKind rate period out k f.slot f.pid) is passes.1)) (faults rate period out) (all_pass rate period out)
+
+-- What is asked of packets that went out for what is told of them: they are sound, and one that is unlawful at its place among those of its
+-- PID is on the PID of one of these streams.
+pub record AreJudged (streams : List Stream) (out : List (List ℕ)) : Type 0 where
+  pub sound : All IsSound out
+  pub of_stream : (m : ℕ) (q : List ℕ) → slice_get out m ≡ Some q → (pid_of q == 0x1FFF) ≡ false → IsUnlawful out m q → IsOfStream streams q
+  pub range : All (λ (st : Stream). st.output_pid ≤ 0x1FFE) streams
 
 -- ---- sync
 
@@ -52,20 +45,10 @@ sync_kept : (out : List (List ℕ)) (m : ℕ) → All IsSound out → m < length
 unfolding is_sync_lost_at
 sync_kept out m sound l t = byte_good out m sound l (and_parts _ _ (and_parts _ _ t).0).1
 
-pub no_sync_fault : (p : PlanValue) (rate period : ℕ) (out : List (List ℕ)) → IsRequest p.request → IsPlan p → IsRounds p.rounds → IsEmission p out → TellsNoSyncFault (faults rate period out)
-no_sync_fault p rate period out r is ok h =
-    let sound = all_sound p out (plan_facts p r is) ok h in
-    record {
-      sync = none_told rate period out TsSyncLoss (λ m pid l t. sync_kept out m sound l t);
-      sync_byte = none_told rate period out SyncByteError (λ m pid l t. byte_good out m sound l t);
-    }
-
--- ---- tables
-
-pub no_table_fault : (p : PlanValue) (period : ℕ) (out : List (List ℕ)) → IsRequest p.request → IsPlan p → IsRounds p.rounds → IsEmission p out → TellsNoTableFault (faults p.request.rate period out)
-no_table_fault p period out r is ok h = record {
-  pat = none_told p.request.rate period out PatError2 (λ m pid l t. no_pat_error p out m r is ok h l t);
-  pmts = none_told p.request.rate period out PmtError2 (λ m pid l t. no_pmt_error p out m t.0 r is ok h l t.1);
+pub sync_stands : (rate period : ℕ) (out : List (List ℕ)) → All IsSound out → TellsNoSyncFault (faults rate period out)
+sync_stands rate period out sound = record {
+  sync = none_told rate period out TsSyncLoss (λ m pid l t. sync_kept out m sound l t);
+  sync_byte = none_told rate period out SyncByteError (λ m pid l t. byte_good out m sound l t);
 }
 
 -- ---- counters
@@ -114,101 +97,44 @@ bad_from : (out : List (List ℕ)) (m : ℕ) → is_packet (slot_at out m) ≡ t
 unfolding is_counter_bad_at
 bad_from out m packet pid lawful = rw (packet, pid, lawful) refl
 
--- the packets on a table's PID are lawful
-table_lawful : (p : PlanValue) (out : List (List ℕ)) (m : ℕ) (q : List ℕ) (place : TablePlace) → IsRequest p.request → IsPlan p → IsRounds p.rounds → IsEmission p out → slice_get out m ≡ Some q → table_at p.rounds m ≡ Some place
-    → All (λ (b : Bool). b ≡ true) (lawful_of (of_pid (pid_of q) out))
-table_lawful p out m q place r is ok h e t = of_place place t
-  where
-    P : ℕ → Type 0
-    P n = All (λ (b : Bool). b ≡ true) (lawful_of (of_pid n out))
-
-    S : SectionOnPid → Type 0
-    S s = P s.pid
-
-    fast_lawful : All (λ x. P (pid_of x)) (fast_packets p.tables)
-    fast_lawful =
-        let f = plan_facts p r is in
-        let tables = agree p out r is ok h in
-        packets_have P (fast_sections p) f.fast_pids (All-cons S p.tables.pat p.tables.pmts (subst P (sym f.basics.pat_pid) tables.pat.counters) (λ i d l. (tables.pmts i d l).counters))
-
-    slow_lawful : All (λ x. P (pid_of x)) (slow_packets p.tables)
-    slow_lawful =
-        let f = plan_facts p r is in
-        let tables = agree p out r is ok h in
-        packets_have P (slow_sections p) f.slow_pids
-        (All-append S p.tables.sdt (p.tables.nit ∷ []) (All-weaker (λ (s : SectionOnPid). s.pid ≡ 0x0011) S (λ s z. subst P (sym z) tables.sdt.counters) p.tables.sdt f.basics.sdt_pids)
-        (All-cons S p.tables.nit [] (subst P (sym f.basics.nit_pid) tables.nit.counters) (All-nil S)))
-
-    kept : (xs : List (List ℕ)) (j : ℕ) → All GoesOut xs → All (λ x. P (pid_of x)) xs → j < length xs → q ≡ counted_behind (take m out) (get_or xs j null_packet) → P (pid_of q)
-    kept xs j goes lawful l c =
-        let x = get_or xs j null_packet in
-        let same : pid_of q ≡ pid_of x = ap pid_of c ∙ (goes j null_packet l).on_pid (length (of_pid (pid_of x) (take m out)) % 16) (omega arith) in
-        subst P (sym same) (lawful j null_packet l)
-
-    of_place : (place : TablePlace) → table_at p.rounds m ≡ Some place → P (pid_of q)
-    of_place (Fast j) t =
-        let f = plan_facts p r is in
-        let within = are_places p.rounds ok m (Fast j) t in
-        kept (fast_packets p.tables) j f.fast fast_lawful (omega (arith, f.basics.fast_len)) (carried p out m q (Some (Fast j)) h e t)
-    of_place (Slow j) t =
-        let f = plan_facts p r is in
-        let within = are_places p.rounds ok m (Slow j) t in
-        kept (slow_packets p.tables) j f.slow slow_lawful (omega (arith, f.basics.slow_len)) (carried p out m q (Some (Slow j)) h e t)
-
-all_at : (bs : List Bool) (k : ℕ) → All (λ (b : Bool). b ≡ true) bs → slice_get bs k ≡ Some false → ⊥
+pub all_at : (bs : List Bool) (k : ℕ) → All (λ (b : Bool). b ≡ true) bs → slice_get bs k ≡ Some false → ⊥
 all_at bs k all e =
     let here : get_or bs k false ≡ true = all k false (slice_get_within bs k false e) in
     let same : get_or bs k false ≡ false = get_or_from_slice_get bs k false false e in
     let clash : false ≡ true = sym same ∙ here in absurd cc
 
--- a packet that isn't lawful is one of a stream
-is_of_stream : (p : PlanValue) (out : List (List ℕ)) (m : ℕ) (q : List ℕ) → IsRequest p.request → IsPlan p → IsRounds p.rounds → IsEmission p out → slice_get out m ≡ Some q → (pid_of q == 0x1FFF) ≡ false → IsUnlawful out m q → IsOfStream p.request.streams q
-is_of_stream p out m q r is ok h e null bad = by_place (table_at p.rounds m) refl
-  where
-    of_slot : IsNullOrMapped p.request.streams q → IsOfStream p.request.streams q
-    of_slot (inl z) =
-        let one : (pid_of q == 0x1FFF) ≡ true = eq-eqb _ _ (ap pid_of z ∙ pid_of-null_packet) in
-        let clash : false ≡ true = sym null ∙ one in absurd cc
-    of_slot (inr a) = a
-
-    by_place : (o : Option TablePlace) → table_at p.rounds m ≡ o → IsOfStream p.request.streams q
-    by_place None t = of_slot (carried p out m q None h e t).1
-    by_place (Some place) t = absurd (all_at (lawful_of (of_pid (pid_of q) out)) (length (of_pid (pid_of q) (take m out))) (table_lawful p out m q place r is ok h e t) bad)
-
-bad_of_stream : (p : PlanValue) (out : List (List ℕ)) (m : ℕ) → IsRequest p.request → IsPlan p → IsRounds p.rounds → IsEmission p out → m < length out → is_counter_bad_at out m ≡ true → UnlawfulWentOut p.request.streams out m (slot_at out m)
-bad_of_stream p out m r is ok h l t =
+bad_of_stream : (streams : List Stream) (out : List (List ℕ)) (m : ℕ) → AreJudged streams out → m < length out → is_counter_bad_at out m ≡ true → UnlawfulWentOut streams out m (slot_at out m)
+bad_of_stream streams out m are l t =
     let q = slot_at out m in
     let e : slice_get out m ≡ Some q = slice_get-get_or out m [] l in
     let parts = bad_parts out m t in
-    let bad : IsUnlawful out m q = there out m q (all_sound p out (plan_facts p r is) ok h) e ∙ ap (λ b. Some b) parts.1 in
-    record { went_out = e; of_stream = is_of_stream p out m q r is ok h e parts.0 bad; unlawful = bad }
+    let bad : IsUnlawful out m q = there out m q are.sound e ∙ ap (λ b. Some b) parts.1 in
+    record { went_out = e; of_stream = are.of_stream m q e parts.0 bad; unlawful = bad }
 
-stream_bad : (p : PlanValue) (out : List (List ℕ)) (m : ℕ) (q : List ℕ) → IsRequest p.request → IsPlan p → IsRounds p.rounds → IsEmission p out → UnlawfulWentOut p.request.streams out m q → is_counter_bad_at out m ≡ true
-stream_bad p out m q r is ok h u =
-    let f = plan_facts p r is in
-    let sound = all_sound p out f ok h in
+stream_bad : (streams : List Stream) (out : List (List ℕ)) (m : ℕ) (q : List ℕ) → AreJudged streams out → UnlawfulWentOut streams out m q → is_counter_bad_at out m ≡ true
+stream_bad streams out m q are u =
     let l = slice_get_within out m q u.went_out in
     let same : slot_at out m ≡ q = get_or_from_slice_get out m q [] u.went_out in
     let st = u.of_stream in
-    let range = f.streams_range st.0 st.1 st.2 in
-    let on : pid_of q ≡ (get_or p.request.streams st.0 st.1).output_pid = st.4 ∙ ap (λ (s : Stream). s.output_pid) (sym st.3) in
-    let pid : (pid_of q == 0x1FFF) ≡ false = ne_eqb _ _ (λ z. omega (arith, range.1, on, z)) in
-    let both : Some (lawful_now out m q) ≡ Some false = sym (there out m q sound u.went_out) ∙ u.unlawful in
+    let range = are.range st.0 st.1 st.2 in
+    let on : pid_of q ≡ (get_or streams st.0 st.1).output_pid = st.4 ∙ ap (λ (s : Stream). s.output_pid) (sym st.3) in
+    let pid : (pid_of q == 0x1FFF) ≡ false = ne_eqb _ _ (λ z. omega (arith, range, on, z)) in
+    let both : Some (lawful_now out m q) ≡ Some false = sym (there out m q are.sound u.went_out) ∙ u.unlawful in
     let lawful : lawful_now out m q ≡ false = cc in
-    bad_from out m (sound m [] l).whole (ap (λ s. pid_of s == 0x1FFF) same ∙ pid) (ap (lawful_now out m) same ∙ lawful)
+    bad_from out m (are.sound m [] l).whole (ap (λ s. pid_of s == 0x1FFF) same ∙ pid) (ap (lawful_now out m) same ∙ lawful)
 
-pub counter_faults : (p : PlanValue) (rate period : ℕ) (out : List (List ℕ)) → IsRequest p.request → IsPlan p → IsRounds p.rounds → IsEmission p out → CounterFaultsAreOfStreams p.request.streams out (faults rate period out)
-counter_faults p rate period out r is ok h = record {
-  only = All-weaker (Passes rate period out) (λ (f : Fault). f.kind ≡ ContinuityCountError → (q : List ℕ) × (f ≡ counter_fault f.slot q) × UnlawfulWentOut p.request.streams out f.slot q)
+pub counters_judged : (streams : List Stream) (rate period : ℕ) (out : List (List ℕ)) → AreJudged streams out → CounterFaultsAreOfStreams streams out (faults rate period out)
+counters_judged streams rate period out are = record {
+  only = All-weaker (Passes rate period out) (λ (f : Fault). f.kind ≡ ContinuityCountError → (q : List ℕ) × (f ≡ counter_fault f.slot q) × UnlawfulWentOut streams out f.slot q)
       (λ f passes kind.
       let here : PassesKind rate period out ContinuityCountError f.slot f.pid = subst (λ (k : FaultKind). PassesKind rate period out k f.slot f.pid) kind passes.1 in
       let q = slot_at out f.slot in
       let is_it : f ≡ counter_fault f.slot q = ap (λ (k : FaultKind). record { slot = f.slot; kind = k; pid = f.pid }) kind ∙ ap (λ (o : Option ℕ). record { slot = f.slot; kind = ContinuityCountError; pid = o }) here.1 in
-      (q, is_it, bad_of_stream p out f.slot r is ok h passes.0 here.0)) (faults rate period out) (all_pass rate period out);
+      (q, is_it, bad_of_stream streams out f.slot are passes.0 here.0)) (faults rate period out) (all_pass rate period out);
   each = λ m q u.
       let l = slice_get_within out m q u.went_out in
       let same : slot_at out m ≡ q = get_or_from_slice_get out m q [] u.went_out in
-      subst (λ (x : List ℕ). Contains (faults rate period out) (counter_fault m x)) same (counter_told rate period out m l (stream_bad p out m q r is ok h u));
+      subst (λ (x : List ℕ). Contains (faults rate period out) (counter_fault m x)) same (counter_told rate period out m l (stream_bad streams out m q are u));
 }
 
 -- ---- by what was taken
@@ -251,15 +177,13 @@ went_out streams taken out m q sound same u =
     let both : Some b ≡ Some false = sym (among_taken streams taken out st (length (of_pid st.output_pid (take m out))) b same u.listed (at_place out m q st.output_pid b u.on_pid here)) ∙ u.unlawful in
     record { went_out = u.went_out; of_stream = (u.listed.0, st, u.listed.1, u.listed.2, u.on_pid); unlawful = here ∙ both }
 
-pub counter_faults_taken : (p : PlanValue) (rate period : ℕ) (out : List (List ℕ)) (taken : Stream → List (List ℕ)) → IsRequest p.request → IsPlan p → IsRounds p.rounds → IsEmission p out → AreLawfulAsTaken p.request.streams taken out
-    → CounterFaultsAreAsTaken p.request.streams taken out (faults rate period out)
-counter_faults_taken p rate period out taken r is ok h same =
-    let streams = p.request.streams in
-    let f = counter_faults p rate period out r is ok h in
-    let sound = all_sound p out (plan_facts p r is) ok h in
+pub taken_judged : (streams : List Stream) (rate period : ℕ) (out : List (List ℕ)) (taken : Stream → List (List ℕ)) → AreJudged streams out → AreLawfulAsTaken streams taken out
+    → CounterFaultsAreAsTaken streams taken out (faults rate period out)
+taken_judged streams rate period out taken are same =
+    let f = counters_judged streams rate period out are in
     record {
       only = All-weaker (λ (x : Fault). x.kind ≡ ContinuityCountError → (q : List ℕ) × (x ≡ counter_fault x.slot q) × UnlawfulWentOut streams out x.slot q)
           (λ (x : Fault). x.kind ≡ ContinuityCountError → (q : List ℕ) × (x ≡ counter_fault x.slot q) × UnlawfulWasTaken streams taken out x.slot q)
           (λ x g kind. let a = g kind in (a.0, a.1, was_taken streams taken out x.slot a.0 same a.2)) (faults rate period out) f.only;
-      each = λ m q u. f.each m q (went_out streams taken out m q sound same u);
+      each = λ m q u. f.each m q (went_out streams taken out m q are.sound same u);
     }

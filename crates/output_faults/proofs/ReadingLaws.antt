@@ -1,8 +1,7 @@
 -- A section that is sent again and again on a PID is told at the last of its packets each time, and nothing else is.
 use Rattle.std.proofs.Common.{◌≡◌, ℕ, zero, suc, ◌+◌, ◌-◌, ◌*◌, ◌/◌, ◌%◌, ◌<◌, ◌≤◌, List, [], ◌∷◌, ◌++◌, length, take, drop, replicate, ◌==◌, refl, sym, ◌∙◌, ap, subst, arith, Bool, true, false, not, Some, inl, inr}
-use Rattle.std.specs.List.{All, slice_get}
+use Rattle.std.specs.List.{slice_get}
 use Rattle.std.proofs.lemmas.List.{length-append, length-take, take_at, drop_at, take-append-le, take-append-drop, append-nil, append_assoc}
-use Rattle.std.proofs.lemmas.List.Elements.{All-nil, All-cons, All-append}
 use Rattle.std.proofs.lemmas.Nat.{mod-mul-add, div-add-mod', mod_below}
 use Rattle.std.proofs.Math.Seq.{take-append-add, take-add}
 use Rattle.std.proofs.lemmas.Bool.{eq-eqb, false_from_ne_true, cases_lt}
@@ -11,7 +10,7 @@ use Rattle.tspkt.specs.Packet.{has_payload_of, payload_unit_start_indicator_of, 
 use Rattle.tspkt.specs.Counters.{is_copy}
 use Rattle.section.specs.Crc.{crc_of}
 use Rattle.section.specs.Section.{section_length_of, is_too_long, is_whole, first_section, IsGoodSection}
-use Rattle.section.specs.Assembled.{Reading, nothing, collected, told_of_whole, sections_from, has_pointer, payload_told, AssemblerState, Step, packet_told, read_with, reading_of, is_repeat, is_discontinuous, assembled_from, assembled, fresh}
+use Rattle.section.specs.Assembled.{Reading, nothing, collected, told_of_whole, sections_from, has_pointer, payload_told, AssemblerState, Step, packet_told, read_with, reading_of, is_repeat, is_discontinuous, assembled_from, fresh}
 use Rattle.section.specs.Packetized.{packet_count_of, stuffed}
 use Rattle.section.specs.declared.told.Told.{Told}
 use Rattle.section.specs.declared.told.Told.TheVariants.{Section}
@@ -162,32 +161,45 @@ part_read (b ∷ bytes) (suc k) counter q g small n h =
 
 -- ---- one packet
 
--- a state behind n packets of the repetition
-pub record IsBehind (section : List ℕ) (n : ℕ) (s : AssemblerState) : Type 0 where
+-- a state behind n packets of the repetition; the next packet has the counter that follows so many packets
+pub record IsBehind (section : List ℕ) (n count : ℕ) (s : AssemblerState) : Type 0 where
   pub begun : s.begun ≡ begun_of section (n % packet_count_of section)
   pub skipped : s.skipped ≡ false
-  pub new : (q : List ℕ) → continuity_counter_of q ≡ n % 16 → is_repeat s.last q ≡ false
-  pub follows : (q : List ℕ) → continuity_counter_of q ≡ n % 16 → is_discontinuous s.last q ≡ false
+  pub new : (q : List ℕ) → continuity_counter_of q ≡ count % 16 → is_repeat s.last q ≡ false
+  pub follows : (q : List ℕ) → continuity_counter_of q ≡ count % 16 → is_discontinuous s.last q ≡ false
 
-pub starts : (section : List ℕ) → IsBehind section 0 fresh
-starts section =
+-- before the first packet of a section nothing is begun
+first_place : (section : List ℕ) → 0 % packet_count_of section ≡ 0
+first_place section =
     let c = packet_count_of section in
     let e : 0 * c + 0 ≡ 0 = omega arith in
-    let z : 0 % c ≡ 0 = ap (λ k. k % c) (sym e) ∙ mod-mul-add 0 c 0 (omega arith) in
-    record { begun = ap (begun_of section) (sym z); skipped = refl; new = λ q e. refl; follows = λ q e. refl }
+    ap (λ k. k % c) (sym e) ∙ mod-mul-add 0 c 0 (omega arith)
+
+pub starts : (section : List ℕ) (count : ℕ) → IsBehind section 0 count fresh
+starts section count = record { begun = ap (begun_of section) (sym (first_place section)); skipped = refl; new = λ q e. refl; follows = λ q e. refl }
+
+-- where all packets of a section came, any other section may follow
+pub begins_anew : (section other : List ℕ) (n count : ℕ) (s : AssemblerState) → IsBehind section n count s → n % packet_count_of section ≡ 0 → IsBehind other 0 count s
+begins_anew section other n count s b z = record {
+  begun = b.begun ∙ ap (begun_of section) z ∙ ap (begun_of other) (sym (first_place other));
+  skipped = b.skipped;
+  new = b.new;
+  follows = b.follows;
+}
 
 -- the state behind a packet with this counter
-reads : (section begun q : List ℕ) (n : ℕ) → continuity_counter_of q ≡ n % 16 → begun ≡ begun_of section (suc n % packet_count_of section) → IsBehind section (suc n) (record { begun = begun; last = Some q; skipped = false })
-reads section begun q n c b = record {
+reads : (section begun q : List ℕ) (n count : ℕ) → continuity_counter_of q ≡ count % 16 → begun ≡ begun_of section (suc n % packet_count_of section)
+    → IsBehind section (suc n) (suc count) (record { begun = begun; last = Some q; skipped = false })
+reads section begun q n count c b = record {
   begun = b;
   skipped = refl;
   new = λ r e. false_from_ne_true (is_copy q r) (λ (t : is_copy q r ≡ true). let same = counter_copy q r t in absurd (omega (arith, same, c, e)));
   follows = λ r e. let next : (continuity_counter_of r == (continuity_counter_of q + 1) % 16) ≡ true = eq-eqb _ _ (omega (arith, c, e)) in ap not next;
 }
 
-read_by : (section : List ℕ) (n : ℕ) (s : AssemblerState) (q : List ℕ) (r : Reading) → IsBehind section n s → has_payload_of q ≡ true → continuity_counter_of q ≡ n % 16
+read_by : (section : List ℕ) (n count : ℕ) (s : AssemblerState) (q : List ℕ) (r : Reading) → IsBehind section n count s → has_payload_of q ≡ true → continuity_counter_of q ≡ count % 16
     → reading_of (begun_of section (n % packet_count_of section)) q ≡ r → packet_told s q ≡ read_with [] q r
-read_by section n s q r b h c e =
+read_by section n count s q r b h c e =
     let fresh_one = b.new q c in
     let skipped = b.skipped in
     packet_read s q h (rw (skipped, fresh_one) refl) (b.follows q c)
@@ -209,31 +221,32 @@ next_turn n c l =
     ap (λ k. k % c) (sym e) ∙ mod-mul-add (n / c + 1) c 0 (omega arith)
 
 -- what a packet of the repetition tells, and the state behind it
-pub record Tells (section : List ℕ) (n : ℕ) (s : AssemblerState) (q : List ℕ) : Type 0 where
-  pub behind : IsBehind section (suc n) (packet_told s q).state
+pub record Tells (section : List ℕ) (n count : ℕ) (s : AssemblerState) (q : List ℕ) : Type 0 where
+  pub behind : IsBehind section (suc n) (suc count) (packet_told s q).state
   pub none : n % packet_count_of section + 1 < packet_count_of section → (packet_told s q).told ≡ []
   pub some : n % packet_count_of section + 1 ≡ packet_count_of section → (packet_told s q).told ≡ told_of section ∷ []
 
-pub tells : (section : List ℕ) (n : ℕ) (s : AssemblerState) (q : List ℕ) → IsGoodSection section → length section ≤ 1024 → IsBehind section n s → IsPiece section (n % packet_count_of section) (n % 16) q → Tells section n s q
-tells section n s q g small b h =
+pub tells : (section : List ℕ) (n count : ℕ) (s : AssemblerState) (q : List ℕ) → IsGoodSection section → length section ≤ 1024 → IsBehind section n count s
+    → IsPiece section (n % packet_count_of section) (count % 16) q → Tells section n count s q
+tells section n count s q g small b h =
     let c = packet_count_of section in
     let positive : 0 < c = omega arith in
     let below = mod_below n c positive in
     elim (cases_lt (n % c + 1) c) [
       | inl l ↦
-          let step = read_by section n s q (part_reading section (n % c)) b h.loaded h.counter (part_read section (n % c) (n % 16) q g small l h) in
+          let step = read_by section n count s q (part_reading section (n % c)) b h.loaded h.counter (part_read section (n % c) (count % 16) q g small l h) in
           let to = next_in n c l in
           record {
-            behind = subst (λ (x : Step). IsBehind section (suc n) x.state) (sym step) (reads section (begun_of section (suc (n % c))) q n h.counter (ap (begun_of section) (sym to)));
+            behind = subst (λ (x : Step). IsBehind section (suc n) (suc count) x.state) (sym step) (reads section (begun_of section (suc (n % c))) q n count h.counter (ap (begun_of section) (sym to)));
             none = λ _. ap (λ (x : Step). x.told) step;
             some = λ e. absurd (omega arith);
           }
       | inr l ↦
           let last : n % c + 1 ≡ c = omega arith in
-          let step = read_by section n s q (whole_reading section) b h.loaded h.counter (last_read section (n % c) (n % 16) q g small last h) in
+          let step = read_by section n count s q (whole_reading section) b h.loaded h.counter (last_read section (n % c) (count % 16) q g small last h) in
           let to = next_turn n c last in
           record {
-            behind = subst (λ (x : Step). IsBehind section (suc n) x.state) (sym step) (reads section [] q n h.counter (ap (begun_of section) (sym to)));
+            behind = subst (λ (x : Step). IsBehind section (suc n) (suc count) x.state) (sym step) (reads section [] q n count h.counter (ap (begun_of section) (sym to)));
             none = λ e. absurd (omega arith);
             some = λ _. ap (λ (x : Step). x.told) step;
           }
@@ -241,60 +254,44 @@ tells section n s q g small b h =
 
 -- ---- all packets
 
--- the packets are those of the repetition from number n on
-abbrev pub AreRepeated : List ℕ → ℕ → List (List ℕ) → Type 0
-AreRepeated section n sent = (k : ℕ) (q : List ℕ) → slice_get sent k ≡ Some q → IsPiece section ((n + k) % packet_count_of section) ((n + k) % 16) q
+-- the packets are those of the repetition from number n on, with counters that follow so many packets
+abbrev pub AreRepeated : List ℕ → ℕ → ℕ → List (List ℕ) → Type 0
+AreRepeated section n count sent = (k : ℕ) (q : List ℕ) → slice_get sent k ≡ Some q → IsPiece section ((n + k) % packet_count_of section) ((count + k) % 16) q
 
-repeated_head : (section : List ℕ) (n : ℕ) (q : List ℕ) (sent : List (List ℕ)) → AreRepeated section n (q ∷ sent) → IsPiece section (n % packet_count_of section) (n % 16) q
-repeated_head section n q sent h =
+repeated_head : (section : List ℕ) (n count : ℕ) (q : List ℕ) (sent : List (List ℕ)) → AreRepeated section n count (q ∷ sent) → IsPiece section (n % packet_count_of section) (count % 16) q
+repeated_head section n count q sent h =
     let e : n + 0 ≡ n = omega arith in
-    subst (λ (m : ℕ). IsPiece section (m % packet_count_of section) (m % 16) q) e (h 0 q refl)
+    let f : count + 0 ≡ count = omega arith in
+    subst (λ (m : ℕ). IsPiece section (n % packet_count_of section) (m % 16) q) f (subst (λ (m : ℕ). IsPiece section (m % packet_count_of section) ((count + 0) % 16) q) e (h 0 q refl))
 
-repeated_tail : (section : List ℕ) (n : ℕ) (q : List ℕ) (sent : List (List ℕ)) → AreRepeated section n (q ∷ sent) → AreRepeated section (suc n) sent
-repeated_tail section n q sent h = λ k r at.
+repeated_tail : (section : List ℕ) (n count : ℕ) (q : List ℕ) (sent : List (List ℕ)) → AreRepeated section n count (q ∷ sent) → AreRepeated section (suc n) (suc count) sent
+repeated_tail section n count q sent h = λ k r at.
     let e : n + suc k ≡ suc n + k = omega arith in
-    subst (λ (m : ℕ). IsPiece section (m % packet_count_of section) (m % 16) r) e (h (suc k) r at)
+    let f : count + suc k ≡ suc count + k = omega arith in
+    subst (λ (m : ℕ). IsPiece section ((suc n + k) % packet_count_of section) (m % 16) r) f (subst (λ (m : ℕ). IsPiece section (m % packet_count_of section) ((count + suc k) % 16) r) e (h (suc k) r at))
 
-pub all_behind : (section : List ℕ) (n : ℕ) (s : AssemblerState) (sent : List (List ℕ)) → IsGoodSection section → length section ≤ 1024 → IsBehind section n s → AreRepeated section n sent → IsBehind section (n + length sent) (state_behind s sent)
-all_behind section n s [] g small b h = let e : n ≡ n + 0 = omega arith in subst (λ (m : ℕ). IsBehind section m s) e b
-all_behind section n s (q ∷ sent) g small b h =
-    let one = tells section n s q g small b (repeated_head section n q sent h) in
+pub all_behind : (section : List ℕ) (n count : ℕ) (s : AssemblerState) (sent : List (List ℕ)) → IsGoodSection section → length section ≤ 1024 → IsBehind section n count s → AreRepeated section n count sent
+    → IsBehind section (n + length sent) (count + length sent) (state_behind s sent)
+all_behind section n count s [] g small b h =
+    let e : n ≡ n + 0 = omega arith in
+    let f : count ≡ count + 0 = omega arith in
+    subst (λ (m : ℕ). IsBehind section (n + 0) m s) f (subst (λ (m : ℕ). IsBehind section m count s) e b)
+all_behind section n count s (q ∷ sent) g small b h =
+    let one = tells section n count s q g small b (repeated_head section n count q sent h) in
     let e : suc n + length sent ≡ n + suc (length sent) = omega arith in
-    subst (λ (m : ℕ). IsBehind section m (state_behind (packet_told s q).state sent)) e
-    (all_behind section (suc n) (packet_told s q).state sent g small one.behind (repeated_tail section n q sent h))
-
--- nothing but the section is told
-one_told : (section : List ℕ) (n : ℕ) (s : AssemblerState) (q : List ℕ) → Tells section n s q → All (λ t. t ≡ told_of section) (packet_told s q).told
-one_told section n s q h =
-    let P : Told → Type 0 = λ t. t ≡ told_of section in
-    let c = packet_count_of section in
-    let below = mod_below n c (omega arith) in
-    elim (cases_lt (n % c + 1) c) [
-      | inl l ↦ subst (All P) (sym (h.none l)) (All-nil P)
-      | inr l ↦ subst (All P) (sym (h.some (omega arith))) (All-cons P (told_of section) [] refl (All-nil P))
-    ]
-
-pub all_told : (section : List ℕ) (n : ℕ) (s : AssemblerState) (sent : List (List ℕ)) → IsGoodSection section → length section ≤ 1024 → IsBehind section n s → AreRepeated section n sent → All (λ t. t ≡ told_of section) (assembled_from s sent)
-all_told section n s [] g small b h = All-nil (λ t. t ≡ told_of section)
-all_told section n s (q ∷ sent) g small b h =
-    let one = tells section n s q g small b (repeated_head section n q sent h) in
-    All-append (λ t. t ≡ told_of section) (packet_told s q).told (assembled_from (packet_told s q).state sent) (one_told section n s q one)
-    (all_told section (suc n) (packet_told s q).state sent g small one.behind (repeated_tail section n q sent h))
+    let f : suc count + length sent ≡ count + suc (length sent) = omega arith in
+    let state = state_behind (packet_told s q).state sent in
+    subst (λ (m : ℕ). IsBehind section (n + suc (length sent)) m state) f
+    (subst (λ (m : ℕ). IsBehind section m (suc count + length sent) state) e
+    (all_behind section (suc n) (suc count) (packet_told s q).state sent g small one.behind (repeated_tail section n count q sent h)))
 
 -- one packet more
-assembled_more : (s : AssemblerState) (sent : List (List ℕ)) (q : List ℕ) → assembled_from s (sent ++ q ∷ []) ≡ assembled_from s sent ++ (packet_told (state_behind s sent) q).told
+pub assembled_more : (s : AssemblerState) (sent : List (List ℕ)) (q : List ℕ) → assembled_from s (sent ++ q ∷ []) ≡ assembled_from s sent ++ (packet_told (state_behind s sent) q).told
 assembled_more s [] q = append-nil (packet_told s q).told
 assembled_more s (p ∷ sent) q =
     ap (λ (l : List Told). (packet_told s p).told ++ l) (assembled_more (packet_told s p).state sent q)
     ∙ sym (append_assoc (packet_told s p).told (assembled_from (packet_told s p).state sent) (packet_told (state_behind (packet_told s p).state sent) q).told)
 
--- the last packet of a turn tells the section once more
-pub told_again : (section : List ℕ) (sent : List (List ℕ)) (q : List ℕ) → IsGoodSection section → length section ≤ 1024 → AreRepeated section 0 sent
-    → IsPiece section (length sent % packet_count_of section) (length sent % 16) q → length sent % packet_count_of section + 1 ≡ packet_count_of section
-    → assembled (sent ++ q ∷ []) ≡ assembled sent ++ told_of section ∷ []
-told_again section sent q g small h p last =
-    let b = all_behind section 0 fresh sent g small (starts section) h in
-    let e : 0 + length sent ≡ length sent = omega arith in
-    let here : IsBehind section (length sent) (state_behind fresh sent) = subst (λ (m : ℕ). IsBehind section m (state_behind fresh sent)) e b in
-    let t = tells section (length sent) (state_behind fresh sent) q g small here p in
-    assembled_more fresh sent q ∙ ap (λ (l : List Told). assembled sent ++ l) (t.some last)
+pub state_more : (s : AssemblerState) (sent more : List (List ℕ)) → state_behind s (sent ++ more) ≡ state_behind (state_behind s sent) more
+state_more s [] more = refl
+state_more s (p ∷ sent) more = state_more (packet_told s p).state sent more

@@ -19,8 +19,11 @@ fn print_input<O: Write>(number: usize, input: &InputSummary, out: &mut O) -> io
     )?;
     write!(out, "bad {bad} losses {losses} lost {lost} ")?;
     let totals = input.totals;
-    let (taken, sent, queued) = (totals.taken, totals.sent, totals.queued);
-    writeln!(out, "taken {taken} sent {sent} queued {queued}")
+    let (taken, sent, dropped, queued) = (totals.taken, totals.sent, totals.dropped, totals.queued);
+    writeln!(
+        out,
+        "taken {taken} sent {sent} dropped {dropped} queued {queued}"
+    )
 }
 
 /// How many slots there were.

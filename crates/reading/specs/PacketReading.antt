@@ -5,7 +5,7 @@ use Rattle.std.specs.Io.KnownBytes.{Consumes, IsAtEnd}
 use Rattle.tspkt.specs.Framed.{packets_of}
 use Rattle.tspkt.specs.declared.item.Item.{Item}
 use Rattle.tspkt.specs.declared.stamped.Stamped.{Stamped}
-use Rattle.plan.specs.Build.{PlanValue}
+use Rattle.schedule.specs.Schedule.{ScheduleValue}
 use Rattle.reading.specs.Failures.{FailsOnce}
 use Rattle.reading.specs.Takeable.{OriginValue, stride_at, framed_at, takeable, CountsItems, EndsAtTaken}
 use Rattle.reading.specs.StreamReading.{HasPassed, BeginsFramed, AreAllDecided}
@@ -15,30 +15,30 @@ use Rattle.reading.specs.declared.stream_reader.StreamReader.{StreamReader}
 use Rattle.reading.specs.declared.packet_reader.PacketReader.{PacketReader}
 
 -- These packets begin what can be taken of the bytes, whatever follows them.
-abbrev pub BeginsTakeable : PlanValue → OriginValue → List ℕ → List Stamped → Type 0
-BeginsTakeable plan origin bytes given =
-    (more : List ℕ) → (later : List Stamped) × (given ++ later ≡ takeable plan origin (framed_at origin (bytes ++ more)))
+abbrev pub BeginsTakeable : ScheduleValue → OriginValue → List ℕ → List Stamped → Type 0
+BeginsTakeable schedule origin bytes given =
+    (more : List ℕ) → (later : List Stamped) × (given ++ later ≡ takeable schedule origin (framed_at origin (bytes ++ more)))
 
 -- These of the items were looked at: those of their packets that can be taken were given, but for one that is held, and
 -- the report counts them. Behind one that is held none was looked at, and none is left of what was told once the input was
 -- stopped.
-pub record HasLooked {R : Type 0} (remaining : R → Option (List ℕ)) (plan : PlanValue) (origin : OriginValue) (stream : StreamReader R) (held : Option Stamped) (report : Report) (bytes : List ℕ) (given : List Stamped) (looked : List Item) : Type 0 where
+pub record HasLooked {R : Type 0} (remaining : R → Option (List ℕ)) (schedule : ScheduleValue) (origin : OriginValue) (stream : StreamReader R) (held : Option Stamped) (report : Report) (bytes : List ℕ) (given : List Stamped) (looked : List Item) : Type 0 where
   pub passed : HasPassed remaining (stride_at origin) stream bytes report.stopped looked
-  pub given_is : takeable plan origin looked ≡ given ++ option_to_list held
-  pub counts : CountsItems plan origin looked report
-  pub ends : IsSome held → EndsAtTaken plan origin looked
+  pub given_is : takeable schedule origin looked ≡ given ++ option_to_list held
+  pub counts : CountsItems schedule origin looked report
+  pub ends : IsSome held → EndsAtTaken schedule origin looked
   pub over : IsSome report.stopped → stream.items.ahead ≡ []
 
 -- The input has read these bytes of its source and has given these packets, of which none is held.
-abbrev pub HasRead : {R : Type 0} → (R → Option (List ℕ)) → PlanValue → PacketReader R → List ℕ → List Stamped → Type 0
-HasRead remaining plan x bytes given =
-    (looked : List Item) × HasLooked remaining plan x.origin x.stream x.held x.report bytes given looked
+abbrev pub HasRead : {R : Type 0} → (R → Option (List ℕ)) → ScheduleValue → PacketReader R → List ℕ → List Stamped → Type 0
+HasRead remaining schedule x bytes given =
+    (looked : List Item) × HasLooked remaining schedule x.origin x.stream x.held x.report bytes given looked
 
 -- Some bytes more were read of the source, and nothing more was given.
-abbrev pub ReadsOn : {R : Type 0} → (R → Option (List ℕ)) → PlanValue → PacketReader R → PacketReader R → Type 0
-ReadsOn remaining plan old new =
-    (bytes : List ℕ) (given : List Stamped) → HasRead remaining plan old bytes given
-    → (more : List ℕ) × Consumes (remaining old.stream.source) (remaining new.stream.source) more × HasRead remaining plan new (bytes ++ more) given
+abbrev pub ReadsOn : {R : Type 0} → (R → Option (List ℕ)) → ScheduleValue → PacketReader R → PacketReader R → Type 0
+ReadsOn remaining schedule old new =
+    (bytes : List ℕ) (given : List Stamped) → HasRead remaining schedule old bytes given
+    → (more : List ℕ) × Consumes (remaining old.stream.source) (remaining new.stream.source) more × HasRead remaining schedule new (bytes ++ more) given
 
 -- The input's source failed so often before it was read. A failed read is told exactly where it failed once more, and an
 -- input that is still read met none.
@@ -70,16 +70,16 @@ pub record IsSpent {R : Type 0} (x : PacketReader R) : Type 0 where
   pub held : x.held ≡ None
 
 -- An input that ended by itself: all packets that can be taken were given, and the report counts all items.
-pub record IsWhole {R : Type 0} (remaining : R → Option (List ℕ)) (plan : PlanValue) (x : PacketReader R) (bytes : List ℕ) (given : List Stamped) : Type 0 where
-  pub given_is : given ≡ takeable plan x.origin (framed_at x.origin bytes)
-  pub counts : CountsItems plan x.origin (framed_at x.origin bytes) x.report
+pub record IsWhole {R : Type 0} (remaining : R → Option (List ℕ)) (schedule : ScheduleValue) (x : PacketReader R) (bytes : List ℕ) (given : List Stamped) : Type 0 where
+  pub given_is : given ≡ takeable schedule x.origin (framed_at x.origin bytes)
+  pub counts : CountsItems schedule x.origin (framed_at x.origin bytes) x.report
   pub at_end : IsAtEnd (remaining x.stream.source)
 
 -- The report counts what was told of these bytes: items that begin their framing, whatever follows them, with all of their
 -- packets and all other items that they decide.
-pub record CountsTold (plan : PlanValue) (origin : OriginValue) (bytes : List ℕ) (at_end : Type 0) (report : Report) : Type 0 where
+pub record CountsTold (schedule : ScheduleValue) (origin : OriginValue) (bytes : List ℕ) (at_end : Type 0) (report : Report) : Type 0 where
   pub told : List Item
   pub begun : BeginsFramed (stride_at origin) bytes at_end told
   pub packets : packets_of told ≡ packets_of (framed_at origin bytes)
   pub all : AreAllDecided (stride_at origin) bytes told
-  pub counts : CountsItems plan origin told report
+  pub counts : CountsItems schedule origin told report

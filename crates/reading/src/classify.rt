@@ -1,22 +1,23 @@
 //! What an item of an input counts as.
 
-ghost use Rattle.std.specs.Prelude.{◌≡◌, ◌≤◌, None, IfSome, is_some};
+ghost use Rattle.std.specs.Prelude.{◌≡◌, ◌≤◌, None, Some, IfSome, IfNone, is_some};
+ghost use Rattle.schedule.specs.Streams.{scheduled_place};
 ghost use Rattle.tspkt.specs.declared.framer.TheConstants.{MAX_LIMIT};
 ghost use Rattle.tspkt.specs.declared.item.Item.TheVariants.{Packet};
-ghost use Rattle.reading.specs.Takeable.{taken_of, counted_of, number_of};
+ghost use Rattle.reading.specs.Takeable.{stamp_at, taken_of, counted_of, place_of_item};
 ghost use Rattle.reading.specs.Counting.{with_counts};
 ghost use Rattle.reading.specs.Items.{IsPlaced};
 
 use crate::held::Held;
 use crate::origin::Origin;
 use crate::report::Report;
-use plan::Plan;
+use schedule::Schedule;
 use tspkt::Item;
 
-/// Counts an item of an input in its report, and holds the packet that the plan names, with its time. It answers the number of
+/// Counts an item of an input in its report, and holds the packet that its plan names, with its time. It answers the place of
 /// the packet's stream, where there is one.
 pub(crate) fn classify(
-    plan: &Plan,
+    schedule: &Schedule,
     origin: &mut Origin,
     item: &Item,
     held: &mut Held,
@@ -24,15 +25,15 @@ pub(crate) fn classify(
 ) -> Option<usize>
     requires placed { IsPlaced item.now }
     requires held { held.old ≡ None }
-    ensures held { held.new ≡ taken_of plan.now origin.old item.now }
+    ensures held { held.new ≡ taken_of schedule.now origin.old item.now }
     ensures found { is_some result ≡ is_some held.new }
-    ensures number { IfSome held.new (λ taken. result ≡ number_of plan.now origin.old taken.packet) }
+    ensures number { IfSome held.new (λ taken. result ≡ place_of_item schedule.now origin.old taken) }
     ensures origin { origin.new ≡ origin.old }
-    ensures counts { report.new ≡ with_counts report.old (counted_of plan.now origin.old item.now) }
+    ensures counts { report.new ≡ with_counts report.old (counted_of schedule.now origin.old item.now) }
 {
     match item {
         Item::Packet(position, bytes) => {
-            return classify_packet(plan, origin, *position, bytes, held, report);
+            return classify_packet(schedule, origin, *position, bytes, held, report);
         }
         Item::Bad(_) => report.bad = report.bad.saturating_add(1),
         Item::SyncLoss(_) => report.losses = report.losses.saturating_add(1),
@@ -43,7 +44,7 @@ pub(crate) fn classify(
 
 /// The same of a packet at a position of the input, in bytes.
 fn classify_packet(
-    plan: &Plan,
+    schedule: &Schedule,
     origin: &mut Origin,
     position: u64,
     bytes: &[u8; 188],
@@ -52,11 +53,11 @@ fn classify_packet(
 ) -> Option<usize>
     requires placed { position ≤ MAX_LIMIT }
     requires held { held.old ≡ None }
-    ensures held { held.new ≡ taken_of plan.now origin.old (Packet position bytes.now) }
+    ensures held { held.new ≡ taken_of schedule.now origin.old (Packet position bytes.now) }
     ensures found { is_some result ≡ is_some held.new }
-    ensures number { IfSome held.new (λ taken. result ≡ number_of plan.now origin.old taken.packet) }
+    ensures number { IfSome held.new (λ taken. result ≡ place_of_item schedule.now origin.old taken) }
     ensures origin { origin.new ≡ origin.old }
-    ensures counts { report.new ≡ with_counts report.old (counted_of plan.now origin.old (Packet position bytes.now)) }
+    ensures counts { report.new ≡ with_counts report.old (counted_of schedule.now origin.old (Packet position bytes.now)) }
 {
     report.framed = report.framed.saturating_add(1);
     // A packet that isn't taken is told by its header alone, and not copied.
@@ -64,18 +65,34 @@ fn classify_packet(
         report.malformed = report.malformed.saturating_add(1);
         return None;
     }
-    let Some(mapped) = plan.lookup(origin.number(), tspkt::Packet::pid_in(bytes)) else {
+    let pid = tspkt::Packet::pid_in(bytes);
+    let Some((place, stamp)) = find_at(schedule, origin, position, pid) else {
         report.unmapped = report.unmapped.saturating_add(1);
         return None;
     };
-    held.hold(bytes, origin.stamp(position));
-    Some(mapped.number)
+    held.hold(bytes, stamp);
+    Some(place)
 }
 
-/// The number of the stream that the plan maps a packet's PID of an input to; none where it names no such stream.
-pub(crate) fn stream_of(plan: &Plan, origin: &Origin, packet: &tspkt::Packet) -> Option<usize>
-    ensures { result ≡ number_of plan.now origin.now packet.now }
+/// The place of the stream that a packet with this PID at a position is of, where there is one, and when the packet comes. With one plan
+/// its time isn't asked for, and is worked out only where there is one.
+fn find_at(
+    schedule: &Schedule,
+    origin: &mut Origin,
+    position: u64,
+    pid: u16,
+) -> Option<(usize, u64)>
+    requires { position ≤ MAX_LIMIT }
+    ensures some { IfSome result (λ found. (found.1 ≡ stamp_at origin.old position)
+        × (scheduled_place schedule.now origin.old.number pid (stamp_at origin.old position) ≡ Some found.0)) }
+    ensures none { IfNone result (scheduled_place schedule.now origin.old.number pid (stamp_at origin.old position) ≡ None) }
+    ensures origin { origin.new ≡ origin.old }
 {
-    let stream = plan.lookup(origin.number(), packet.pid())?;
-    Some(stream.number)
+    if schedule.later_plans() == 0 {
+        let place = schedule.find(origin.number(), pid, 0)?;
+        return Some((place, origin.stamp(position)));
+    }
+    let stamp = origin.stamp(position);
+    let place = schedule.find(origin.number(), pid, stamp)?;
+    Some((place, stamp))
 }

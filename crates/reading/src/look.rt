@@ -3,7 +3,7 @@
 /// What a look among the items that were told found.
 #[derive(Clone, Copy, Debug, PartialEq, Eq)]
 pub enum Look {
-    /// A packet that the plan names: it is held. The number is that of its stream in the plan.
+    /// A packet that its plan names: it is held. The number is the place of its stream in the schedule.
     Packet(usize),
     /// None: more has to be read.
     More,

@@ -1,6 +1,6 @@
-//! The packets of an input that a plan names, each with its time.
+//! The packets of an input that the plans of a schedule name, each with its time.
 
-use crate::classify::{classify, stream_of};
+use crate::classify::classify;
 use crate::held::Held;
 use crate::look::Look;
 use crate::origin::Origin;
@@ -8,8 +8,8 @@ use crate::report::Report;
 use crate::source::Source;
 use crate::stop::Stop;
 use crate::stream_reader::StreamReader;
-use plan::Plan;
 use request::Input;
+use schedule::Schedule;
 use std::alloc::{AllocError, Global};
 use tspkt::Stamped;
 
@@ -29,15 +29,15 @@ impl<R: Source> PacketReader<R> {
     ghost use Rattle.tspkt.specs.declared.framer.TheConstants.{MAX_LIMIT};
     ghost use Rattle.tspkt.specs.declared.stamped.Stamped.{Stamped as GivenPacket};
     ghost use Rattle.request.specs.Request.{IsInput, input_value};
-    ghost use Rattle.plan.specs.Build.{PlanValue};
+    ghost use Rattle.schedule.specs.Schedule.{ScheduleValue};
     ghost use Rattle.reading.specs.Failures.{FailsOnce};
     ghost use Rattle.reading.specs.Counting.{nothing_counted};
-    ghost use Rattle.reading.specs.Takeable.{origin_of, number_of, stream_number};
+    ghost use Rattle.reading.specs.Takeable.{origin_of, place_of_item, stream_number};
     ghost use Rattle.reading.specs.Items.{given_up, left_to_read};
     ghost use Rattle.std.specs.Io.KnownBytes.{IsAtEnd};
     ghost use Rattle.reading.specs.PacketReading.{HasRead, ReadsOn, GoesOn, TellsFailures, WantsMore, IsSpent, BeginsTakeable, IsWhole, CountsTold};
 
-    /// The input with this number in the plan, of which nothing was read, and of which at most so many bytes may come: up to
+    /// The input with this number in the plans, of which nothing was read, and of which at most so many bytes may come: up to
     /// 140,737,488,355,328.
     pub fn new(
         alloc: Global,
@@ -48,7 +48,7 @@ impl<R: Source> PacketReader<R> {
     ) -> PacketReader<R>
         requires input { IsInput (input_value input.now) }
         requires limit { limit ≤ MAX_LIMIT }
-        ensures read { (plan : PlanValue) → HasRead R.remaining plan result [] [] }
+        ensures read { (schedule : ScheduleValue) → HasRead R.remaining schedule result [] [] }
         ensures origin { result.origin ≡ origin_of number (input_value input.now) }
         ensures source { result.stream.source ≡ source }
         ensures limit { result.stream.items.limit ≡ limit }
@@ -63,16 +63,20 @@ impl<R: Source> PacketReader<R> {
         }
     }
 
-    /// Finds the next packet that the plan names, with its time, holds it, and answers the number of its stream, as `look`
+    /// Finds the next packet that its plan names, with its time, holds it, and answers the place of its stream, as `look`
     /// does; `None` is answered where the input has no more. It reads pieces of at most the length of `piece` until there is
     /// one, and nothing where one is held. An `Err` is want of memory, for an input that was still read, and ends it.
-    pub fn find(&mut self, plan: &Plan, piece: &mut [u8]) -> Result<Option<usize>, AllocError>
+    pub fn find(
+        &mut self,
+        schedule: &Schedule,
+        piece: &mut [u8],
+    ) -> Result<Option<usize>, AllocError>
         requires { 0 < length piece.old }
-        ensures read { ReadsOn R.remaining plan.now self.old self.new }
+        ensures read { ReadsOn R.remaining schedule.now self.old self.new }
         ensures goes { GoesOn R.failures self.old self.new }
         ensures found { (number : ℕ) → result ≡ Ok (Some number) → IsSome self.new.held }
         ensures number { (number : ℕ) → result ≡ Ok (Some number)
-            → IfSome self.new.held (λ item. number ≡ stream_number plan.now self.new.origin item.packet) }
+            → IfSome self.new.held (λ item. number ≡ stream_number schedule.now self.new.origin item) }
         ensures done { result ≡ Ok None → IsSpent self.new }
         ensures stays { IsSome self.old.held → self.new ≡ self.old }
         ensures memory { OnErr result (self.new.report.stopped ≡ Some Stop.Memory) }
@@ -85,7 +89,7 @@ impl<R: Source> PacketReader<R> {
             ⊎ FailsOnce (R.failures self.old.stream.source) (R.failures self.new.stream.source) }
     {
         loop {
-            match self.look(plan) {
+            match self.look(schedule) {
                 Look::Packet(number) => return Ok(Some(number)),
                 Look::Over => return Ok(None),
                 Look::More => self.read(piece)?,
@@ -93,16 +97,17 @@ impl<R: Source> PacketReader<R> {
         }
     }
 
-    /// Looks for the next packet that the plan names among what was read, and holds it. It reads nothing, and looks at nothing
-    /// where a packet is held. The number that is answered is that of the stream which the plan maps the packet's PID of this
-    /// input to. For a packet that is held, and that only another plan named, it is how many streams this plan has.
-    pub fn look(&mut self, plan: &Plan) -> Look
-        ensures read { (bytes : List ℕ) (given : List GivenPacket) → HasRead R.remaining plan.now self.old bytes given
-            → HasRead R.remaining plan.now self.new bytes given }
+    /// Looks for the next packet, among what was read, that the plan names which it belongs to by its time, and holds it. It reads
+    /// nothing, and looks at nothing where a packet is held. The number that is answered is the place in the schedule of the stream which
+    /// that plan maps the packet's PID of this input to. For a packet that is held, and that only another schedule named, it is how many
+    /// streams this one has.
+    pub fn look(&mut self, schedule: &Schedule) -> Look
+        ensures read { (bytes : List ℕ) (given : List GivenPacket) → HasRead R.remaining schedule.now self.old bytes given
+            → HasRead R.remaining schedule.now self.new bytes given }
         ensures goes { GoesOn R.failures self.old self.new }
         ensures found { (number : ℕ) → result ≡ Look.Packet number → IsSome self.new.held }
         ensures number { (number : ℕ) → result ≡ Look.Packet number
-            → IfSome self.new.held (λ item. number ≡ stream_number plan.now self.new.origin item.packet) }
+            → IfSome self.new.held (λ item. number ≡ stream_number schedule.now self.new.origin item) }
         ensures more { result ≡ Look.More → WantsMore self.new }
         ensures over { result ≡ Look.Over → IsSpent self.new }
         ensures stays { IsSome self.old.held → self.new ≡ self.old }
@@ -111,10 +116,10 @@ impl<R: Source> PacketReader<R> {
         ensures left { left_to_read self.new.stream.items ≡ left_to_read self.old.stream.items }
     {
         if let Some(item) = self.held.as_ref() {
-            let number = stream_of(plan, &self.origin, &item.packet);
-            return Look::Packet(number.unwrap_or(plan.streams().len()));
+            let place = schedule.find(self.origin.number(), item.packet.pid(), item.stamp);
+            return Look::Packet(place.unwrap_or(schedule.streams().len()));
         }
-        if let Some(number) = self.find_told(plan) {
+        if let Some(number) = self.find_told(schedule) {
             Look::Packet(number)
         } else if self.stream.is_over() {
             Look::Over
@@ -123,14 +128,14 @@ impl<R: Source> PacketReader<R> {
         }
     }
 
-    /// Holds the next packet that the plan names of the items that were told, if there is one, and answers the number of its
+    /// Holds the next packet that its plan names of the items that were told, if there is one, and answers the place of its
     /// stream.
-    fn find_told(&mut self, plan: &Plan) -> Option<usize>
+    fn find_told(&mut self, schedule: &Schedule) -> Option<usize>
         requires { self.old.held ≡ None }
-        ensures read { (bytes : List ℕ) (given : List GivenPacket) → HasRead R.remaining plan.now self.old bytes given
-            → HasRead R.remaining plan.now self.new bytes given }
+        ensures read { (bytes : List ℕ) (given : List GivenPacket) → HasRead R.remaining schedule.now self.old bytes given
+            → HasRead R.remaining schedule.now self.new bytes given }
         ensures found { is_some result ≡ is_some self.new.held }
-        ensures number { IfSome self.new.held (λ item. result ≡ number_of plan.now self.new.origin item.packet) }
+        ensures number { IfSome self.new.held (λ item. result ≡ place_of_item schedule.now self.new.origin item) }
         ensures none { result ≡ None → self.new.stream.items.ahead ≡ [] }
         ensures origin { self.new.origin ≡ self.old.origin }
         ensures source { self.new.stream.source ≡ self.old.stream.source }
@@ -140,7 +145,7 @@ impl<R: Source> PacketReader<R> {
     {
         while let Some(item) = self.stream.peek() {
             let number = classify(
-                plan,
+                schedule,
                 &mut self.origin,
                 item,
                 &mut self.held,
@@ -160,7 +165,7 @@ impl<R: Source> PacketReader<R> {
     pub fn read(&mut self, piece: &mut [u8]) -> Result<(), AllocError>
         requires piece { 0 < length piece.old }
         requires more { WantsMore self.old }
-        ensures read { (plan : PlanValue) → ReadsOn R.remaining plan self.old self.new }
+        ensures read { (schedule : ScheduleValue) → ReadsOn R.remaining schedule self.old self.new }
         ensures goes { GoesOn R.failures self.old self.new }
         ensures smaller { left_to_read self.new.stream.items < left_to_read self.old.stream.items }
         ensures memory { OnErr result (self.new.report.stopped ≡ Some Stop.Memory) }
@@ -191,9 +196,9 @@ impl<R: Source> PacketReader<R> {
 
     /// Gives the packet that it holds.
     pub fn release(&mut self)
-        ensures read { (plan : PlanValue) (bytes : List ℕ) (given : List GivenPacket)
-            → HasRead R.remaining plan self.old bytes given
-            → HasRead R.remaining plan self.new bytes (given ++ option_to_list self.old.held) }
+        ensures read { (schedule : ScheduleValue) (bytes : List ℕ) (given : List GivenPacket)
+            → HasRead R.remaining schedule self.old bytes given
+            → HasRead R.remaining schedule self.new bytes (given ++ option_to_list self.old.held) }
         ensures stays { self.new ≡ record self.old { held = None } }
     {
         self.held.clear();
@@ -201,9 +206,9 @@ impl<R: Source> PacketReader<R> {
 
     /// Leaves the input, since the run ends before it, unless it was left for another cause.
     pub fn leave(&mut self)
-        ensures read { (plan : PlanValue) (bytes : List ℕ) (given : List GivenPacket)
-            → HasRead R.remaining plan self.old bytes given
-            → HasRead R.remaining plan self.new bytes given }
+        ensures read { (schedule : ScheduleValue) (bytes : List ℕ) (given : List GivenPacket)
+            → HasRead R.remaining schedule self.old bytes given
+            → HasRead R.remaining schedule self.new bytes given }
         ensures gate { self.old.report.stopped ≡ None
             → self.new.report ≡ record self.old.report { stopped = Some Stop.Gate } }
         ensures stopped { IsSome self.old.report.stopped → self.new ≡ self.old }
@@ -220,21 +225,21 @@ impl<R: Source> PacketReader<R> {
     /// it. The input is told as too long exactly where it is.
     pub fn report(&self) -> Report
         ensures value { result ≡ self.now.report }
-        ensures begins { (plan : PlanValue) (bytes : List ℕ) (given : List GivenPacket)
-            → HasRead R.remaining plan self.now bytes given
-            → BeginsTakeable plan self.now.origin bytes given }
-        ensures whole { (plan : PlanValue) (bytes : List ℕ) (given : List GivenPacket)
-            → HasRead R.remaining plan self.now bytes given → IsSpent self.now
-            → result.stopped ≡ None → IsWhole R.remaining plan self.now bytes given }
-        ensures too_much { (plan : PlanValue) (bytes : List ℕ) (given : List GivenPacket)
-            → HasRead R.remaining plan self.now bytes given
+        ensures begins { (schedule : ScheduleValue) (bytes : List ℕ) (given : List GivenPacket)
+            → HasRead R.remaining schedule self.now bytes given
+            → BeginsTakeable schedule self.now.origin bytes given }
+        ensures whole { (schedule : ScheduleValue) (bytes : List ℕ) (given : List GivenPacket)
+            → HasRead R.remaining schedule self.now bytes given → IsSpent self.now
+            → result.stopped ≡ None → IsWhole R.remaining schedule self.now bytes given }
+        ensures too_much { (schedule : ScheduleValue) (bytes : List ℕ) (given : List GivenPacket)
+            → HasRead R.remaining schedule self.now bytes given
             → result.stopped ≡ Some Stop.TooMuch → self.now.stream.items.limit < length bytes }
-        ensures within { (plan : PlanValue) (bytes : List ℕ) (given : List GivenPacket)
-            → HasRead R.remaining plan self.now bytes given
+        ensures within { (schedule : ScheduleValue) (bytes : List ℕ) (given : List GivenPacket)
+            → HasRead R.remaining schedule self.now bytes given
             → (result.stopped ≡ Some Stop.TooMuch → ⊥) → length bytes ≤ self.now.stream.items.limit }
-        ensures told { (plan : PlanValue) (bytes : List ℕ) (given : List GivenPacket)
-            → HasRead R.remaining plan self.now bytes given → result.stopped ≡ Some Stop.ReadFailed
-            → CountsTold plan self.now.origin bytes (IsAtEnd (R.remaining self.now.stream.source)) result }
+        ensures told { (schedule : ScheduleValue) (bytes : List ℕ) (given : List GivenPacket)
+            → HasRead R.remaining schedule self.now bytes given → result.stopped ≡ Some Stop.ReadFailed
+            → CountsTold schedule self.now.origin bytes (IsAtEnd (R.remaining self.now.stream.source)) result }
     {
         self.report
     }

@@ -9,9 +9,9 @@ use Rattle.std.proofs.lemmas.List.{append-nil, append_cancel_right}
 use Rattle.std.proofs.lemmas.Option.{none-some, same_Some, slice_get-get_or, slice_get_within, slice_get_cases}
 use Rattle.tspkt.specs.Framed.{packets_of}
 use Rattle.tspkt.specs.declared.stamped.Stamped.{Stamped}
-use Rattle.plan.specs.Build.{PlanValue}
+use Rattle.schedule.specs.Schedule.{ScheduleValue}
 use Rattle.mux.specs.declared.event.Event.{Event}
-use Rattle.mux.specs.declared.event.Event.TheVariants.{Took, Full, Close, Slot}
+use Rattle.mux.specs.declared.event.Event.TheVariants.{Took, Full, Early, Close, Slot, Switch}
 use Rattle.mux.specs.History.{History, with_event, taken, is_closed}
 use Rattle.mux.specs.Faithful.{PacketLists, IsFaithful, IsPrefix}
 use Rattle.reading.specs.Takeable.{stride_at, framed_at, takeable, origin_of}
@@ -40,7 +40,7 @@ may_give_open x given packets opened begins = record { begins = begins; over = �
 -- the packet that the input holds is taken, or its queue is full
 pub order_given : {R : Type 0} (i : ℕ) (before after : History) (old x y : SerialInput R) (item : Stamped)
     → IsGivenOrHeld before after i x y item → x.reader.held ≡ Some item → (IsSome old.reader.held → old.reader.held ≡ Some item) → old.is_closed ≡ false
-    → KeepsOrder i before.events after.events old y
+    → KeepsOrder before.run.schedule i before.events after.events old y
 order_given {R} i before after old x y item (inl is) held same opened lists may =
     let h = before.events in
     let events : after.events ≡ Took i item ∷ h = ap (λ (v : History). v.events) is.0 in
@@ -49,20 +49,31 @@ order_given {R} i before after old x y item (inl is) held same opened lists may 
     let begins = subst Q is.1 (subst P events may.begins) in
     let now : taken i (Took i item ∷ h) ≡ taken i h ++ item ∷ [] = ap (λ b. if b then taken i h ++ item ∷ [] else taken i h) (eq-eqb i i refl) in
     let list : lists i ≡ (taken i h ++ item ∷ []) ++ begins.0 = begins.1 ∙ ap (λ v. v ++ begins.0) (append-nil (taken i (Took i item ∷ h)) ∙ now) in
-    let F : List Event → Type 0 = IsFaithful lists in (
+    let F : List Event → Type 0 = IsFaithful before.run.schedule lists in (
       may_give_open old (taken i h) (lists i) opened (front (taken i h) item (lists i) begins.0 list old.reader.held same),
       λ faithful. subst F (sym events) (faithful, (begins.0, list ∙ append_assoc (taken i h) (item ∷ []) begins.0)),
     )
-order_given {R} i before after old x y item (inr is) held same opened lists may =
+order_given {R} i before after old x y item (inr (inl is)) held same opened lists may =
     let h = before.events in
     let events : after.events ≡ Full i is.0 ∷ h = ap (λ (v : History). v.events) is.1 in
     let P : List Event → Type 0 = λ v. IsPrefix (taken i v ++ option_to_list y.reader.held) (lists i) in
     let Q : SerialInput R → Type 0 = λ v. IsPrefix (taken i h ++ option_to_list v.reader.held) (lists i) in
     let O : Option Stamped → Type 0 = λ v. IsPrefix (taken i h ++ option_to_list v) (lists i) in
     let begins = subst O held (subst Q is.2 (subst P events may.begins)) in
-    let F : List Event → Type 0 = IsFaithful lists in (
+    let F : List Event → Type 0 = IsFaithful before.run.schedule lists in (
       may_give_open old (taken i h) (lists i) opened (front (taken i h) item (lists i) begins.0 begins.1 old.reader.held same),
       λ faithful. subst F (sym events) (faithful, (item, (begins.0, begins.1 ∙ append_assoc (taken i h) (item ∷ []) begins.0), is.3)),
+    )
+order_given {R} i before after old x y item (inr (inr is)) held same opened lists may =
+    let h = before.events in
+    let events : after.events ≡ Early i ∷ h = ap (λ (v : History). v.events) is.0 in
+    let P : List Event → Type 0 = λ v. IsPrefix (taken i v ++ option_to_list y.reader.held) (lists i) in
+    let Q : SerialInput R → Type 0 = λ v. IsPrefix (taken i h ++ option_to_list v.reader.held) (lists i) in
+    let O : Option Stamped → Type 0 = λ v. IsPrefix (taken i h ++ option_to_list v) (lists i) in
+    let begins = subst O held (subst Q is.1 (subst P events may.begins)) in
+    let F : List Event → Type 0 = IsFaithful before.run.schedule lists in (
+      may_give_open old (taken i h) (lists i) opened (front (taken i h) item (lists i) begins.0 begins.1 old.reader.held same),
+      λ faithful. subst F (sym events) (faithful, (item, (begins.0, begins.1 ∙ append_assoc (taken i h) (item ∷ []) begins.0), is.2)),
     )
 
 closed_front : (given : List Stamped) (list : List Stamped) → list ≡ given → (o : Option Stamped) → (IsSome o → o ≡ None) → IsPrefix (given ++ option_to_list o) list
@@ -71,12 +82,12 @@ closed_front given list e (Some j) same = absurd (none-some j (sym (same refl)))
 
 -- nothing is left of the input, and it is closed
 pub order_closed : {R : Type 0} (i : ℕ) (before after : History) (old x y : SerialInput R) → after ≡ with_event before (Close i) → y ≡ record x { is_closed = true }
-    → (IsSome old.reader.held → old.reader.held ≡ None) → old.is_closed ≡ false → KeepsOrder i before.events after.events old y
+    → (IsSome old.reader.held → old.reader.held ≡ None) → old.is_closed ≡ false → KeepsOrder before.run.schedule i before.events after.events old y
 order_closed {R} i before after old x y is closed none opened lists may =
     let h = before.events in
     let events : after.events ≡ Close i ∷ h = ap (λ (v : History). v.events) is in
     let list : lists i ≡ taken i h = may.over (ap (λ (v : SerialInput R). v.is_closed) closed) ∙ ap (taken i) events in
-    let F : List Event → Type 0 = IsFaithful lists in (
+    let F : List Event → Type 0 = IsFaithful before.run.schedule lists in (
       may_give_open old (taken i h) (lists i) opened (closed_front (taken i h) (lists i) list old.reader.held none),
       λ faithful. subst F (sym events) (faithful, list),
     )
@@ -87,11 +98,11 @@ refused_front given list now begins None same =
 refused_front given list now begins (Some j) same = (begins.0, begins.1 ∙ ap (λ v. (given ++ option_to_list v) ++ begins.0) (sym (same refl)))
 
 -- nothing was taken for want of memory
-pub order_refused : {R : Type 0} (i : ℕ) (before after : List Event) (old y : SerialInput R) → after ≡ before → (IsSome old.reader.held → old.reader.held ≡ y.reader.held) → old.is_closed ≡ false
-    → KeepsOrder i before after old y
-order_refused i before after old y is same opened lists may =
+pub order_refused : {R : Type 0} (schedule : ScheduleValue) (i : ℕ) (before after : List Event) (old y : SerialInput R) → after ≡ before → (IsSome old.reader.held → old.reader.held ≡ y.reader.held) → old.is_closed ≡ false
+    → KeepsOrder schedule i before after old y
+order_refused schedule i before after old y is same opened lists may =
     let P : List Event → Type 0 = λ v. IsPrefix (taken i v ++ option_to_list y.reader.held) (lists i) in
-    let F : List Event → Type 0 = IsFaithful lists in
+    let F : List Event → Type 0 = IsFaithful schedule lists in
     (may_give_open old (taken i before) (lists i) opened (refused_front (taken i before) (lists i) y.reader.held (subst P is may.begins) old.reader.held same), λ faithful. subst F (sym is) faithful)
 
 -- A turn among all inputs.
@@ -102,9 +113,9 @@ pub taken_still : {T E : Type 0} (r : Result T E) (i : ℕ) (old new : History) 
 taken_still (Ok v) i old new event err j ne = ap (λ (v : History). taken j v.events) event.1 ∙ taken_other i j event.0 old.events event.2 ne
 taken_still (Err e) i old new event err j ne = ap (λ (v : History). taken j v.events) err
 
-pub keep_order : {R : Type 0} (inputs : List (SerialInput R)) (i : ℕ) (x y : SerialInput R) (old new : List Event) → x ≡ get_or inputs i x → i < length inputs
-    → KeepsOrder i old new x y → ((j : ℕ) → (i ≡ j → ⊥) → taken j new ≡ taken j old) → KeepOrder old new inputs (set inputs i y)
-keep_order {R} inputs i x y old new at within one others lists all =
+pub keep_order : {R : Type 0} (schedule : ScheduleValue) (inputs : List (SerialInput R)) (i : ℕ) (x y : SerialInput R) (old new : List Event) → x ≡ get_or inputs i x → i < length inputs
+    → KeepsOrder schedule i old new x y → ((j : ℕ) → (i ≡ j → ⊥) → taken j new ≡ taken j old) → KeepOrder schedule old new inputs (set inputs i y)
+keep_order {R} schedule inputs i x y old new at within one others lists all =
     let mine = one lists (all i y (set_here inputs i y within)) in (
       λ j z there.
           elim (cases_eq i j) [
@@ -124,7 +135,7 @@ keep_order {R} inputs i x y old new at within one others lists all =
 -- What an input gave of a source whose bytes are known.
 
 -- what it gave, and what it holds, begins what can be taken
-held_front : {R : Type 0} (remaining : R → Option (List ℕ)) (p : PlanValue) (i : ℕ) (all : List ℕ) (rest : Option (List ℕ)) (x : SerialInput R) (given : List Stamped)
+held_front : {R : Type 0} (remaining : R → Option (List ℕ)) (p : ScheduleValue) (i : ℕ) (all : List ℕ) (rest : Option (List ℕ)) (x : SerialInput R) (given : List Stamped)
     → rest ≡ remaining x.reader.stream.source → (g : HasGiven remaining p i (Some all) x given) → IsPrefix (given ++ option_to_list x.reader.held) (takeable p x.reader.origin (framed_at x.reader.origin all))
 held_front remaining p i all None x given e g =
     let b = g.read in
@@ -142,7 +153,7 @@ consumed_all all None bytes used end = absurd used
 consumed_all all (Some more) bytes used end = sym (used ∙ ap (λ v. bytes ++ v) end ∙ append-nil bytes)
 
 -- what was given of an input that ended by itself is all
-all_given : {R : Type 0} (remaining : R → Option (List ℕ)) (p : PlanValue) (i : ℕ) (all : List ℕ) (x : SerialInput R) (given : List Stamped)
+all_given : {R : Type 0} (remaining : R → Option (List ℕ)) (p : ScheduleValue) (i : ℕ) (all : List ℕ) (x : SerialInput R) (given : List Stamped)
     → IsSpent x.reader → x.reader.report.stopped ≡ None → HasGiven remaining p i (Some all) x given → given ≡ takeable p x.reader.origin (framed_at x.reader.origin all)
 all_given remaining p i all x given done goes has =
     let b = has.read in
@@ -150,7 +161,7 @@ all_given remaining p i all x given done goes has =
     whole.given_is ∙ ap (λ v. takeable p x.reader.origin (framed_at x.reader.origin v)) (consumed_all all (remaining x.reader.stream.source) b.0 b.1 whole.at_end)
 
 -- where a read failed, what was given and is held is what can be taken of the bytes before
-failed_given : {R : Type 0} (remaining : R → Option (List ℕ)) (p : PlanValue) (x : PacketReader R) (bytes : List ℕ) (given : List Stamped) → HasRead remaining p x bytes given → x.report.stopped ≡ Some ReadFailed
+failed_given : {R : Type 0} (remaining : R → Option (List ℕ)) (p : ScheduleValue) (x : PacketReader R) (bytes : List ℕ) (given : List Stamped) → HasRead remaining p x bytes given → x.report.stopped ≡ Some ReadFailed
     → given ++ option_to_list x.held ≡ takeable p x.origin (framed_at x.origin bytes)
 failed_given remaining p x bytes given has failed =
     let items = x.stream.items in
@@ -171,7 +182,7 @@ pub record IsToldStop (told : Option (Option Stop)) (stopped : Option Stop) : Ty
   pub too_much : stopped ≡ Some TooMuch → told ≡ Some (Some TooMuch)
   pub was_failed : told ≡ Some (Some ReadFailed) → stopped ≡ Some ReadFailed
 
-pub record HasEndedHere {R : Type 0} (remaining : R → Option (List ℕ)) (p : PlanValue) (h : List Event) (starts lefts : List (Option (List ℕ))) (stops : List (Option Stop)) (i : ℕ) (x : SerialInput R) : Type 0 where
+pub record HasEndedHere {R : Type 0} (remaining : R → Option (List ℕ)) (p : ScheduleValue) (h : List Event) (starts lefts : List (Option (List ℕ))) (stops : List (Option Stop)) (i : ℕ) (x : SerialInput R) : Type 0 where
   pub start : Option (List ℕ)
   pub from : slice_get starts i ≡ Some start
   pub fed : HasFed remaining p h i start x
@@ -195,13 +206,13 @@ abbrev given_list : {R : Type 0} → List Stamped → List Stamped → Option (S
 given_list all given None = all
 given_list all given (Some x) = given_of all given x x.reader.report.stopped
 
-cut_may_give : {R : Type 0} (remaining : R → Option (List ℕ)) (p : PlanValue) (h : List Event) (i : ℕ) (all : List ℕ) (x : SerialInput R) → HasFed remaining p h i (Some all) x → MayGive x (taken i h) (taken i h ++ option_to_list x.reader.held)
+cut_may_give : {R : Type 0} (remaining : R → Option (List ℕ)) (p : ScheduleValue) (h : List Event) (i : ℕ) (all : List ℕ) (x : SerialInput R) → HasFed remaining p h i (Some all) x → MayGive x (taken i h) (taken i h ++ option_to_list x.reader.held)
 cut_may_give remaining p h i all x fed = record {
   begins = ([], sym (append-nil (taken i h ++ option_to_list x.reader.held)));
   over = λ closed. ap (λ v. taken i h ++ option_to_list v) (fed.over closed).held ∙ append-nil (taken i h);
 }
 
-one_may_give : {R : Type 0} (remaining : R → Option (List ℕ)) (p : PlanValue) (h : List Event) (i : ℕ) (all : List ℕ) (list : List Stamped) (x : SerialInput R) (s : Option Stop)
+one_may_give : {R : Type 0} (remaining : R → Option (List ℕ)) (p : ScheduleValue) (h : List Event) (i : ℕ) (all : List ℕ) (list : List Stamped) (x : SerialInput R) (s : Option Stop)
     → x.reader.report.stopped ≡ s → HasFed remaining p h i (Some all) x → (s ≡ Some Gate → ⊥) → (s ≡ Some Memory → is_closed i h ≡ false) → list ≡ takeable p x.reader.origin (framed_at x.reader.origin all)
     → MayGive x (taken i h) (given_of list (taken i h) x s)
 one_may_give remaining p h i all list x None is fed unleft refused list_is =
@@ -220,7 +231,7 @@ one_may_give remaining p h i all list x (Some Memory) is fed unleft refused list
       over = λ closed. absurd (false≢true (sym (refused refl) ∙ sym fed.closed ∙ closed));
     }
 
-begins_all : {R : Type 0} (remaining : R → Option (List ℕ)) (p : PlanValue) (h : List Event) (i : ℕ) (all : List ℕ) (list : List Stamped) (x : SerialInput R) (b : Bool)
+begins_all : {R : Type 0} (remaining : R → Option (List ℕ)) (p : ScheduleValue) (h : List Event) (i : ℕ) (all : List ℕ) (list : List Stamped) (x : SerialInput R) (b : Bool)
     → HasFed remaining p h i (Some all) x → list ≡ takeable p x.reader.origin (framed_at x.reader.origin all) → IsPrefix (if b then taken i h ++ option_to_list x.reader.held else list) list
 begins_all remaining p h i all list x true fed list_is =
     let begins = held_front remaining p i all (remaining x.reader.stream.source) x (taken i h) refl fed.given in
@@ -239,7 +250,7 @@ known : (start : Option (List ℕ)) → IsSome start → (all : List ℕ) × (st
 known None h = let bad : false ≡ true = h in cc
 known (Some all) h = (all, refl)
 
-list_is : {R : Type 0} (remaining : R → Option (List ℕ)) (p : PlanValue) (h : List Event) (starts : List (Option (List ℕ))) (i : ℕ) (x : SerialInput R) (all : List ℕ)
+list_is : {R : Type 0} (remaining : R → Option (List ℕ)) (p : ScheduleValue) (h : List Event) (starts : List (Option (List ℕ))) (i : ℕ) (x : SerialInput R) (all : List ℕ)
     → slice_get starts i ≡ Some (Some all) → HasFed remaining p h i (Some all) x → packet_lists p starts i ≡ takeable p x.reader.origin (framed_at x.reader.origin all)
 list_is remaining p h starts i x all at fed =
     let o = fed.given.origin in
@@ -249,10 +260,10 @@ list_is remaining p h starts i x all at fed =
 
 -- The lists of all inputs.
 
-abbrev lists_of : {R : Type 0} → PlanValue → List Event → List (Option (List ℕ)) → List (SerialInput R) → PacketLists
+abbrev lists_of : {R : Type 0} → ScheduleValue → List Event → List (Option (List ℕ)) → List (SerialInput R) → PacketLists
 lists_of p h starts inputs i = given_list (packet_lists p starts i) (taken i h) (slice_get inputs i)
 
-all_may_give : {R : Type 0} (remaining : R → Option (List ℕ)) (p : PlanValue) (h : List Event) (starts lefts : List (Option (List ℕ))) (stops : List (Option Stop)) (inputs : List (SerialInput R))
+all_may_give : {R : Type 0} (remaining : R → Option (List ℕ)) (p : ScheduleValue) (h : List Event) (starts lefts : List (Option (List ℕ))) (stops : List (Option Stop)) (inputs : List (SerialInput R))
     → ((i : ℕ) (x : SerialInput R) → slice_get inputs i ≡ Some x → HasEndedHere remaining p h starts lefts stops i x) → AreKnown starts → MayBeGiven h inputs (lists_of p h starts inputs)
 all_may_give {R} remaining p h starts lefts stops inputs each are i x at =
     let e = each i x at in
@@ -263,7 +274,7 @@ all_may_give {R} remaining p h starts lefts stops inputs each are i x at =
     let M : Option (SerialInput R) → Type 0 = λ v. MayGive x (taken i h) (given_list (packet_lists p starts i) (taken i h) v) in
     subst M (sym at) (one_may_give remaining p h i all.0 (packet_lists p starts i) x x.reader.report.stopped refl fed e.unleft e.refused list)
 
-one_gives : {R : Type 0} (remaining : R → Option (List ℕ)) (p : PlanValue) (h : List Event) (starts lefts : List (Option (List ℕ))) (stops : List (Option Stop)) (i : ℕ) (x : SerialInput R)
+one_gives : {R : Type 0} (remaining : R → Option (List ℕ)) (p : ScheduleValue) (h : List Event) (starts lefts : List (Option (List ℕ))) (stops : List (Option Stop)) (i : ℕ) (x : SerialInput R)
     → HasEndedHere remaining p h starts lefts stops i x → AreKnown starts → Gives p starts lefts stops i (given_of (packet_lists p starts i) (taken i h) x x.reader.report.stopped)
 one_gives {R} remaining p h starts lefts stops i x e are =
     let all = known e.start (are i e.start e.from) in
@@ -288,17 +299,17 @@ one_gives {R} remaining p h starts lefts stops i x e are =
       begins = begins_all remaining p h i all.0 (packet_lists p starts i) x (is_cut x.reader.report.stopped) fed list;
     }
 
--- an input that the plan doesn't have gives nothing
-none_gives : (p : PlanValue) (starts lefts : List (Option (List ℕ))) (stops : List (Option Stop)) (i : ℕ) → length p.request.inputs ≤ i → Gives p starts lefts stops i (packet_lists p starts i)
+-- an input that the schedule doesn't have gives nothing
+none_gives : (p : ScheduleValue) (starts lefts : List (Option (List ℕ))) (stops : List (Option Stop)) (i : ℕ) → length p.first.request.inputs ≤ i → Gives p starts lefts stops i (packet_lists p starts i)
 none_gives p starts lefts stops i past = record {
   whole = λ unfailed fits. refl;
-  failed = λ told input start left bytes named from to used. absurd (omega (arith, past, slice_get_within p.request.inputs i input named));
+  failed = λ told input start left bytes named from to used. absurd (omega (arith, past, slice_get_within p.first.request.inputs i input named));
   begins = ([], sym (append-nil (packet_lists p starts i)));
 }
 
-pub takes_what_is_given : {R : Type 0} (remaining : R → Option (List ℕ)) (p : PlanValue) (h : List Event) (starts lefts : List (Option (List ℕ))) (stops : List (Option Stop)) (inputs : List (SerialInput R))
-    → length inputs ≡ length p.request.inputs → ((i : ℕ) (x : SerialInput R) → slice_get inputs i ≡ Some x → HasEndedHere remaining p h starts lefts stops i x)
-    → AreKnown starts → TakesInOrder h inputs → TakesWhatIsGiven p starts lefts stops h
+pub takes_what_is_given : {R : Type 0} (remaining : R → Option (List ℕ)) (p : ScheduleValue) (h : List Event) (starts lefts : List (Option (List ℕ))) (stops : List (Option Stop)) (inputs : List (SerialInput R))
+    → length inputs ≡ length p.first.request.inputs → ((i : ℕ) (x : SerialInput R) → slice_get inputs i ≡ Some x → HasEndedHere remaining p h starts lefts stops i x)
+    → AreKnown starts → TakesInOrder p h inputs → TakesWhatIsGiven p starts lefts stops h
 takes_what_is_given {R} remaining p h starts lefts stops inputs count each are order = (
   lists_of p h starts inputs,
   λ i.
@@ -311,9 +322,11 @@ takes_what_is_given {R} remaining p h starts lefts stops inputs count each are o
 )
 
 -- a history that is faithful to lists is so to lists with the same packets
-pub faithful_same : (xs ys : PacketLists) → ((i : ℕ) → xs i ≡ ys i) → (h : List Event) → IsFaithful xs h → IsFaithful ys h
-faithful_same xs ys same [] is = tt
-faithful_same xs ys same (Took i item ∷ h) is = (faithful_same xs ys same h is.0, (is.1.0, sym (same i) ∙ is.1.1))
-faithful_same xs ys same (Full i st ∷ h) is = (faithful_same xs ys same h is.0, (is.1.0, (is.1.1.0, sym (same i) ∙ is.1.1.1), is.1.2))
-faithful_same xs ys same (Close i ∷ h) is = (faithful_same xs ys same h is.0, sym (same i) ∙ is.1)
-faithful_same xs ys same (Slot c ∷ h) is = faithful_same xs ys same h is
+pub faithful_same : (schedule : ScheduleValue) (xs ys : PacketLists) → ((i : ℕ) → xs i ≡ ys i) → (h : List Event) → IsFaithful schedule xs h → IsFaithful schedule ys h
+faithful_same schedule xs ys same [] is = tt
+faithful_same schedule xs ys same (Took i item ∷ h) is = (faithful_same schedule xs ys same h is.0, (is.1.0, sym (same i) ∙ is.1.1))
+faithful_same schedule xs ys same (Full i st ∷ h) is = (faithful_same schedule xs ys same h is.0, (is.1.0, (is.1.1.0, sym (same i) ∙ is.1.1.1), is.1.2))
+faithful_same schedule xs ys same (Early i ∷ h) is = (faithful_same schedule xs ys same h is.0, (is.1.0, (is.1.1.0, sym (same i) ∙ is.1.1.1), is.1.2))
+faithful_same schedule xs ys same (Close i ∷ h) is = (faithful_same schedule xs ys same h is.0, sym (same i) ∙ is.1)
+faithful_same schedule xs ys same (Slot c ∷ h) is = faithful_same schedule xs ys same h is
+faithful_same schedule xs ys same (Switch number ∷ h) is = faithful_same schedule xs ys same h is

@@ -4,7 +4,7 @@ use Rattle.std.specs.List.{slice_get}
 use Rattle.std.proofs.lemmas.Bool.{cases_eq}
 use Rattle.std.proofs.lemmas.List.{length-set}
 use Rattle.std.proofs.lemmas.Option.{same_Some, slice_get-get_or}
-use Rattle.plan.specs.Build.{PlanValue}
+use Rattle.schedule.specs.Schedule.{ScheduleValue}
 use Rattle.mux.specs.declared.event.Event.{Event}
 use Rattle.mux.specs.History.{taken}
 use Rattle.mux.specs.Lawful.{is_ready}
@@ -22,7 +22,7 @@ use Rattle.serial.specs.Running.{AreFed, IsRunning, IsHalted, AreHalted}
 use Rattle.serial.proofs.RunningLaws.{set_here, set_there}
 use Rattle.serial.proofs.OutcomeLaws.{some_read}
 
-halted_one : {R : Type 0} (remaining : R → Option (List ℕ)) (limit : ℕ) (p : PlanValue) (h : List Event) (i : ℕ) (start : Option (List ℕ)) (x : SerialInput R)
+halted_one : {R : Type 0} (remaining : R → Option (List ℕ)) (limit : ℕ) (p : ScheduleValue) (h : List Event) (i : ℕ) (start : Option (List ℕ)) (x : SerialInput R)
     → Feeds remaining p h i start x → x.reader.stream.items.limit ≡ limit → IsHalted limit p h i start x.reader.report.stopped
 halted_one remaining limit p h i start x f size = record {
   unleft = f.own.unleft;
@@ -34,12 +34,12 @@ halted_one remaining limit p h i start x f size = record {
       omega (arith, much, some, size);
 }
 
-has_fed : {R : Type 0} (remaining : R → Option (List ℕ)) (p : PlanValue) (h : List Event) (i : ℕ) (start : Option (List ℕ)) (x : SerialInput R) → Feeds remaining p h i start x → HasFed remaining p h i start x
+has_fed : {R : Type 0} (remaining : R → Option (List ℕ)) (p : ScheduleValue) (h : List Event) (i : ℕ) (start : Option (List ℕ)) (x : SerialInput R) → Feeds remaining p h i start x → HasFed remaining p h i start x
 has_fed remaining p h i start x f = record { given = f.given; closed = f.closed; over = f.over }
 
 -- inputs that go on
-pub halted_fed : {R : Type 0} (remaining : R → Option (List ℕ)) (limit : InputLimit) (p : PlanValue) (h : List Event) (starts : List (Option (List ℕ))) (inputs : List (SerialInput R))
-    → AreFed remaining p h starts inputs → AreLimited limit p inputs → TakesInOrder h inputs → AreHalted remaining limit p h starts inputs
+pub halted_fed : {R : Type 0} (remaining : R → Option (List ℕ)) (limit : InputLimit) (p : ScheduleValue) (h : List Event) (starts : List (Option (List ℕ))) (inputs : List (SerialInput R))
+    → AreFed remaining p h starts inputs → AreLimited limit p inputs → TakesInOrder p h inputs → AreHalted remaining limit p h starts inputs
 halted_fed remaining limit p h starts inputs fed limited order = record {
   count = fed.count;
   each = λ i input start x named from at.
@@ -51,7 +51,7 @@ halted_fed remaining limit p h starts inputs fed limited order = record {
   in_order = order;
 }
 
-halted_there : {R : Type 0} (limit : ℕ) (p : PlanValue) (h : List Event) (i : ℕ) (start : Option (List ℕ)) (x y : SerialInput R) → is_ready p i h ≡ false
+halted_there : {R : Type 0} (limit : ℕ) (p : ScheduleValue) (h : List Event) (i : ℕ) (start : Option (List ℕ)) (x y : SerialInput R) → is_ready p i h ≡ false
     → ((y.reader.report.stopped ≡ Some Memory) ⊎ (y.reader.report.stopped ≡ x.reader.report.stopped)) → IsHalted limit p h i start x.reader.report.stopped
     → IsHalted limit p h i start y.reader.report.stopped
 halted_there limit p h i start x y waits (inl memory) own = record {
@@ -62,9 +62,9 @@ halted_there limit p h i start x y waits (inl memory) own = record {
 halted_there limit p h i start x y waits (inr same) own = (let P : Option Stop → Type 0 = IsHalted limit p h i start in subst P (sym same) own)
 
 -- an input was looked at, and memory was refused for it, or nothing but its own fault stopped it
-pub halted_looked : {R : Type 0} (remaining : R → Option (List ℕ)) (limit : InputLimit) (p : PlanValue) (h : List Event) (i : ℕ) (starts : List (Option (List ℕ))) (inputs : List (SerialInput R)) (x y : SerialInput R)
+pub halted_looked : {R : Type 0} (remaining : R → Option (List ℕ)) (limit : InputLimit) (p : ScheduleValue) (h : List Event) (i : ℕ) (starts : List (Option (List ℕ))) (inputs : List (SerialInput R)) (x y : SerialInput R)
     → x ≡ get_or inputs i x → i < length inputs → is_ready p i h ≡ false → ((y.reader.report.stopped ≡ Some Memory) ⊎ (y.reader.report.stopped ≡ x.reader.report.stopped)) → AreFed remaining p h starts inputs → AreLimited limit p inputs
-    → ((start : Option (List ℕ)) → Feeds remaining p h i start x → HasFed remaining p h i start y) → KeepOrder h h inputs (set inputs i y) → TakesInOrder h inputs
+    → ((start : Option (List ℕ)) → Feeds remaining p h i start x → HasFed remaining p h i start y) → KeepOrder p h h inputs (set inputs i y) → TakesInOrder p h inputs
     → AreHalted remaining limit p h starts (set inputs i y)
 halted_looked {R} remaining limit p h i starts inputs x y at within waits stop fed limited given keeps order =
     let before = halted_fed remaining limit p h starts inputs fed limited order in
@@ -78,7 +78,7 @@ halted_looked {R} remaining limit p h i starts inputs x y at within waits stop f
                 let f = fed.each i x here in
                 let most = limit_of_input limit input.format in
                 let start_is : f.0 ≡ start = same_Some f.0 start (sym f.1 ∙ ap (slice_get starts) same ∙ from) in
-                let own : IsHalted most p h i f.0 x.reader.report.stopped = halted_one remaining most p h i f.0 x f.2 (limited i input x (ap (slice_get p.request.inputs) same ∙ named) here) in
+                let own : IsHalted most p h i f.0 x.reader.report.stopped = halted_one remaining most p h i f.0 x f.2 (limited i input x (ap (slice_get p.first.request.inputs) same ∙ named) here) in
                 let H : (Option (List ℕ) × SerialInput R × ℕ) → Type 0 = λ v. IsHalted most p h v.2 v.0 v.1.reader.report.stopped in
                 subst H (λ k. (start_is k, new k, same k)) (halted_there most p h i f.0 x y waits stop own))
             | inr ne ↦ before.each j input start z named from (sym (set_there inputs i j y ne) ∙ there)
@@ -98,8 +98,8 @@ halted_looked {R} remaining limit p h i starts inputs x y at within waits stop f
 
 -- a run that goes on
 pub halted_running : {R : Type 0} (remaining : R → Option (List ℕ)) (run : Run) (limit : InputLimit) (starts : List (Option (List ℕ))) (r : SerialRun R)
-    → IsRunning remaining run limit starts r → AreHalted remaining limit run.plan r.mux.events starts r.inputs.items
-halted_running remaining run limit starts r is = halted_fed remaining limit run.plan r.mux.events starts r.inputs.items is.fed is.limited is.in_order
+    → IsRunning remaining run limit starts r → AreHalted remaining limit run.schedule r.mux.events starts r.inputs.items
+halted_running remaining run limit starts r is = halted_fed remaining limit run.schedule r.mux.events starts r.inputs.items is.fed is.limited is.in_order
 
 -- for no input of it memory was refused
 pub unrefused_running : {R : Type 0} (remaining : R → Option (List ℕ)) (run : Run) (limit : InputLimit) (starts : List (Option (List ℕ))) (r : SerialRun R)
@@ -107,7 +107,7 @@ pub unrefused_running : {R : Type 0} (remaining : R → Option (List ℕ)) (run 
 unrefused_running remaining run limit starts r is i x at = (is.fed.each i x at).2.own.unrefused
 
 -- nor is it for an input that was looked at, where nothing stopped it then
-pub unrefused_looked : {R : Type 0} (remaining : R → Option (List ℕ)) (p : PlanValue) (h : List Event) (i : ℕ) (starts : List (Option (List ℕ))) (inputs : List (SerialInput R)) (x y : SerialInput R)
+pub unrefused_looked : {R : Type 0} (remaining : R → Option (List ℕ)) (p : ScheduleValue) (h : List Event) (i : ℕ) (starts : List (Option (List ℕ))) (inputs : List (SerialInput R)) (x y : SerialInput R)
     → x ≡ get_or inputs i x → i < length inputs → y.reader.report.stopped ≡ x.reader.report.stopped → AreFed remaining p h starts inputs → AreUnrefused (set inputs i y)
 unrefused_looked {R} remaining p h i starts inputs x y at within same_stop fed j z there memory =
     elim (cases_eq i j) [
@@ -119,13 +119,13 @@ unrefused_looked {R} remaining p h i starts inputs x y at within same_stop fed j
     ]
 
 -- input i goes on with its limit
-pub all_limited : {R : Type 0} (limit : InputLimit) (p : PlanValue) (inputs : List (SerialInput R)) (i : ℕ) (x y : SerialInput R) → x ≡ get_or inputs i x → i < length inputs
+pub all_limited : {R : Type 0} (limit : InputLimit) (p : ScheduleValue) (inputs : List (SerialInput R)) (i : ℕ) (x y : SerialInput R) → x ≡ get_or inputs i x → i < length inputs
     → y.reader.stream.items.limit ≡ x.reader.stream.items.limit → AreLimited limit p inputs → AreLimited limit p (set inputs i y)
 all_limited limit p inputs i x y at within size all j input z named there =
     elim (cases_eq i j) [
       | inl same ↦
           (let here : slice_get inputs i ≡ Some x = slice_get-get_or inputs i x within ∙ ap Some (sym at) in
           let new : y ≡ z = same_Some y z (sym (set_here inputs i y within) ∙ ap (slice_get (set inputs i y)) same ∙ there) in
-          ap (λ (v : SerialInput _). v.reader.stream.items.limit) (sym new) ∙ size ∙ all i input x (ap (slice_get p.request.inputs) same ∙ named) here)
+          ap (λ (v : SerialInput _). v.reader.stream.items.limit) (sym new) ∙ size ∙ all i input x (ap (slice_get p.first.request.inputs) same ∙ named) here)
       | inr ne ↦ all j input z named (sym (set_there inputs i j y ne) ∙ there)
     ]

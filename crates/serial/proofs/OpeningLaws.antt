@@ -8,7 +8,7 @@ use Rattle.std.specs.Io.KnownBytes.{Consumes}
 use Rattle.std.proofs.KnownBytes.{Consumes-nil}
 use Rattle.request.specs.Request.{InputValue, IsInput, input_value}
 use Rattle.request.specs.declared.input.Input.{Input}
-use Rattle.plan.specs.Build.{PlanValue}
+use Rattle.schedule.specs.Schedule.{ScheduleValue}
 use Rattle.reading.specs.Counting.{nothing_counted}
 use Rattle.reading.specs.Takeable.{stride_at, origin_of}
 use Rattle.reading.specs.InputLimit.{limit_of_input}
@@ -42,7 +42,7 @@ from_map f [] i y at = cc
 from_map f (x ∷ xs) zero y at = (x, refl, same_Some (f x) y at)
 from_map f (x ∷ xs) (suc i) y at = from_map f xs i y at
 
-pub opened_push : {R : Type 0} (remaining : R → Option (List ℕ)) (failures : R → ℕ) (limit : InputLimit) (p : PlanValue) (readers : List R) (inputs : List (SerialInput R)) (reader : R) (x : SerialInput R)
+pub opened_push : {R : Type 0} (remaining : R → Option (List ℕ)) (failures : R → ℕ) (limit : InputLimit) (p : ScheduleValue) (readers : List R) (inputs : List (SerialInput R)) (reader : R) (x : SerialInput R)
     → AreOpened remaining failures limit p readers inputs → IsOpened remaining failures limit p (length inputs) reader x
     → AreOpened remaining failures limit p (readers ++ reader ∷ []) (inputs ++ x ∷ [])
 opened_push {R} remaining failures limit p readers inputs reader x are is = record {
@@ -64,7 +64,7 @@ opened_push {R} remaining failures limit p readers inputs reader x are is = reco
       ];
 }
 
-pub fed_of_opened : {R : Type 0} (remaining : R → Option (List ℕ)) (failures : R → ℕ) (limit : InputLimit) (p : PlanValue) (readers : List R) (inputs : List (SerialInput R)) → length readers ≡ length p.request.inputs
+pub fed_of_opened : {R : Type 0} (remaining : R → Option (List ℕ)) (failures : R → ℕ) (limit : InputLimit) (p : ScheduleValue) (readers : List R) (inputs : List (SerialInput R)) → length readers ≡ length p.first.request.inputs
     → AreOpened remaining failures limit p readers inputs → AreFed remaining p [] (map remaining readers) inputs
 fed_of_opened remaining failures limit p readers inputs count are = record {
   count = are.count ∙ count;
@@ -75,14 +75,14 @@ fed_of_opened remaining failures limit p readers inputs count are = record {
       ];
 }
 
-pub told_of_opened : {R : Type 0} (remaining : R → Option (List ℕ)) (failures : R → ℕ) (limit : InputLimit) (p : PlanValue) (readers : List R) (inputs : List (SerialInput R))
+pub told_of_opened : {R : Type 0} (remaining : R → Option (List ℕ)) (failures : R → ℕ) (limit : InputLimit) (p : ScheduleValue) (readers : List R) (inputs : List (SerialInput R))
     → AreOpened remaining failures limit p readers inputs → AllTellFailures failures (map failures readers) inputs
 told_of_opened remaining failures limit p readers inputs are i x before at from =
     let r = from_map failures readers i before from in
     let P : ℕ → Type 0 = λ n. TellsFailures failures n x.reader in
     subst P r.2 ((are.each i r.0 x r.1 at).told)
 
-pub limited_of_opened : {R : Type 0} (remaining : R → Option (List ℕ)) (failures : R → ℕ) (limit : InputLimit) (p : PlanValue) (readers : List R) (inputs : List (SerialInput R))
+pub limited_of_opened : {R : Type 0} (remaining : R → Option (List ℕ)) (failures : R → ℕ) (limit : InputLimit) (p : ScheduleValue) (readers : List R) (inputs : List (SerialInput R))
     → AreOpened remaining failures limit p readers inputs → AreLimited limit p inputs
 limited_of_opened remaining failures limit p readers inputs are i input x named at =
     elim (slice_get_cases readers i).1 [
@@ -90,9 +90,9 @@ limited_of_opened remaining failures limit p readers inputs are i input x named 
       | inr past ↦ absurd (omega (arith, slice_get_within inputs i x at, past.0, are.count))
     ]
 
--- an input of a plan, as its number and its parts give it
-pub input_at : (p : PlanValue) (inputs : List Input) (i : ℕ) (x : Input) → map input_value inputs ≡ p.request.inputs → slice_get inputs i ≡ Some x
-    → slice_get p.request.inputs i ≡ Some (input_value x)
+-- an input of a schedule, as its number and its parts give it
+pub input_at : (p : ScheduleValue) (inputs : List Input) (i : ℕ) (x : Input) → map input_value inputs ≡ p.first.request.inputs → slice_get inputs i ≡ Some x
+    → slice_get p.first.request.inputs i ≡ Some (input_value x)
 input_at p inputs i x same at =
     let P : List InputValue → Type 0 = λ v. slice_get v i ≡ Some (input_value x) in
     subst P same (slice_get-map input_value inputs i ∙ ap (option_map input_value) at)
@@ -106,13 +106,13 @@ unfolding framed_from
 framed_none stride = refl
 
 -- of an input of which nothing was read nothing was looked at
-nothing_looked : {R : Type 0} (remaining : R → Option (List ℕ)) (p : PlanValue) (x : PacketReader R) (h : HasRead remaining p x [] []) → h.0 ≡ []
+nothing_looked : {R : Type 0} (remaining : R → Option (List ℕ)) (p : ScheduleValue) (x : PacketReader R) (h : HasRead remaining p x [] []) → h.0 ≡ []
 nothing_looked remaining p x h =
     let b = looked_framed remaining p x [] [] h [] (λ end. refl) in
     append_none h.0 b.0 (b.1 ∙ framed_none (stride_at x.origin))
 
-pub opened_input : {R : Type 0} (remaining : R → Option (List ℕ)) (failures : R → ℕ) (limit : InputLimit) (p : PlanValue) (i : ℕ) (input : InputValue) (reader : R) (x : SerialInput R)
-    → slice_get p.request.inputs i ≡ Some input → IsInput input → x.reader.origin ≡ origin_of i input → limit_of_input limit input.format ≤ MAX_LIMIT → x.reader.stream.items.limit ≡ limit_of_input limit input.format → x.reader.stream.source ≡ reader
+pub opened_input : {R : Type 0} (remaining : R → Option (List ℕ)) (failures : R → ℕ) (limit : InputLimit) (p : ScheduleValue) (i : ℕ) (input : InputValue) (reader : R) (x : SerialInput R)
+    → slice_get p.first.request.inputs i ≡ Some input → IsInput input → x.reader.origin ≡ origin_of i input → limit_of_input limit input.format ≤ MAX_LIMIT → x.reader.stream.items.limit ≡ limit_of_input limit input.format → x.reader.stream.source ≡ reader
     → x.reader.report ≡ nothing_counted → x.is_closed ≡ false → HasRead remaining p x.reader [] [] → TellsFailures failures (failures reader) x.reader → IsOpened remaining failures limit p i reader x
 opened_input {R} remaining failures limit p i input reader x at is origin most size source report opened read tells =
     let C : R → Type 0 = λ v. Consumes (remaining reader) (remaining v) [] in
@@ -133,20 +133,20 @@ opened_input {R} remaining failures limit p i input reader x at is origin most s
     }
 
 -- a run of which nothing was read or sent
-pub runs_opened : {R : Type 0} (remaining : R → Option (List ℕ)) (failures : R → ℕ) (limit : InputLimit) (p : PlanValue) (slots : ℕ) (readers : List R) (r : SerialRun R)
-    → r.mux ≡ opened p slots → length readers ≡ length p.request.inputs → AreOpened remaining failures limit p readers r.inputs.items → 0 < length r.piece.items
-    → HasAnalysed r.output p.request.rate p.request.watch [] → IsRunning remaining (record { plan = p; limit = slots }) limit (map remaining readers) r
+pub runs_opened : {R : Type 0} (remaining : R → Option (List ℕ)) (failures : R → ℕ) (limit : InputLimit) (p : ScheduleValue) (slots : ℕ) (readers : List R) (r : SerialRun R)
+    → r.mux ≡ opened p slots → length readers ≡ length p.first.request.inputs → AreOpened remaining failures limit p readers r.inputs.items → 0 < length r.piece.items
+    → HasAnalysed r.output p.first.request.rate p.first.request.watch [] → IsRunning remaining (record { schedule = p; limit = slots }) limit (map remaining readers) r
 runs_opened remaining failures limit p slots readers r mux count are piece analysed =
     let none : [] ≡ r.mux.events = sym (ap (λ (v : History). v.events) mux) in
     let F : List Event → Type 0 = λ h. AreFed remaining p h (map remaining readers) r.inputs.items in
-    let G : List Event → Type 0 = λ h. TakesInOrder h r.inputs.items in
-    let H : List Event → Type 0 = λ h. HasAnalysed r.output p.request.rate p.request.watch (emitted p h) in
+    let G : List Event → Type 0 = λ h. TakesInOrder p h r.inputs.items in
+    let H : List Event → Type 0 = λ h. HasAnalysed r.output p.first.request.rate p.first.request.watch (emitted p h) in
     record {
       run_is = ap (λ (v : History). v.run) mux;
       fed = subst F none (fed_of_opened remaining failures limit p readers r.inputs.items count are);
       limited = limited_of_opened remaining failures limit p readers r.inputs.items are;
       piece = piece;
       in_order = subst G none (λ lists may. tt);
-      needed = subst (TakesAsNeeded (record { plan = p; limit = slots })) none tt;
+      needed = subst (TakesAsNeeded (record { schedule = p; limit = slots })) none tt;
       analysed = subst H none analysed;
     }

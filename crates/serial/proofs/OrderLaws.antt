@@ -16,7 +16,7 @@ use Rattle.tspkt.specs.PacketFormat.{stride_of}
 use Rattle.tspkt.specs.declared.packet_format.PacketFormat.{PacketFormat}
 use Rattle.tspkt.specs.declared.packet_format.PacketFormat.TheVariants.{Ts188, Ts204}
 use Rattle.tspkt.specs.declared.stamped.Stamped.{Stamped}
-use Rattle.plan.specs.Build.{PlanValue}
+use Rattle.schedule.specs.Schedule.{ScheduleValue}
 use Rattle.reading.specs.Takeable.{OriginValue, stride_at, framed_at, takeable, stamp_at, is_well_formed, is_named}
 use Rattle.serial.specs.Order.{ComeFrom, PacketsComeInOrder, PacketsAreFew}
 
@@ -80,26 +80,26 @@ since : (s t : ℕ) (items : List Stamped) → s ≤ t → ComeFrom t items → 
 since s t [] l c = tt
 since s t (item ∷ items) l c = (omega (arith, l, c.0), c.1)
 
-come : (plan : PlanValue) (origin : OriginValue) (n : ℕ) (items : List Item) → 0 < origin.rate → StandFrom n items → ComeFrom (stamp_at origin n) (takeable plan origin items)
-come plan origin n [] r s = tt
-come plan origin n (Packet place bytes ∷ items) r s =
-    let rest = come plan origin (place + 1) items r s.1 in
+come : (schedule : ScheduleValue) (origin : OriginValue) (n : ℕ) (items : List Item) → 0 < origin.rate → StandFrom n items → ComeFrom (stamp_at origin n) (takeable schedule origin items)
+come schedule origin n [] r s = tt
+come schedule origin n (Packet place bytes ∷ items) r s =
+    let rest = come schedule origin (place + 1) items r s.1 in
     let here = stamp_grows origin n place r s.0 in
     let next = stamp_grows origin place (place + 1) r (omega arith) in
-    let skipped : ComeFrom (stamp_at origin n) (takeable plan origin items) = since _ _ _ (omega (arith, here, next)) rest in
+    let skipped : ComeFrom (stamp_at origin n) (takeable schedule origin items) = since _ _ _ (omega (arith, here, next)) rest in
     elim (cases_Bool (is_well_formed bytes)) [
-      | inl e ↦ elim (cases_Bool (is_named plan origin bytes)) [
+      | inl e ↦ elim (cases_Bool (is_named schedule origin place bytes)) [
         | inl f ↦ rw e (rw f (here, since _ _ _ next rest))
         | inr f ↦ rw e (rw f skipped)
       ]
       | inr e ↦ rw e skipped
     ]
-come plan origin n (Bad place ∷ items) r s = come plan origin n items r s
-come plan origin n (SyncLoss place ∷ items) r s = come plan origin n items r s
-come plan origin n (Lost count ∷ items) r s = come plan origin n items r s
+come schedule origin n (Bad place ∷ items) r s = come schedule origin n items r s
+come schedule origin n (SyncLoss place ∷ items) r s = come schedule origin n items r s
+come schedule origin n (Lost count ∷ items) r s = come schedule origin n items r s
 
 pub come_in_order : PacketsComeInOrder
-come_in_order plan origin bytes r = since 0 _ _ (omega arith) (come plan origin 0 (framed_at origin bytes) r (stand (stride_at origin) (Hunting 0) 0 bytes))
+come_in_order schedule origin bytes r = since 0 _ _ (omega arith) (come schedule origin 0 (framed_at origin bytes) r (stand (stride_at origin) (Hunting 0) 0 bytes))
 
 -- An input has at most so many packets.
 
@@ -107,19 +107,19 @@ come_in_order plan origin bytes r = since 0 _ _ (omega arith) (come plan origin 
 one_more : (stride count weight : ℕ) → stride * count ≤ weight → stride * suc count ≤ stride + weight
 one_more stride count weight few = omega (arith, few, mul-suc stride count)
 
-weigh : (plan : PlanValue) (origin : OriginValue) (stride : ℕ) (items : List Item) → stride * length (takeable plan origin items) ≤ sum_by (covered stride) items
-weigh plan origin stride [] = omega arith
-weigh plan origin stride (Packet place bytes ∷ items) =
-    let rest = weigh plan origin stride items in
+weigh : (schedule : ScheduleValue) (origin : OriginValue) (stride : ℕ) (items : List Item) → stride * length (takeable schedule origin items) ≤ sum_by (covered stride) items
+weigh schedule origin stride [] = omega arith
+weigh schedule origin stride (Packet place bytes ∷ items) =
+    let rest = weigh schedule origin stride items in
     let sum = sum_by-cons (covered stride) (Packet place bytes) items in
-    let more = one_more stride (length (takeable plan origin items)) (sum_by (covered stride) items) rest in
+    let more = one_more stride (length (takeable schedule origin items)) (sum_by (covered stride) items) rest in
     elim (cases_Bool (is_well_formed bytes)) [
-      | inl e ↦ elim (cases_Bool (is_named plan origin bytes)) [ inl f ↦ rw (e, f) (omega (arith, more, sum)) | inr f ↦ rw (e, f) (omega (arith, rest, sum)) ]
+      | inl e ↦ elim (cases_Bool (is_named schedule origin place bytes)) [ inl f ↦ rw (e, f) (omega (arith, more, sum)) | inr f ↦ rw (e, f) (omega (arith, rest, sum)) ]
       | inr e ↦ rw e (omega (arith, rest, sum))
     ]
-weigh plan origin stride (Bad place ∷ items) = let rest = weigh plan origin stride items in omega (arith, rest, sum_by-cons (covered stride) (Bad place) items)
-weigh plan origin stride (SyncLoss place ∷ items) = let rest = weigh plan origin stride items in omega (arith, rest, sum_by-cons (covered stride) (SyncLoss place) items)
-weigh plan origin stride (Lost count ∷ items) = let rest = weigh plan origin stride items in omega (arith, rest, sum_by-cons (covered stride) (Lost count) items)
+weigh schedule origin stride (Bad place ∷ items) = let rest = weigh schedule origin stride items in omega (arith, rest, sum_by-cons (covered stride) (Bad place) items)
+weigh schedule origin stride (SyncLoss place ∷ items) = let rest = weigh schedule origin stride items in omega (arith, rest, sum_by-cons (covered stride) (SyncLoss place) items)
+weigh schedule origin stride (Lost count ∷ items) = let rest = weigh schedule origin stride items in omega (arith, rest, sum_by-cons (covered stride) (Lost count) items)
 
 -- a packet has room between one and the next
 long_enough : (format : PacketFormat) → 188 ≤ stride_of format
@@ -127,9 +127,9 @@ long_enough Ts188 = omega arith
 long_enough Ts204 = omega arith
 
 pub are_few : PacketsAreFew
-are_few plan origin bytes =
+are_few schedule origin bytes =
     let stride = stride_at origin in
-    let weight = weigh plan origin stride (framed_at origin bytes) in
+    let weight = weigh schedule origin stride (framed_at origin bytes) in
     let covers = covered-framed stride bytes (long_enough origin.format) in
     omega (arith, weight, covers.no_more)
 
@@ -138,5 +138,5 @@ fewer_than : (format : PacketFormat) (count size : ℕ) → stride_of format * c
 fewer_than Ts188 count size few = omega (arith, few)
 fewer_than Ts204 count size few = omega (arith, few)
 
-pub fewer_than_bytes : (plan : PlanValue) (origin : OriginValue) (bytes : List ℕ) → length (takeable plan origin (framed_at origin bytes)) ≤ length bytes
-fewer_than_bytes plan origin bytes = fewer_than origin.format (length (takeable plan origin (framed_at origin bytes))) (length bytes) (are_few plan origin bytes)
+pub fewer_than_bytes : (schedule : ScheduleValue) (origin : OriginValue) (bytes : List ℕ) → length (takeable schedule origin (framed_at origin bytes)) ≤ length bytes
+fewer_than_bytes schedule origin bytes = fewer_than origin.format (length (takeable schedule origin (framed_at origin bytes))) (length bytes) (are_few schedule origin bytes)

@@ -12,12 +12,13 @@ use Rattle.tspkt.specs.Framed.{framed}
 use Rattle.tspkt.specs.declared.item.Item.{Item}
 use Rattle.request.specs.declared.stream.Stream.{Stream}
 use Rattle.request.specs.Request.{InputValue}
-use Rattle.plan.specs.Build.{PlanValue}
+use Rattle.schedule.specs.Schedule.{ScheduleValue}
+use Rattle.schedule.specs.Streams.{all_streams}
 use Rattle.mux.specs.declared.event.Event.{Event}
 use Rattle.mux.specs.History.{Run, taken, is_closed, slots, emitted}
 use Rattle.mux.specs.Lawful.{is_ready}
 use Rattle.std.proofs.KnownBytes.{Appends-nil, Consumes-nil}
-use Rattle.mux.specs.Plans.{IsMultiplexPlan}
+use Rattle.mux.specs.Plans.{IsMultiplexSchedule}
 use Rattle.mux.specs.Faithful.{IsFinished}
 use Rattle.mux.specs.Totals.{IsTotals, IsCounts}
 use Rattle.mux.specs.declared.peak.Peak.{Peak}
@@ -59,7 +60,7 @@ use Rattle.serial.proofs.OpeningLaws.{push_cases, from_map}
 
 -- ---- the reports
 
-pub reported_push : {R : Type 0} (p : PlanValue) (h : List Event) (inputs : List (SerialInput R)) (summaries : List InputSummary) (sources : List R) (x : SerialInput R) (s : InputSummary) (source : R)
+pub reported_push : {R : Type 0} (p : ScheduleValue) (h : List Event) (inputs : List (SerialInput R)) (summaries : List InputSummary) (sources : List R) (x : SerialInput R) (s : InputSummary) (source : R)
     → AreReported p h inputs summaries sources → source ≡ x.reader.stream.source → IsTotals p (length summaries) h s.totals → IsLast x s.report
     → AreReported p h (inputs ++ x ∷ []) (summaries ++ s ∷ []) (sources ++ source ∷ [])
 reported_push {R} p h inputs summaries sources x s source are same totals last = record {
@@ -90,12 +91,12 @@ reported_push {R} p h inputs summaries sources x s source are same totals last =
 }
 
 -- the peaks of the first so many streams
-pub record ArePeaksOfFirst (p : PlanValue) (h : List Event) (count : ℕ) (peaks : List Peak) : Type 0 where
+pub record ArePeaksOfFirst (p : ScheduleValue) (h : List Event) (count : ℕ) (peaks : List Peak) : Type 0 where
   pub length_is : length peaks ≡ count
-  pub each : (k : ℕ) (st : Stream) (x : Peak) → slice_get p.request.streams k ≡ Some st → slice_get peaks k ≡ Some x → IsPeak p h st x
+  pub each : (k : ℕ) (st : Stream) (x : Peak) → slice_get (all_streams p) k ≡ Some st → slice_get peaks k ≡ Some x → IsPeak p h st x
 
-pub peaks_push : (p : PlanValue) (h : List Event) (count : ℕ) (peaks : List Peak) (x : Peak) → ArePeaksOfFirst p h count peaks
-    → ((st : Stream) → slice_get p.request.streams count ≡ Some st → IsPeak p h st x) → ArePeaksOfFirst p h (count + 1) (peaks ++ x ∷ [])
+pub peaks_push : (p : ScheduleValue) (h : List Event) (count : ℕ) (peaks : List Peak) (x : Peak) → ArePeaksOfFirst p h count peaks
+    → ((st : Stream) → slice_get (all_streams p) count ≡ Some st → IsPeak p h st x) → ArePeaksOfFirst p h (count + 1) (peaks ++ x ∷ [])
 peaks_push p h count peaks x are next = record {
   length_is = omega (arith, are.length_is, length-append peaks (x ∷ []));
   each = λ k st y at aty.
@@ -104,7 +105,7 @@ peaks_push p h count peaks x are next = record {
         | inr end ↦
             (let P : Peak → Type 0 = IsPeak p h st in
             let here : k ≡ count = end.0 ∙ are.length_is in
-            subst P (sym end.1) (next st (ap (slice_get p.request.streams) (sym here) ∙ at)))
+            subst P (sym end.1) (next st (ap (slice_get (all_streams p)) (sym here) ∙ at)))
       ];
 }
 
@@ -149,15 +150,15 @@ some_read (Some first) None bytes all e used = absurd used
 some_read (Some first) (Some more) bytes all e used =
     omega (arith, ap length (sym (same_Some first all e) ∙ used), length-append bytes more)
 
--- the origin of an input that is fed is that of the plan's input
-origin_same : {R : Type 0} (remaining : R → Option (List ℕ)) (p : PlanValue) (h : List Event) (i : ℕ) (input : InputValue) (start : Option (List ℕ)) (x : SerialInput R)
-    → slice_get p.request.inputs i ≡ Some input → Feeds remaining p h i start x → x.reader.origin ≡ origin_of i input
+-- the origin of an input that is fed is that of the schedule's input
+origin_same : {R : Type 0} (remaining : R → Option (List ℕ)) (p : ScheduleValue) (h : List Event) (i : ℕ) (input : InputValue) (start : Option (List ℕ)) (x : SerialInput R)
+    → slice_get p.first.request.inputs i ≡ Some input → Feeds remaining p h i start x → x.reader.origin ≡ origin_of i input
 origin_same remaining p h i input start x at f =
     let o = f.given.origin in
     o.3 ∙ ap (origin_of i) (same_Some o.0 input (sym o.1 ∙ at))
 
-pub ended : {R : Type 0} (remaining : R → Option (List ℕ)) (limit : ℕ) (p : PlanValue) (h : List Event) (i : ℕ) (input : InputValue) (start : Option (List ℕ)) (x : SerialInput R) (s : InputSummary) (all : List ℕ)
-    → slice_get p.request.inputs i ≡ Some input → Feeds remaining p h i start x → x.reader.stream.items.limit ≡ limit → x.is_closed ≡ true → s.report ≡ x.reader.report → s.report.stopped ≡ None → start ≡ Some all
+pub ended : {R : Type 0} (remaining : R → Option (List ℕ)) (limit : ℕ) (p : ScheduleValue) (h : List Event) (i : ℕ) (input : InputValue) (start : Option (List ℕ)) (x : SerialInput R) (s : InputSummary) (all : List ℕ)
+    → slice_get p.first.request.inputs i ≡ Some input → Feeds remaining p h i start x → x.reader.stream.items.limit ≡ limit → x.is_closed ≡ true → s.report ≡ x.reader.report → s.report.stopped ≡ None → start ≡ Some all
     → HasEnded limit p h i input all s
 ended remaining limit p h i input start x s all at f size closed same unstopped known =
     let origin = origin_same remaining p h i input start x at f in
@@ -176,7 +177,7 @@ ended remaining limit p h i input start x s all at f size closed same unstopped 
 
 -- ---- what is said of each input
 
-open_counts : {R : Type 0} (p : PlanValue) (o : OriginValue) (items : List Item) (x : SerialInput R) (report : Report) (stopped : Option Stop)
+open_counts : {R : Type 0} (p : ScheduleValue) (o : OriginValue) (items : List Item) (x : SerialInput R) (report : Report) (stopped : Option Stop)
     → x.reader.report.stopped ≡ stopped → x.is_closed ≡ false → IsLast x report → CountsItems p o items x.reader.report → CountsItems p o items report
 open_counts p o items x report None is opened last has =
     let C : Report → Type 0 = CountsItems p o items in
@@ -188,7 +189,7 @@ open_counts p o items x report (Some s) is opened last has =
     subst C (sym (last.stopped (subst P (sym is) refl))) has
 
 -- the last report has the counts
-last_counts : {R : Type 0} (p : PlanValue) (o : OriginValue) (items : List Item) (x : SerialInput R) (report : Report)
+last_counts : {R : Type 0} (p : ScheduleValue) (o : OriginValue) (items : List Item) (x : SerialInput R) (report : Report)
     → IsLast x report → CountsItems p o items x.reader.report → CountsItems p o items report
 last_counts p o items x report last has =
     let C : Report → Type 0 = CountsItems p o items in
@@ -207,7 +208,7 @@ framed_all stride (Some first) (Some more) bytes all looked e used begins =
     (b.0, b.1 ∙ ap (framed stride) (sym used ∙ same_Some first all e))
 
 -- an input that the end of the run stopped was open
-left_open : {R : Type 0} (remaining : R → Option (List ℕ)) (p : PlanValue) (h : List Event) (i : ℕ) (start : Option (List ℕ)) (x : SerialInput R) (report : Report)
+left_open : {R : Type 0} (remaining : R → Option (List ℕ)) (p : ScheduleValue) (h : List Event) (i : ℕ) (start : Option (List ℕ)) (x : SerialInput R) (report : Report)
     → Feeds remaining p h i start x → IsLast x report → report.stopped ≡ Some Gate → x.is_closed ≡ false
 left_open remaining p h i start x report f last e =
     elim (cases_Bool x.is_closed) [
@@ -221,8 +222,8 @@ stopped_still x report cause last e =
     let P : Option Stop → Type 0 = IsSome in
     ap (λ v. v.stopped) (last.stopped (subst P (sym e) refl)) ∙ e
 
-counted : {R : Type 0} (remaining : R → Option (List ℕ)) (p : PlanValue) (h : List Event) (i : ℕ) (input : InputValue) (start : Option (List ℕ)) (x : SerialInput R) (s : InputSummary) (all : List ℕ)
-    → slice_get p.request.inputs i ≡ Some input → Feeds remaining p h i start x → IsLast x s.report → start ≡ Some all → IsCounted p h i input all s
+counted : {R : Type 0} (remaining : R → Option (List ℕ)) (p : ScheduleValue) (h : List Event) (i : ℕ) (input : InputValue) (start : Option (List ℕ)) (x : SerialInput R) (s : InputSummary) (all : List ℕ)
+    → slice_get p.first.request.inputs i ≡ Some input → Feeds remaining p h i start x → IsLast x s.report → start ≡ Some all → IsCounted p h i input all s
 counted remaining p h i input start x s all at f last known =
     let origin = origin_same remaining p h i input start x at f in
     let r = f.given.read in
@@ -242,8 +243,8 @@ counted remaining p h i input start x s all at f last known =
       left = λ e. (let E : OriginValue → Type 0 = λ v. EndsAtTaken p v items in subst E origin (f.stands (left_open remaining p h i start x s.report f last e)));
     }
 
-pub input_summary : {R : Type 0} (remaining : R → Option (List ℕ)) (limit : ℕ) (p : PlanValue) (h : List Event) (i : ℕ) (input : InputValue) (start : Option (List ℕ)) (x : SerialInput R) (s : InputSummary)
-    → slice_get p.request.inputs i ≡ Some input → Feeds remaining p h i start x → x.reader.stream.items.limit ≡ limit → IsTotals p i h s.totals → IsLast x s.report
+pub input_summary : {R : Type 0} (remaining : R → Option (List ℕ)) (limit : ℕ) (p : ScheduleValue) (h : List Event) (i : ℕ) (input : InputValue) (start : Option (List ℕ)) (x : SerialInput R) (s : InputSummary)
+    → slice_get p.first.request.inputs i ≡ Some input → Feeds remaining p h i start x → x.reader.stream.items.limit ≡ limit → IsTotals p i h s.totals → IsLast x s.report
     → IsInputSummary limit p h i input start s
 input_summary remaining limit p h i input start x s at f size totals last = record {
   totals = totals;
@@ -265,8 +266,8 @@ input_summary remaining limit p h i input start x s at f size totals last = reco
 }
 
 -- the source of an input was read on
-read_on : {R : Type 0} (remaining : R → Option (List ℕ)) (limit : ℕ) (p : PlanValue) (h : List Event) (i : ℕ) (input : InputValue) (start : Option (List ℕ)) (x : SerialInput R) (s : InputSummary)
-    → slice_get p.request.inputs i ≡ Some input → Feeds remaining p h i start x → x.reader.stream.items.limit ≡ limit → IsLast x s.report → IsReadOn limit p h i input start (remaining x.reader.stream.source) s
+read_on : {R : Type 0} (remaining : R → Option (List ℕ)) (limit : ℕ) (p : ScheduleValue) (h : List Event) (i : ℕ) (input : InputValue) (start : Option (List ℕ)) (x : SerialInput R) (s : InputSummary)
+    → slice_get p.first.request.inputs i ≡ Some input → Feeds remaining p h i start x → x.reader.stream.items.limit ≡ limit → IsLast x s.report → IsReadOn limit p h i input start (remaining x.reader.stream.source) s
 read_on remaining limit p h i input start x s at f size last =
     let r = f.given.read in
     let B : OriginValue → Type 0 = λ v. BeginsTakeable p v r.0 (taken i h) in
@@ -299,7 +300,7 @@ read_on remaining limit p h i input start x s at f size last =
           (failed_read remaining p x.reader r.0 (taken i h) r.2 done (ap (λ v. v.stopped) (sym same) ∙ e));
     }
 
-pub all_read_on : {R : Type 0} (remaining : R → Option (List ℕ)) (limit : InputLimit) (p : PlanValue) (h : List Event) (starts : List (Option (List ℕ))) (inputs : List (SerialInput R)) (summaries : List InputSummary) (sources : List R)
+pub all_read_on : {R : Type 0} (remaining : R → Option (List ℕ)) (limit : InputLimit) (p : ScheduleValue) (h : List Event) (starts : List (Option (List ℕ))) (inputs : List (SerialInput R)) (summaries : List InputSummary) (sources : List R)
     → AreFed remaining p h starts inputs → AreLimited limit p inputs → AreReported p h inputs summaries sources → AreReadOn limit p h starts (map remaining sources) summaries
 all_read_on {R} remaining limit p h starts inputs summaries sources fed limited are i input start left s at from to told =
     let l = from_map remaining sources i left to in
@@ -325,7 +326,7 @@ told_stop x s last = record {
       ap (λ v. v.stopped) (sym (stopped_before x s.report ReadFailed last told (λ bad. cc))) ∙ told;
 }
 
-pub ended_here : {R : Type 0} (remaining : R → Option (List ℕ)) (p : PlanValue) (h : List Event) (starts : List (Option (List ℕ))) (inputs : List (SerialInput R)) (summaries : List InputSummary) (sources : List R)
+pub ended_here : {R : Type 0} (remaining : R → Option (List ℕ)) (p : ScheduleValue) (h : List Event) (starts : List (Option (List ℕ))) (inputs : List (SerialInput R)) (summaries : List InputSummary) (sources : List R)
     → AreFed remaining p h starts inputs → AreReported p h inputs summaries sources
     → (i : ℕ) (x : SerialInput R) → slice_get inputs i ≡ Some x → HasEndedHere remaining p h starts (map remaining sources) (stops_of summaries) i x
 ended_here {R} remaining p h starts inputs summaries sources fed are i x at =
@@ -347,12 +348,12 @@ ended_here {R} remaining p h starts inputs summaries sources fed are i x at =
     }
 
 -- an input for which the multiplex waits is open
-open_unready : (p : PlanValue) (i : ℕ) (h : List Event) → is_ready p i h ≡ false → is_closed i h ≡ false
+open_unready : (p : ScheduleValue) (i : ℕ) (h : List Event) → is_ready p i h ≡ false → is_closed i h ≡ false
 open_unready p i h e = (waited_for p i h e).open_
 
 -- ---- failures of sources
 
-pub failures_told : {R : Type 0} (failures : R → ℕ) (p : PlanValue) (h : List Event) (inputs : List (SerialInput R)) (summaries : List InputSummary) (before after : List R)
+pub failures_told : {R : Type 0} (failures : R → ℕ) (p : ScheduleValue) (h : List Event) (inputs : List (SerialInput R)) (summaries : List InputSummary) (before after : List R)
     → AllTellFailures failures (map failures before) inputs → AreReported p h inputs summaries after → FailuresAreTold failures before after summaries
 failures_told {R} failures p h inputs summaries before after tell are i s old new ats atb ata =
     let M : List R → Type 0 = λ v. slice_get v i ≡ Some new in
@@ -368,7 +369,7 @@ failures_told {R} failures p h inputs summaries before after tell are i s old ne
 
 -- ---- the end
 
-pub finished : (run : Run) (h : List Event) → slots h ≤ run.limit → IsOver run h → IsFinished run.plan run.limit h
+pub finished : (run : Run) (h : List Event) → slots h ≤ run.limit → IsOver run h → IsFinished run.schedule run.limit h
 finished run h within over =
     elim (cases_eq (slots h) run.limit) [
       | inl e ↦ inl e
@@ -378,18 +379,18 @@ finished run h within over =
       ]
     ]
 
-faults_exact : (run : Run) (h : List Event) (told : ℕ) → slots h ≤ run.limit → run.limit ≤ 1099511627776 → told ≡ fault_count run.plan.request.rate run.plan.request.watch (emitted run.plan h)
-    → told ≡ length (faults run.plan.request.rate run.plan.request.watch (emitted run.plan h))
+faults_exact : (run : Run) (h : List Event) (told : ℕ) → slots h ≤ run.limit → run.limit ≤ 1099511627776 → told ≡ fault_count run.schedule.first.request.rate run.schedule.first.request.watch (emitted run.schedule h)
+    → told ≡ length (faults run.schedule.first.request.rate run.schedule.first.request.watch (emitted run.schedule h))
 faults_exact run h told within few is =
-    let bound = few_faults run.plan.request.rate run.plan.request.watch (emitted run.plan h) in
-    let count = length-emitted run.plan h in
-    let all = length (faults run.plan.request.rate run.plan.request.watch (emitted run.plan h)) in
+    let bound = few_faults run.schedule.first.request.rate run.schedule.first.request.watch (emitted run.schedule h) in
+    let count = length-emitted run.schedule h in
+    let all = length (faults run.schedule.first.request.rate run.schedule.first.request.watch (emitted run.schedule h)) in
     let fits : all ≤ 18446744073709551615 = omega (arith, bound, count, within, few) in
     is ∙ min-eq_left fits
 
-summary_input : {R : Type 0} (remaining : R → Option (List ℕ)) (limit : InputLimit) (p : PlanValue) (h : List Event) (starts : List (Option (List ℕ))) (inputs : List (SerialInput R)) (summaries : List InputSummary) (sources : List R)
+summary_input : {R : Type 0} (remaining : R → Option (List ℕ)) (limit : InputLimit) (p : ScheduleValue) (h : List Event) (starts : List (Option (List ℕ))) (inputs : List (SerialInput R)) (summaries : List InputSummary) (sources : List R)
     → AreFed remaining p h starts inputs → AreLimited limit p inputs → AreReported p h inputs summaries sources
-    → (i : ℕ) (input : InputValue) (start : Option (List ℕ)) (s : InputSummary) → slice_get p.request.inputs i ≡ Some input → slice_get starts i ≡ Some start → slice_get summaries i ≡ Some s
+    → (i : ℕ) (input : InputValue) (start : Option (List ℕ)) (s : InputSummary) → slice_get p.first.request.inputs i ≡ Some input → slice_get starts i ≡ Some start → slice_get summaries i ≡ Some s
     → IsInputSummary (limit_of_input limit input.format) p h i input start s
 summary_input remaining limit p h starts inputs summaries sources fed limited are i input start s at from told =
     elim (slice_get_cases inputs i).1 [
@@ -402,39 +403,39 @@ summary_input remaining limit p h starts inputs summaries sources fed limited ar
     ]
 
 pub has_run : {R : Type 0} (remaining : R → Option (List ℕ)) (run : Run) (limit : InputLimit) (starts : List (Option (List ℕ))) (r : SerialRun R) (before after : Option (List ℕ)) (s : Summary) (sources : List R)
-    → run.limit ≤ 1099511627776 → IsRunning remaining run limit starts r → IsOver run r.mux.events → IsSound r.mux → Appends before after (bytes_of (emitted run.plan r.mux.events))
-    → AreReported r.mux.run.plan r.mux.events r.inputs.items s.inputs.items sources → ArePeaks r.mux.run.plan r.mux.events s.streams.items → IsCounts r.mux.events s.counts → s.faults ≡ r.output.faults → s.fault_report ≡ r.output.report
+    → run.limit ≤ 1099511627776 → IsRunning remaining run limit starts r → IsOver run r.mux.events → IsSound r.mux → Appends before after (bytes_of (emitted run.schedule r.mux.events))
+    → AreReported r.mux.run.schedule r.mux.events r.inputs.items s.inputs.items sources → ArePeaks r.mux.run.schedule r.mux.events s.streams.items → IsCounts r.mux.events s.counts → s.faults ≡ r.output.faults → s.fault_report ≡ r.output.report
     → HasRun (record { run = run; events = r.mux.events }) limit starts (map remaining sources) before after s
 has_run remaining run limit starts r before after s sources few is over sound written reported peaks counts told same_report =
     let h = r.mux.events in
     let S : Run → Type 0 = λ v. IsSound (record { run = v; events = h }) in
-    let A : Run → Type 0 = λ v. AreReported v.plan h r.inputs.items s.inputs.items sources in
-    let K : Run → Type 0 = λ v. ArePeaks v.plan h s.streams.items in
-    let F : ReportValue → Type 0 = λ v. IsReportOf v (faults run.plan.request.rate run.plan.request.watch (emitted run.plan h)) in
+    let A : Run → Type 0 = λ v. AreReported v.schedule h r.inputs.items s.inputs.items sources in
+    let K : Run → Type 0 = λ v. ArePeaks v.schedule h s.streams.items in
+    let F : ReportValue → Type 0 = λ v. IsReportOf v (faults run.schedule.first.request.rate run.schedule.first.request.watch (emitted run.schedule h)) in
     let sound_run = subst S is.run_is sound in
     let are = subst A is.run_is reported in
     record {
       sound = sound_run;
       finished = finished run h sound_run.run.within over;
       written = written;
-      begun = begun remaining run.plan h starts r.inputs.items is.fed;
+      begun = begun remaining run.schedule h starts r.inputs.items is.fed;
       faithful = λ known.
-          takes_what_is_given remaining run.plan h starts (map remaining sources) (stops_of s.inputs.items) r.inputs.items is.fed.count
-          (ended_here remaining run.plan h starts r.inputs.items s.inputs.items sources is.fed are) known is.in_order;
+          takes_what_is_given remaining run.schedule h starts (map remaining sources) (stops_of s.inputs.items) r.inputs.items is.fed.count
+          (ended_here remaining run.schedule h starts r.inputs.items s.inputs.items sources is.fed are) known is.in_order;
       summary = record {
         length_is = are.length_is ∙ is.fed.count;
-        inputs = summary_input remaining limit run.plan h starts r.inputs.items s.inputs.items sources is.fed is.limited are;
+        inputs = summary_input remaining limit run.schedule h starts r.inputs.items s.inputs.items sources is.fed is.limited are;
         streams = subst K is.run_is peaks;
         counts = counts;
         faults = faults_exact run h s.faults sound_run.run.within few (told ∙ is.analysed.faults_are);
         reported = subst F (sym same_report) is.analysed.reported;
       };
-      read = all_read_on remaining limit run.plan h starts r.inputs.items s.inputs.items sources is.fed is.limited are;
+      read = all_read_on remaining limit run.schedule h starts r.inputs.items s.inputs.items sources is.fed is.limited are;
     }
 
 -- ---- what was written
 
-pub nothing_sent : (p : PlanValue) (h : List Event) (before : Option (List ℕ)) (waiting : List ℕ) → h ≡ [] → waiting ≡ [] → Sends before before (bytes_of (emitted p h)) waiting
+pub nothing_sent : (p : ScheduleValue) (h : List Event) (before : Option (List ℕ)) (waiting : List ℕ) → h ≡ [] → waiting ≡ [] → Sends before before (bytes_of (emitted p h)) waiting
 nothing_sent p h before waiting none empty =
     let P : List Event → Type 0 = λ v. Sends before before (bytes_of (emitted p v)) waiting in
     subst P (sym none) ([], Appends-nil before, sym empty)
@@ -442,7 +443,7 @@ nothing_sent p h before waiting none empty =
 -- a run that could not be opened
 
 -- inputs that nothing stopped, and of which nothing was taken
-unread_takes : (p : PlanValue) (starts lefts : List (Option (List ℕ))) (stops : List (Option Stop)) → ((i : ℕ) (stopped : Option Stop) → slice_get stops i ≡ Some stopped → stopped ≡ None) → TakesWhatIsGiven p starts lefts stops []
+unread_takes : (p : ScheduleValue) (starts lefts : List (Option (List ℕ))) (stops : List (Option Stop)) → ((i : ℕ) (stopped : Option Stop) → slice_get stops i ≡ Some stopped → stopped ≡ None) → TakesWhatIsGiven p starts lefts stops []
 unread_takes p starts lefts stops none = (
   packet_lists p starts,
   λ i. record {
@@ -454,16 +455,16 @@ unread_takes p starts lefts stops none = (
 )
 
 pub has_begun_nothing : {R : Type 0} (remaining : R → Option (List ℕ)) (failures : R → ℕ) (run : Run) (limit : InputLimit) (readers : List R) (before : Option (List ℕ)) (fault : RunFault)
-    → IsMultiplexPlan run.plan → run.limit ≤ 1099511627776 → HasBegun remaining failures (record { run = run; events = [] }) limit readers before before fault
-has_begun_nothing {R} remaining failures run limit readers before fault plan few =
+    → IsMultiplexSchedule run.schedule → run.limit ≤ 1099511627776 → HasBegun remaining failures (record { run = run; events = [] }) limit readers before before fault
+has_begun_nothing {R} remaining failures run limit readers before fault schedule few =
     let unread : R → R × Option Stop = λ r. (r, None) in
     let stop : R × Option Stop → Option Stop = λ left. left.1 in
     let none : (i : ℕ) (left : R × Option Stop) → slice_get (map unread readers) i ≡ Some left → left.1 ≡ None = λ i left at. (let l = from_map unread readers i left at in ap stop (sym l.2)) in
     let same : (i : ℕ) (old : R) (left : R × Option Stop) → slice_get readers i ≡ Some old → slice_get (map unread readers) i ≡ Some left → left.0 ≡ old = λ i old left from at. (let l = from_map unread readers i left at in ap (λ (v : R × Option Stop). v.0) (sym l.2) ∙ same_Some l.0 old (sym l.1 ∙ from)) in
     record {
-      sound = sound_nothing run.plan run.limit plan few;
-      begun = λ i input all at start. (takeable run.plan (origin_of i input) (framed_at (origin_of i input) all), refl);
-      written = ([], nothing_sent run.plan [] before [] refl refl);
+      sound = sound_nothing run.schedule run.limit schedule few;
+      begun = λ i input all at start. (takeable run.schedule (origin_of i input) (framed_at (origin_of i input) all), refl);
+      written = ([], nothing_sent run.schedule [] before [] refl refl);
       lefts = map unread readers;
       count = length-map readers unread;
       halted = λ i input old left named from at.
@@ -480,7 +481,7 @@ has_begun_nothing {R} remaining failures run limit readers before fault plan few
           let C : R → Type 0 = λ v. Consumes (remaining old) (remaining v) [] in
           ([], subst C (sym (same i old left from at)) (Consumes-nil (remaining old)));
       faithful = λ known.
-          unread_takes run.plan (map remaining readers) (map (λ left. remaining left.0) (map unread readers)) (map stop (map unread readers))
+          unread_takes run.schedule (map remaining readers) (map (λ left. remaining left.0) (map unread readers)) (map stop (map unread readers))
           (λ i stopped at. (let l = from_map stop (map unread readers) i stopped at in sym l.2 ∙ none i l.0 l.1));
       refused = λ i left at e. absurd (none-some Memory (sym (none i left at) ∙ e));
     }
@@ -495,7 +496,7 @@ of_memory run_faults.Memory other = refl
 abbrev left_of : {R : Type 0} → SerialInput R → R × Option Stop
 left_of x = (x.reader.stream.source, x.reader.report.stopped)
 
-halted_here : {R : Type 0} (remaining : R → Option (List ℕ)) (limit : InputLimit) (p : PlanValue) (h : List Event) (starts : List (Option (List ℕ))) (inputs : List (SerialInput R)) → AreHalted remaining limit p h starts inputs
+halted_here : {R : Type 0} (remaining : R → Option (List ℕ)) (limit : InputLimit) (p : ScheduleValue) (h : List Event) (starts : List (Option (List ℕ))) (inputs : List (SerialInput R)) → AreHalted remaining limit p h starts inputs
     → (i : ℕ) (x : SerialInput R) → slice_get inputs i ≡ Some x
     → HasEndedHere remaining p h starts (map (λ left. remaining left.0) (map left_of inputs)) (map (λ left. left.1) (map left_of inputs)) i x
 halted_here {R} remaining limit p h starts inputs are i x at =
@@ -518,18 +519,18 @@ halted_here {R} remaining limit p h starts inputs are i x at =
     }
 
 -- what was taken of each input begins what can be taken of it
-halted_begun : {R : Type 0} (remaining : R → Option (List ℕ)) (limit : InputLimit) (p : PlanValue) (h : List Event) (starts : List (Option (List ℕ))) (inputs : List (SerialInput R)) → AreHalted remaining limit p h starts inputs → AreBegun p h starts
+halted_begun : {R : Type 0} (remaining : R → Option (List ℕ)) (limit : InputLimit) (p : ScheduleValue) (h : List Event) (starts : List (Option (List ℕ))) (inputs : List (SerialInput R)) → AreHalted remaining limit p h starts inputs → AreBegun p h starts
 halted_begun remaining limit p h starts inputs are i input all at from =
     elim (slice_get_cases inputs i).1 [
       | inl found ↦
           (let f = are.fed i found.0 found.2 in
           begun_one remaining p h i input f.0 all found.0 at (same_Some f.0 (Some all) (sym f.1 ∙ from)) f.2.given)
-      | inr past ↦ absurd (omega (arith, slice_get_within p.request.inputs i input at, past.0, are.count))
+      | inr past ↦ absurd (omega (arith, slice_get_within p.first.request.inputs i input at, past.0, are.count))
     ]
 
 pub has_begun : {R : Type 0} (remaining : R → Option (List ℕ)) (failures : R → ℕ) (run : Run) (limit : InputLimit) (readers : List R) (r : SerialRun R) (before after : Option (List ℕ)) (fault : RunFault)
-    → length readers ≡ length run.plan.request.inputs → r.mux.run ≡ run → IsSound r.mux → AreHalted remaining limit run.plan r.mux.events (map remaining readers) r.inputs.items
-    → AllTellFailures failures (map failures readers) r.inputs.items → SendsBeginning before after (bytes_of (emitted run.plan r.mux.events))
+    → length readers ≡ length run.schedule.first.request.inputs → r.mux.run ≡ run → IsSound r.mux → AreHalted remaining limit run.schedule r.mux.events (map remaining readers) r.inputs.items
+    → AllTellFailures failures (map failures readers) r.inputs.items → SendsBeginning before after (bytes_of (emitted run.schedule r.mux.events))
     → (fault ≡ run_faults.Write → AreUnrefused r.inputs.items)
     → HasBegun remaining failures (record { run = run; events = r.mux.events }) limit readers before after fault
 has_begun {R} remaining failures run limit readers r before after fault size same sound are tell written unrefused =
@@ -540,13 +541,13 @@ has_begun {R} remaining failures run limit readers r before after fault size sam
     let start_at : (i : ℕ) (old : R) → slice_get readers i ≡ Some old → slice_get starts i ≡ Some (remaining old) = λ i old from. slice_get-map remaining readers i ∙ ap (option_map remaining) from in
     record {
       sound = subst S same sound;
-      begun = halted_begun remaining limit run.plan h starts inputs are;
+      begun = halted_begun remaining limit run.schedule h starts inputs are;
       written = written;
       lefts = map left_of inputs;
       count = length-map inputs left_of ∙ are.count ∙ sym size;
       halted = λ i input old left named from at.
           let l = from_map left_of inputs i left at in
-          let P : R × Option Stop → Type 0 = λ v. IsHalted (limit_of_input limit input.format) run.plan h i (remaining old) v.1 in
+          let P : R × Option Stop → Type 0 = λ v. IsHalted (limit_of_input limit input.format) run.schedule h i (remaining old) v.1 in
           subst P l.2 (are.each i input (remaining old) l.0 named (start_at i old from) l.1);
       told = λ i old left from at.
           let l = from_map left_of inputs i left at in
@@ -560,8 +561,8 @@ has_begun {R} remaining failures run limit readers r before after fault size sam
           let Q : Option (List ℕ) → Type 0 = λ v. (bytes : List ℕ) × Consumes v (remaining l.0.reader.stream.source) bytes in
           subst P l.2 (subst Q (same_Some f.0 (remaining old) (sym f.1 ∙ start_at i old from)) (f.2.given.read.0, f.2.given.read.1));
       faithful = λ known.
-          takes_what_is_given remaining run.plan h starts (map (λ left. remaining left.0) (map left_of inputs)) (map (λ left. left.1) (map left_of inputs)) inputs are.count
-          (halted_here remaining limit run.plan h starts inputs are) known are.in_order;
+          takes_what_is_given remaining run.schedule h starts (map (λ left. remaining left.0) (map left_of inputs)) (map (λ left. left.1) (map left_of inputs)) inputs are.count
+          (halted_here remaining limit run.schedule h starts inputs are) known are.in_order;
       refused = λ i left at e.
           let l = from_map left_of inputs i left at in
           of_memory fault (λ write. unrefused write i l.0 l.1 (ap (λ (v : R × Option Stop). v.1) l.2 ∙ e));

@@ -12,7 +12,11 @@ use Rattle.mux.specs.Faithful.{IsRunOf, IsFinished, IsPrefix}
 use Rattle.mux.proofs.Same.{outputs_agree}
 use Rattle.mux.proofs.Emitted.{length-emitted}
 use Rattle.mux.proofs.Ends.{output_is_unique}
-use Rattle.output_faults.proofs.OutputFaultLaws.{no_sync_fault, no_table_fault, counter_faults_taken}
+use Rattle.mux.proofs.Plans.{known_of, streams_of}
+use Rattle.schedule.specs.Streams.{all_streams}
+use Rattle.output_faults.proofs.OutputFaultLaws.{sync_stands, taken_judged}
+use Rattle.output_faults.proofs.ScheduleTold.{all_sound_of, judged_of}
+use Rattle.output_faults.proofs.PlanTold.{no_table_fault}
 use Rattle.reading.specs.declared.stop.Stop.{Stop}
 use Rattle.reading.specs.declared.stop.Stop.TheVariants.{Gate, ReadFailed, TooMuch}
 use Rattle.serial.specs.declared.summary.InputSummary.{InputSummary}
@@ -27,15 +31,14 @@ use Rattle.serial.specs.EqualOutput.{HasRunUnfailed, HasBegunUnfailed, BegunByte
 
 pub only_what_was_taken : AnalyserTellsOnlyWhatWasTaken
 only_what_was_taken h period sound =
-    let p = h.run.plan in
-    let rate = p.request.rate in
-    let out = emitted p h.events in
-    let plan = sound.plan in
+    let s = h.run.schedule in
+    let rate = s.first.request.rate in
+    let out = emitted s h.events in
+    let known = known_of s sound.schedule in
     record {
-      sync = no_sync_fault p rate period out plan.request plan.tables plan.rounds sound.emission;
-      tables = no_table_fault p period out plan.request plan.tables plan.rounds sound.emission;
-      counters = counter_faults_taken p rate period out (packets_taken_for h) plan.request plan.tables plan.rounds sound.emission
-          (λ st listed. (sent st h.events, sound.counters st listed));
+      sync = sync_stands rate period out (all_sound_of s known out sound.emission);
+      tables = no_table_fault s known period out sound.emission;
+      counters = taken_judged (all_streams s) rate period out (packets_taken_for h) (judged_of s known (streams_of s sound.schedule) out sound.emission) (λ st listed. (sent st h.events, sound.counters st listed));
     }
 
 -- nothing is told of an input's stop but the end of the run
@@ -49,21 +52,21 @@ untold inputs cause other unfailed i at =
     ]
 
 -- it is lawful, and takes the inputs' packets in their order
-run_of : (h : History) (starts : List (Option (List ℕ))) (before after : Option (List ℕ)) (s : Summary) → HasRunUnfailed h starts before after s → IsRunOf h.run.plan (packet_lists h.run.plan starts) h.events
+run_of : (h : History) (starts : List (Option (List ℕ))) (before after : Option (List ℕ)) (s : Summary) → HasRunUnfailed h starts before after s → IsRunOf h.run.schedule (packet_lists h.run.schedule starts) h.events
 run_of h starts before after s r =
     let takes = r.runs.faithful r.known in
     let inputs = s.inputs.items in
     record {
       lawful = r.runs.sound.run.lawful;
-      faithful = faithful_same takes.0 (packet_lists h.run.plan starts)
+      faithful = faithful_same h.run.schedule takes.0 (packet_lists h.run.schedule starts)
           (λ i. (takes.1 i).whole (untold inputs ReadFailed (λ bad. cc) r.unfailed i) (untold inputs TooMuch (λ bad. cc) r.unfailed i)) h.events takes.2;
     }
 
 same_packets : (h : History) (starts : List (Option (List ℕ))) (before after : Option (List ℕ)) (s : Summary) (other : List Event) → HasRunUnfailed h starts before after s
-    → IsRunOf h.run.plan (packet_lists h.run.plan starts) other → IsFinished h.run.plan h.run.limit other
-    → emitted h.run.plan h.events ≡ emitted h.run.plan other
+    → IsRunOf h.run.schedule (packet_lists h.run.schedule starts) other → IsFinished h.run.schedule h.run.limit other
+    → emitted h.run.schedule h.events ≡ emitted h.run.schedule other
 same_packets h starts before after s other r run finished =
-    output_is_unique h.run.plan (packet_lists h.run.plan starts) h.run.limit h.events other r.runs.sound.plan (run_of h starts before after s r) r.runs.finished run finished
+    output_is_unique h.run.schedule (packet_lists h.run.schedule starts) h.run.limit h.events other r.runs.sound.schedule (run_of h starts before after s r) r.runs.finished run finished
 
 pub of_every_history : BytesAreOfEveryHistory
 of_every_history h starts before after s other r run finished =
@@ -71,17 +74,17 @@ of_every_history h starts before after s other r run finished =
 
 pub equal_bytes : EqualInputsGiveEqualBytes
 equal_bytes h g starts before after old new s t same r q =
-    let run : IsRunOf h.run.plan (packet_lists h.run.plan starts) g.events =
-    subst (λ (x : Run). IsRunOf x.plan (packet_lists x.plan starts) g.events) (sym same) (run_of g starts old new t q) in
-    let finished : IsFinished h.run.plan h.run.limit g.events = subst (λ (x : Run). IsFinished x.plan x.limit g.events) (sym same) q.runs.finished in
-    let bytes : Appends old new (bytes_of (emitted h.run.plan g.events)) =
-    subst (λ (x : Run). Appends old new (bytes_of (emitted x.plan g.events))) (sym same) q.runs.written in
-    let packets : emitted h.run.plan h.events ≡ emitted g.run.plan g.events =
-    subst (λ (x : Run). emitted h.run.plan h.events ≡ emitted x.plan g.events) same (same_packets h starts before after s g.events r run finished) in
-    (packets, (bytes_of (emitted h.run.plan g.events), of_every_history h starts before after s g.events r run finished, bytes))
+    let run : IsRunOf h.run.schedule (packet_lists h.run.schedule starts) g.events =
+    subst (λ (x : Run). IsRunOf x.schedule (packet_lists x.schedule starts) g.events) (sym same) (run_of g starts old new t q) in
+    let finished : IsFinished h.run.schedule h.run.limit g.events = subst (λ (x : Run). IsFinished x.schedule x.limit g.events) (sym same) q.runs.finished in
+    let bytes : Appends old new (bytes_of (emitted h.run.schedule g.events)) =
+    subst (λ (x : Run). Appends old new (bytes_of (emitted x.schedule g.events))) (sym same) q.runs.written in
+    let packets : emitted h.run.schedule h.events ≡ emitted g.run.schedule g.events =
+    subst (λ (x : Run). emitted h.run.schedule h.events ≡ emitted x.schedule g.events) same (same_packets h starts before after s g.events r run finished) in
+    (packets, (bytes_of (emitted h.run.schedule g.events), of_every_history h starts before after s g.events r run finished, bytes))
 
 -- a history that is finished at n is so at as many slots as another has, where that isn't behind it
-finished_there : (h g : History) (n : ℕ) → slots h.events ≤ n → slots g.events ≤ slots h.events → IsFinished g.run.plan n g.events → IsFinished g.run.plan (slots h.events) g.events
+finished_there : (h g : History) (n : ℕ) → slots h.events ≤ n → slots g.events ≤ slots h.events → IsFinished g.run.schedule n g.events → IsFinished g.run.schedule (slots h.events) g.events
 finished_there h g n few less (inl full) = inl (omega (arith, few, less, full))
 finished_there h g n few less (inr done) =
     elim (cases_eq (slots g.events) (slots h.events)) [
@@ -91,15 +94,15 @@ finished_there h g n few less (inr done) =
 
 -- what went out of a history that began begins what goes out of one that is finished
 begun_prefix : (h g : History) (starts : List (Option (List ℕ))) (before after old new : Option (List ℕ)) (s : Summary)
-    → h.run ≡ g.run → HasBegunUnfailed h starts before after → HasRunUnfailed g starts old new s → IsPrefix (emitted g.run.plan h.events) (emitted g.run.plan g.events)
+    → h.run ≡ g.run → HasBegunUnfailed h starts before after → HasRunUnfailed g starts old new s → IsPrefix (emitted g.run.schedule h.events) (emitted g.run.schedule g.events)
 begun_prefix h g starts before after old new s same b r =
-    let p = g.run.plan in
-    let L : Run → Type 0 = λ v. IsRunOf v.plan (packet_lists v.plan starts) h.events in
+    let p = g.run.schedule in
+    let L : Run → Type 0 = λ v. IsRunOf v.schedule (packet_lists v.schedule starts) h.events in
     let first : IsRunOf p (packet_lists p starts) h.events = subst L same (record { lawful = b.sound.run.lawful; faithful = b.faithful }) in
     let second = run_of g starts old new s r in
     let few = b.sound.run.within in
     let limit : h.run.limit ≡ g.run.limit = ap (λ (v : Run). v.limit) same in
-    elim (outputs_agree p (packet_lists p starts) h.events g.events r.runs.sound.plan first second) [
+    elim (outputs_agree p (packet_lists p starts) h.events g.events r.runs.sound.schedule first second) [
       | inl is ↦ is
       | inr is ↦
           (let size = ap length is.1 in
@@ -107,14 +110,14 @@ begun_prefix h g starts before after old new s same b r =
           let less : slots g.events ≤ slots h.events = omega (arith, size, parts, length-emitted p h.events, length-emitted p g.events) in
           let n = slots h.events in
           let done = finished_there h g g.run.limit (omega (arith, few, limit)) less r.runs.finished in
-          let one = output_is_unique p (packet_lists p starts) n h.events g.events r.runs.sound.plan first (inl refl) second done in
+          let one = output_is_unique p (packet_lists p starts) n h.events g.events r.runs.sound.schedule first (inl refl) second done in
           ([], sym one ∙ sym (append-nil (emitted p h.events))))
     ]
 
 pub begun_begins : BegunBytesBeginTheOutput
 begun_begins h g starts before after old new s same b r =
-    let p = g.run.plan in
-    let W : Run → Type 0 = λ v. (rest sent : List ℕ) × Appends before after sent × (bytes_of (emitted v.plan h.events) ≡ sent ++ rest) in
+    let p = g.run.schedule in
+    let W : Run → Type 0 = λ v. (rest sent : List ℕ) × Appends before after sent × (bytes_of (emitted v.schedule h.events) ≡ sent ++ rest) in
     let w = subst W same (b.written.0, b.written.1.0, b.written.1.1, b.written.1.2) in
     let more = begun_prefix h g starts before after old new s same b r in
     let A : List ℕ → Type 0 = Appends old new in

@@ -1,23 +1,24 @@
 -- A run, step by step.
-use Rattle.std.proofs.Common.{ℕ, zero, suc, ◌+◌, ◌-◌, ◌*◌, ◌<◌, ◌≤◌, ◌≡◌, if◌then◌else◌, ◌||◌, List, [], ◌∷◌, ◌++◌, length, set, get_or, Option, None, Some, refl, ap, ◌∙◌, sym, subst, arith, inl, inr, append_assoc}
+use Rattle.std.proofs.Common.{ℕ, zero, suc, ◌+◌, ◌-◌, ◌*◌, ◌<◌, ◌≤◌, ◌≡◌, if◌then◌else◌, ◌||◌, Bool, true, List, [], ◌∷◌, ◌++◌, length, set, get_or, Option, None, Some, refl, ap, ◌∙◌, sym, subst, arith, inl, inr, append_assoc}
 use Rattle.std.specs.List.{slice_get, range_with_len, sum_by}
 use Rattle.std.specs.Io.KnownBytes.{Consumes, Appends}
-use Rattle.std.proofs.lemmas.Bool.{cases_eq, cases_Bool, ne_eqb}
+use Rattle.std.proofs.lemmas.Bool.{cases_eq, ne_eqb}
 use Rattle.std.proofs.lemmas.List.{length-set, append-nil}
 use Rattle.std.proofs.lemmas.Grind.{flat_map-append}
 use Rattle.std.proofs.Math.Nat.{suc-mul}
 use Rattle.std.proofs.lemmas.Option.{same_Some, slice_get-get_or, slice_get_within, slice_get_cases}
 use Rattle.std.proofs.lemmas.List.Sums.{sum_by-cons}
 use Rattle.request.specs.Request.{InputValue}
-use Rattle.plan.specs.Build.{PlanValue}
+use Rattle.schedule.specs.Schedule.{ScheduleValue}
 use Rattle.mux.specs.declared.event.Event.{Event}
-use Rattle.mux.specs.declared.event.Event.TheVariants.{Took, Full, Close, Slot}
+use Rattle.mux.specs.declared.event.Event.TheVariants.{Took, Full, Early, Close, Slot, Switch}
 use Rattle.mux.specs.declared.content.Content.{Content}
-use Rattle.mux.specs.History.{Run, History, with_event, slots, emitted, packet_behind, taken, is_closed, full_noted}
+use Rattle.mux.specs.History.{Run, History, with_event, in_force, slots, emitted, packet_behind, taken, is_closed, full_noted, early_noted}
 use Rattle.mux.specs.declared.slot.Slot.TheVariants.{Sent}
 use Rattle.mux.specs.declared.sending.Sending.{Sending}
 use Rattle.mux.specs.declared.sending.Sending.TheVariants as sending
 use Rattle.mux.specs.Answers.{SlotAnswers, SendAnswers, IsLeastUnready}
+use Rattle.mux.proofs.Force.{due_is}
 use Rattle.tspkt.specs.declared.stamped.Stamped.{Stamped}
 use Rattle.serial.specs.Feeding.{HasGiven, Feeds, AreLimited, IsOfInput, turns_left}
 use Rattle.serial.specs.Giving.{TakesInOrder, KeepOrder}
@@ -36,20 +37,32 @@ use Rattle.serial.specs.declared.serial_input.SerialInput.{SerialInput}
 use Rattle.serial.proofs.FeedingLaws.{taken_other, closed_other}
 
 -- an event of an input sends nothing
-pub emitted_same : (p : PlanValue) (i : ℕ) (e : Event) (h : List Event) → IsOfInput i e → emitted p (e ∷ h) ≡ emitted p h
+pub emitted_same : (p : ScheduleValue) (i : ℕ) (e : Event) (h : List Event) → IsOfInput i e → emitted p (e ∷ h) ≡ emitted p h
 emitted_same p i (Took j item) h is = refl
 emitted_same p i (Full j st) h is = refl
+emitted_same p i (Early j) h is = refl
+emitted_same p i (Switch number) h is = absurd is
 emitted_same p i (Close j) h is = refl
 emitted_same p i (Slot c) h is = absurd is
 
 pub slots_same : (i : ℕ) (e : Event) (h : List Event) → IsOfInput i e → slots (e ∷ h) ≡ slots h
 slots_same i (Took j item) h is = refl
 slots_same i (Full j st) h is = refl
+slots_same i (Early j) h is = refl
+slots_same i (Switch number) h is = absurd is
 slots_same i (Close j) h is = refl
 slots_same i (Slot c) h is = absurd is
 
+pub force_same : (i : ℕ) (e : Event) (h : List Event) → IsOfInput i e → in_force (e ∷ h) ≡ in_force h
+force_same i (Took j item) h is = refl
+force_same i (Full j st) h is = refl
+force_same i (Early j) h is = refl
+force_same i (Close j) h is = refl
+force_same i (Slot c) h is = absurd is
+force_same i (Switch number) h is = absurd is
+
 -- a slot takes nothing of an input
-pub fed_slot : {R : Type 0} (remaining : R → Option (List ℕ)) (p : PlanValue) (h : List Event) (c : Content) (starts : List (Option (List ℕ))) (inputs : List (SerialInput R))
+pub fed_slot : {R : Type 0} (remaining : R → Option (List ℕ)) (p : ScheduleValue) (h : List Event) (c : Content) (starts : List (Option (List ℕ))) (inputs : List (SerialInput R))
     → AreFed remaining p h starts inputs → AreFed remaining p (Slot c ∷ h) starts inputs
 fed_slot remaining p h c starts inputs fed = record {
   count = fed.count;
@@ -58,8 +71,18 @@ fed_slot remaining p h c starts inputs fed = record {
       (f.0, f.1, record { given = record { origin = f.2.given.origin; limit = f.2.given.limit; read = f.2.given.read }; closed = f.2.closed; over = f.2.over; own = f.2.own; stands = f.2.stands });
 }
 
+-- nor does a switch
+pub fed_switch : {R : Type 0} (remaining : R → Option (List ℕ)) (p : ScheduleValue) (h : List Event) (number : ℕ) (starts : List (Option (List ℕ))) (inputs : List (SerialInput R))
+    → AreFed remaining p h starts inputs → AreFed remaining p (Switch number ∷ h) starts inputs
+fed_switch remaining p h number starts inputs fed = record {
+  count = fed.count;
+  each = λ i x at.
+      let f = fed.each i x at in
+      (f.0, f.1, record { given = record { origin = f.2.given.origin; limit = f.2.given.limit; read = f.2.given.read }; closed = f.2.closed; over = f.2.over; own = f.2.own; stands = f.2.stands });
+}
+
 -- an input goes on, and the others stay
-pub feeds_other : {R : Type 0} (remaining : R → Option (List ℕ)) (p : PlanValue) (i j : ℕ) (e : Event) (h : List Event) (start : Option (List ℕ)) (x : SerialInput R)
+pub feeds_other : {R : Type 0} (remaining : R → Option (List ℕ)) (p : ScheduleValue) (i j : ℕ) (e : Event) (h : List Event) (start : Option (List ℕ)) (x : SerialInput R)
     → IsOfInput i e → (i ≡ j → ⊥) → Feeds remaining p h j start x → Feeds remaining p (e ∷ h) j start x
 feeds_other {R} remaining p i j e h start x is ne f =
     let P : List Stamped → Type 0 = λ xs. (g : HasGiven remaining p j start x xs) × (x.is_closed ≡ false → EndsAtTaken p x.reader.origin g.read.2.0) in
@@ -98,7 +121,7 @@ sum_less f g i start (suc n) same less from to =
           omega (arith, rest, here, cf, cg))
     ]
 
-pub sum_more : (f g : ℕ → ℕ) (start n : ℕ) → ((j : ℕ) → g j ≤ f j + 1) → sum_by g (range_with_len start n) ≤ sum_by f (range_with_len start n) + n
+pub sum_more : (f g : ℕ → ℕ) (start n : ℕ) → ((j : ℕ) → g j ≤ f j + 2) → sum_by g (range_with_len start n) ≤ sum_by f (range_with_len start n) + 2 * n
 sum_more f g start zero each = omega arith
 sum_more f g start (suc n) each =
     let rest = sum_more f g (start + 1) n each in
@@ -120,8 +143,8 @@ set_there (x ∷ xs) (suc i) zero y ne = refl
 set_there (x ∷ xs) (suc i) (suc j) y ne = set_there xs i j y (λ e. ne (ap suc e))
 
 -- input i goes on by an event, and the others stay
-pub fed_input : {R : Type 0} (remaining : R → Option (List ℕ)) (p : PlanValue) (h : List Event) (e : Event) (i : ℕ) (starts : List (Option (List ℕ))) (inputs : List (SerialInput R)) (x y : SerialInput R)
-    → x ≡ get_or inputs i x → i < length p.request.inputs → IsOfInput i e → AreFed remaining p h starts inputs
+pub fed_input : {R : Type 0} (remaining : R → Option (List ℕ)) (p : ScheduleValue) (h : List Event) (e : Event) (i : ℕ) (starts : List (Option (List ℕ))) (inputs : List (SerialInput R)) (x y : SerialInput R)
+    → x ≡ get_or inputs i x → i < length p.first.request.inputs → IsOfInput i e → AreFed remaining p h starts inputs
     → ((start : Option (List ℕ)) → Feeds remaining p h i start x → Feeds remaining p (e ∷ h) i start y) → AreFed remaining p (e ∷ h) starts (set inputs i y)
 fed_input remaining p h e i starts inputs x y at l is fed goes = record {
   count = length-set inputs i y ∙ fed.count;
@@ -143,25 +166,43 @@ fed_input remaining p h e i starts inputs x y at l is fed goes = record {
 
 -- The steps that are left.
 
-other_turns : (i j : ℕ) (e : Event) (h : List Event) → IsOfInput i e → (i ≡ j → ⊥) → turns_left j (e ∷ h) ≡ turns_left j h
-other_turns i j (Took k item) h is ne =
-    ap (λ n. MAX_LIMIT - length n + (if is_closed j h then 0 else 1) + (if full_noted j h then 0 else 1)) (taken_other i j (Took k item) h is ne)
-other_turns i j (Full k st) h is ne =
-    ap (λ b. MAX_LIMIT - length (taken j h) + (if is_closed j h then 0 else 1) + (if b || full_noted j h then 0 else 1)) (ne_eqb k j (λ same. ne (sym is ∙ same)))
-other_turns i j (Close k) h is ne =
-    ap (λ b. MAX_LIMIT - length (taken j h) + (if b || is_closed j h then 0 else 1) + (if full_noted j h then 0 else 1)) (ne_eqb k j (λ same. ne (sym is ∙ same)))
-other_turns i j (Slot c) h is ne = absurd is
+-- how often the multiplex may still turn to an input, by what it has of it
+abbrev turns_by : (count : ℕ) (closed full early : Bool) → ℕ
+turns_by count closed full early = MAX_LIMIT - count + (if closed then 0 else 1) + (if full then 0 else 1) + (if early then 0 else 1)
 
-pub fewer_by_input : (run : Run) (h : List Event) (e : Event) (i : ℕ) → i < length run.plan.request.inputs → IsOfInput i e → turns_left i (e ∷ h) < turns_left i h
+other_turns : (i j : ℕ) (e : Event) (h : List Event) → IsOfInput i e → (i ≡ j → ⊥) → turns_left j (e ∷ h) ≡ turns_left j h
+other_turns i j (Took k item) h is ne = ap (λ (xs : List Stamped). turns_by (length xs) (is_closed j h) (full_noted j h) (early_noted j h)) (taken_other i j (Took k item) h is ne)
+other_turns i j (Full k st) h is ne = ap (λ b. turns_by (length (taken j h)) (is_closed j h) (b || full_noted j h) (early_noted j h)) (ne_eqb k j (λ same. ne (sym is ∙ same)))
+other_turns i j (Early k) h is ne = ap (λ b. turns_by (length (taken j h)) (is_closed j h) (full_noted j h) (b || early_noted j h)) (ne_eqb k j (λ same. ne (sym is ∙ same)))
+other_turns i j (Close k) h is ne = ap (λ b. turns_by (length (taken j h)) (b || is_closed j h) (full_noted j h) (early_noted j h)) (ne_eqb k j (λ same. ne (sym is ∙ same)))
+other_turns i j (Slot c) h is ne = absurd is
+other_turns i j (Switch number) h is ne = absurd is
+
+-- slots and plans that may still come
+abbrev spans_left : Run → ℕ → ℕ → ℕ
+spans_left run m number = run.limit - m + (length run.schedule.later - number)
+
+pub fewer_by_input : (run : Run) (h : List Event) (e : Event) (i : ℕ) → i < length run.schedule.first.request.inputs → IsOfInput i e → turns_left i (e ∷ h) < turns_left i h
     → steps_left run (e ∷ h) < steps_left run h
 fewer_by_input run h e i l is less =
-    let n = length run.plan.request.inputs in
+    let n = length run.schedule.first.request.inputs in
     let sums = sum_less (λ j. turns_left j h) (λ j. turns_left j (e ∷ h)) i 0 n (λ j ne. other_turns i j e h is ne) less (omega arith) (omega (arith, l)) in
-    let P : ℕ → Type 0 = λ m. (run.limit - m) * (n + 1) + sum_by (λ j. turns_left j (e ∷ h)) (range_with_len 0 n) < steps_left run h in
-    subst P (sym (slots_same i e h is)) (omega (arith, sums))
+    let P : ℕ → Type 0 = λ m. spans_left run m (in_force (e ∷ h)) * (2 * n + 1) + sum_by (λ j. turns_left j (e ∷ h)) (range_with_len 0 n) < steps_left run h in
+    let Q : ℕ → Type 0 = λ number. spans_left run (slots h) number * (2 * n + 1) + sum_by (λ j. turns_left j (e ∷ h)) (range_with_len 0 n) < steps_left run h in
+    subst P (sym (slots_same i e h is)) (subst Q (sym (force_same i e h is)) (omega (arith, sums)))
 
-slot_turns : (c : Content) (h : List Event) (j : ℕ) → turns_left j (Slot c ∷ h) ≤ turns_left j h + 1
-slot_turns c h j = elim (cases_Bool (full_noted j h)) [ inl e ↦ rw e (omega arith) | inr e ↦ rw e (omega arith) ]
+anew : (full early : Bool) (count : ℕ) (closed : Bool) → turns_by count closed false false ≤ turns_by count closed full early + 2
+anew true true count closed = omega arith
+anew true false count closed = omega arith
+anew false true count closed = omega arith
+anew false false count closed = omega arith
+
+-- a slot, or a switch, lets each input be noted twice more
+slot_turns : (c : Content) (h : List Event) (j : ℕ) → turns_left j (Slot c ∷ h) ≤ turns_left j h + 2
+slot_turns c h j = anew (full_noted j h) (early_noted j h) (length (taken j h)) (is_closed j h)
+
+switch_turns : (number : ℕ) (h : List Event) (j : ℕ) → turns_left j (Switch number ∷ h) ≤ turns_left j h + 2
+switch_turns number h j = anew (full_noted j h) (early_noted j h) (length (taken j h)) (is_closed j h)
 
 one_row : (m n : ℕ) → 0 < m → (m - 1) * (n + 1) + (n + 1) ≡ m * (n + 1)
 one_row zero n l = absurd (omega (arith, l))
@@ -171,28 +212,92 @@ one_row (suc m) n l =
 
 pub fewer_by_slot : (run : Run) (h : List Event) (c : Content) → slots h < run.limit → steps_left run (Slot c ∷ h) < steps_left run h
 fewer_by_slot run h c within =
-    let n = length run.plan.request.inputs in
+    let n = length run.schedule.first.request.inputs in
+    let number = in_force h in
     let sums = sum_more (λ j. turns_left j h) (λ j. turns_left j (Slot c ∷ h)) 0 n (slot_turns c h) in
-    let row = one_row (run.limit - slots h) n (omega (arith, within)) in
-    let less : run.limit - (slots h + 1) ≡ run.limit - slots h - 1 = omega arith in
-    let P : ℕ → Type 0 = λ m. m * (n + 1) + sum_by (λ j. turns_left j (Slot c ∷ h)) (range_with_len 0 n) < steps_left run h in
+    let row = one_row (spans_left run (slots h) (in_force h)) (2 * n) (omega (arith, within)) in
+    let less : spans_left run (slots h + 1) (in_force h) ≡ spans_left run (slots h) (in_force h) - 1 = omega (arith, within) in
+    let P : ℕ → Type 0 = λ m. m * (2 * n + 1) + sum_by (λ j. turns_left j (Slot c ∷ h)) (range_with_len 0 n) < steps_left run h in
     subst P (sym less) (omega (arith, sums, row))
+
+pub fewer_by_switch : (run : Run) (h : List Event) (number : ℕ) → number ≡ in_force h + 1 → number ≤ length run.schedule.later → steps_left run (Switch number ∷ h) < steps_left run h
+fewer_by_switch run h number next within =
+    let n = length run.schedule.first.request.inputs in
+    let sums = sum_more (λ j. turns_left j h) (λ j. turns_left j (Switch number ∷ h)) 0 n (switch_turns number h) in
+    let row = one_row (spans_left run (slots h) (in_force h)) (2 * n) (omega (arith, next, within)) in
+    let less : spans_left run (slots h) number ≡ spans_left run (slots h) (in_force h) - 1 = omega (arith, next, within) in
+    let P : ℕ → Type 0 = λ m. m * (2 * n + 1) + sum_by (λ j. turns_left j (Switch number ∷ h)) (range_with_len 0 n) < steps_left run h in
+    subst P (sym less) (omega (arith, sums, row))
+
+-- The next plan comes into force.
+
+-- what that leaves: the event, and nothing that went out
+pub record IsSwitched (p : ScheduleValue) (old new : History) : Type 0 where
+  pub number : ℕ
+  pub next : number ≡ in_force old.events + 1
+  pub within : number ≤ length p.later
+  pub events : new.events ≡ Switch number ∷ old.events
+  pub out : emitted p new.events ≡ emitted p old.events
+
+pub is_switched : (p : ScheduleValue) (old new : History) → old.run.schedule ≡ p → SendAnswers old sending.Switched new → IsSwitched p old new
+is_switched p old new schedule answer =
+    let due = due_is old.run.schedule old.events answer.1 in
+    let number = in_force old.events + 1 in
+    let events : new.events ≡ Switch number ∷ old.events = ap (λ (v : History). v.events) answer.2 in
+    record {
+      number = number;
+      next = refl;
+      within = omega (arith, due.0, ap (λ (v : ScheduleValue). length v.later) schedule);
+      events = events;
+      out = ap (emitted p) events;
+    }
+
+pub runs_switched : {R : Type 0} (remaining : R → Option (List ℕ)) (run : Run) (limit : InputLimit) (starts : List (Option (List ℕ))) (old : SerialRun R) (mux : History)
+    → IsRunning remaining run limit starts old → SendAnswers old.mux sending.Switched mux → mux.run ≡ old.mux.run → IsRunning remaining run limit starts (record old { mux = mux })
+runs_switched remaining run limit starts old mux is answer same =
+    let p = run.schedule in
+    let switched = is_switched p old.mux mux (ap (λ (v : Run). v.schedule) is.run_is) answer in
+    let F : List Event → Type 0 = λ h. AreFed remaining p h starts old.inputs.items in
+    let A : List (List ℕ) → Type 0 = HasAnalysed old.output p.first.request.rate p.first.request.watch in
+    let T : List Event → Type 0 = λ h. TakesInOrder p h old.inputs.items in
+    record {
+      run_is = same ∙ is.run_is;
+      fed = subst F (sym switched.events) (fed_switch remaining p old.mux.events switched.number starts old.inputs.items is.fed);
+      limited = is.limited;
+      piece = is.piece;
+      in_order = subst T (sym switched.events) is.in_order;
+      needed = subst (TakesAsNeeded run) (sym switched.events) (tt, is.needed);
+      analysed = subst A (sym switched.out) is.analysed;
+    }
+
+pub fewer_switched : (old new : History) → SendAnswers old sending.Switched new → steps_left old.run new.events < steps_left old.run old.events
+fewer_switched old new answer =
+    let switched = is_switched old.run.schedule old new refl answer in
+    let P : List Event → Type 0 = λ h. steps_left old.run h < steps_left old.run old.events in
+    subst P (sym switched.events) (fewer_by_switch old.run old.events switched.number switched.next switched.within)
+
+pub written_switched : (p : ScheduleValue) (old new : History) (before a : Option (List ℕ)) (waiting : List ℕ) → old.run.schedule ≡ p → SendAnswers old sending.Switched new
+    → Sends before a (bytes_of (emitted p old.events)) waiting → Sends before a (bytes_of (emitted p new.events)) waiting
+written_switched p old new before a waiting schedule answer first =
+    let switched = is_switched p old new schedule answer in
+    let P : List ℕ → Type 0 = λ v. Sends before a v waiting in
+    subst P (sym (ap bytes_of switched.out)) first
 
 -- A slot is sent.
 
 -- what it leaves: the event, and the packet that went out
-record IsSent (p : PlanValue) (old new : History) (packet : List ℕ) : Type 0 where
+record IsSent (p : ScheduleValue) (old new : History) (packet : List ℕ) : Type 0 where
   content : Content
   events : new.events ≡ Slot content ∷ old.events
   out : emitted p new.events ≡ emitted p old.events ++ packet ∷ []
 
-is_sent : (p : PlanValue) (old new : History) (packet : List ℕ) → old.run.plan ≡ p → SlotAnswers old (Sent packet) new → IsSent p old new packet
-is_sent p old new packet plan answer =
+is_sent : (p : ScheduleValue) (old new : History) (packet : List ℕ) → old.run.schedule ≡ p → SlotAnswers old (Sent packet) new → IsSent p old new packet
+is_sent p old new packet schedule answer =
     let sent = answer.1 in
     let c = sent.0 in
     let h = old.events in
     let events : new.events ≡ Slot c ∷ h = ap (λ (v : History). v.events) sent.2.0 in
-    let packet_is : packet ≡ packet_behind p h (emitted p h) c = sent.2.1 ∙ ap (λ q. packet_behind q h (emitted q h) c) plan in
+    let packet_is : packet ≡ packet_behind p h (emitted p h) c = sent.2.1 ∙ ap (λ q. packet_behind q h (emitted q h) c) schedule in
     record {
       content = c;
       events = events;
@@ -204,11 +309,11 @@ pub runs_sent : {R : Type 0} (remaining : R → Option (List ℕ)) (run : Run) (
     → ((rate period : ℕ) (sent : List (List ℕ)) → HasAnalysed old.output rate period sent → HasAnalysed output rate period (sent ++ packet ∷ []))
     → IsRunning remaining run limit starts (record old { mux = mux; output = output })
 runs_sent remaining run limit starts old mux output packet is answer same analysed =
-    let p = run.plan in
-    let sent = is_sent p old.mux mux packet (ap (λ (v : Run). v.plan) is.run_is) answer in
+    let p = run.schedule in
+    let sent = is_sent p old.mux mux packet (ap (λ (v : Run). v.schedule) is.run_is) answer in
     let F : List Event → Type 0 = λ h. AreFed remaining p h starts old.inputs.items in
-    let A : List (List ℕ) → Type 0 = HasAnalysed output p.request.rate p.request.watch in
-    let T : List Event → Type 0 = λ h. TakesInOrder h old.inputs.items in
+    let A : List (List ℕ) → Type 0 = HasAnalysed output p.first.request.rate p.first.request.watch in
+    let T : List Event → Type 0 = λ h. TakesInOrder p h old.inputs.items in
     record {
       run_is = same ∙ is.run_is;
       fed = subst F (sym sent.events) (fed_slot remaining p old.mux.events sent.content starts old.inputs.items is.fed);
@@ -216,12 +321,12 @@ runs_sent remaining run limit starts old mux output packet is answer same analys
       piece = is.piece;
       in_order = subst T (sym sent.events) is.in_order;
       needed = subst (TakesAsNeeded run) (sym sent.events) (tt, is.needed);
-      analysed = subst A (sym sent.out) (analysed p.request.rate p.request.watch (emitted p old.mux.events) is.analysed);
+      analysed = subst A (sym sent.out) (analysed p.first.request.rate p.first.request.watch (emitted p old.mux.events) is.analysed);
     }
 
 pub fewer_sent : (old new : History) (packet : List ℕ) → SlotAnswers old (Sent packet) new → steps_left old.run new.events < steps_left old.run old.events
 fewer_sent old new packet answer =
-    let sent = is_sent old.run.plan old new packet refl answer in
+    let sent = is_sent old.run.schedule old new packet refl answer in
     let P : List Event → Type 0 = λ h. steps_left old.run h < steps_left old.run old.events in
     subst P (sym sent.events) (fewer_by_slot old.run old.events sent.content answer.0.within)
 
@@ -237,10 +342,10 @@ bytes_push : (packets : List (List ℕ)) (packet : List ℕ) → bytes_of (packe
 bytes_push packets packet =
     flat_map-append (λ (q : List ℕ). q) packets (packet ∷ []) ∙ ap (λ v. bytes_of packets ++ v) (append-nil packet)
 
-pub written_sent : (p : PlanValue) (old new : History) (packet : List ℕ) (before a b : Option (List ℕ)) (waiting now : List ℕ) → old.run.plan ≡ p → SlotAnswers old (Sent packet) new
+pub written_sent : (p : ScheduleValue) (old new : History) (packet : List ℕ) (before a b : Option (List ℕ)) (waiting now : List ℕ) → old.run.schedule ≡ p → SlotAnswers old (Sent packet) new
     → Sends before a (bytes_of (emitted p old.events)) waiting → Sends a b (waiting ++ packet) now → Sends before b (bytes_of (emitted p new.events)) now
-written_sent p old new packet before a b waiting now plan answer first second =
-    let sent = is_sent p old new packet plan answer in
+written_sent p old new packet before a b waiting now schedule answer first second =
+    let sent = is_sent p old new packet schedule answer in
     let P : List ℕ → Type 0 = λ v. Sends before b v now in
     subst P (sym (ap bytes_of sent.out ∙ bytes_push (emitted p old.events) packet))
     (sends_on before a b (bytes_of (emitted p old.events)) waiting packet now first second)
@@ -251,36 +356,39 @@ written_sent p old new packet before a b waiting now plan answer first second =
 pub needed_of : (run : Run) (i : ℕ) (e : Event) (h : List Event) → IsOfInput i e → WaitsFor run h i → IsNeeded run e h
 needed_of run i (Took j item) h is waits = subst (WaitsFor run h) (sym is) waits
 needed_of run i (Full j st) h is waits = subst (WaitsFor run h) (sym is) waits
+needed_of run i (Early j) h is waits = subst (WaitsFor run h) (sym is) waits
+needed_of run i (Switch number) h is waits = absurd is
 needed_of run i (Close j) h is waits = subst (WaitsFor run h) (sym is) waits
 needed_of run i (Slot c) h is waits = absurd is
 
 pub runs_pulled : {R : Type 0} (remaining : R → Option (List ℕ)) (run : Run) (limit : InputLimit) (starts : List (Option (List ℕ))) (old new : SerialRun R) (between : History) (i : ℕ)
     → IsRunning remaining run limit starts old → slots old.mux.events < old.mux.run.limit → IsLeastUnready old.mux i → between ≡ old.mux → 0 < length new.piece.items → new.output ≡ record old.output { writer = new.output.writer }
     → ((e : Event) × (new.mux ≡ with_event between e) × IsOfInput i e)
-    → ((s : List (Option (List ℕ))) → AreFed remaining between.run.plan between.events s old.inputs.items → AreFed remaining between.run.plan new.mux.events s new.inputs.items)
-    → ((most : InputLimit) (q : PlanValue) → AreLimited most q old.inputs.items → AreLimited most q new.inputs.items)
-    → KeepOrder between.events new.mux.events old.inputs.items new.inputs.items
+    → ((s : List (Option (List ℕ))) → AreFed remaining between.run.schedule between.events s old.inputs.items → AreFed remaining between.run.schedule new.mux.events s new.inputs.items)
+    → ((most : InputLimit) (q : ScheduleValue) → AreLimited most q old.inputs.items → AreLimited most q new.inputs.items)
+    → KeepOrder between.run.schedule between.events new.mux.events old.inputs.items new.inputs.items
     → IsRunning remaining run limit starts new
 runs_pulled remaining run limit starts old new between i is more unready same piece output event fed limited order =
-    let p = run.plan in
+    let p = run.schedule in
     let e = event.0 in
-    let plan : between.run.plan ≡ p = ap (λ (v : History). v.run.plan) same ∙ ap (λ (r : Run). r.plan) is.run_is in
+    let schedule : between.run.schedule ≡ p = ap (λ (v : History). v.run.schedule) same ∙ ap (λ (r : Run). r.schedule) is.run_is in
     let mux : new.mux ≡ with_event old.mux e = event.1 ∙ ap (λ v. with_event v e) same in
     let events : new.mux.events ≡ e ∷ old.mux.events = ap (λ (v : History). v.events) mux in
-    let B : List Event → Type 0 = λ h. AreFed remaining between.run.plan h starts old.inputs.items in
-    let Q : PlanValue → Type 0 = λ q. AreFed remaining q old.mux.events starts old.inputs.items in
-    let N : PlanValue → Type 0 = λ q. AreFed remaining q new.mux.events starts new.inputs.items in
-    let before : AreFed remaining between.run.plan between.events starts old.inputs.items =
-    subst B (sym (ap (λ (v : History). v.events) same)) (subst Q (sym plan) is.fed) in
-    let K : History → Type 0 = λ v. KeepOrder v.events new.mux.events old.inputs.items new.inputs.items in
-    let A : List (List ℕ) → Type 0 = HasAnalysed old.output p.request.rate p.request.watch in
-    let O : SlotWriter → Type 0 = λ w. HasAnalysed w p.request.rate p.request.watch (emitted p new.mux.events) in
+    let B : List Event → Type 0 = λ h. AreFed remaining between.run.schedule h starts old.inputs.items in
+    let Q : ScheduleValue → Type 0 = λ q. AreFed remaining q old.mux.events starts old.inputs.items in
+    let N : ScheduleValue → Type 0 = λ q. AreFed remaining q new.mux.events starts new.inputs.items in
+    let before : AreFed remaining between.run.schedule between.events starts old.inputs.items =
+    subst B (sym (ap (λ (v : History). v.events) same)) (subst Q (sym schedule) is.fed) in
+    let K : History → Type 0 = λ v. KeepOrder v.run.schedule v.events new.mux.events old.inputs.items new.inputs.items in
+    let L : ScheduleValue → Type 0 = λ q. KeepOrder q old.mux.events new.mux.events old.inputs.items new.inputs.items in
+    let A : List (List ℕ) → Type 0 = HasAnalysed old.output p.first.request.rate p.first.request.watch in
+    let O : SlotWriter → Type 0 = λ w. HasAnalysed w p.first.request.rate p.first.request.watch (emitted p new.mux.events) in
     record {
       run_is = ap (λ (v : History). v.run) mux ∙ is.run_is;
-      fed = subst N plan (fed starts before);
+      fed = subst N schedule (fed starts before);
       limited = limited limit p is.limited;
       piece = piece;
-      in_order = λ lists may. (let k = subst K same order lists may in k.1 (is.in_order lists k.0));
+      in_order = λ lists may. (let k = subst L (ap (λ (v : Run). v.schedule) is.run_is) (subst K same order) lists may in k.1 (is.in_order lists k.0));
       needed =
           (let W : Run → Type 0 = λ v. WaitsFor v old.mux.events i in
           subst (TakesAsNeeded run) (sym events) (needed_of run i e old.mux.events event.2 (subst W is.run_is (more, unready)), is.needed));
@@ -291,7 +399,7 @@ runs_pulled remaining run limit starts old new between i is more unready same pi
     }
 
 -- what waited went on, or a beginning of it, and nothing else
-pub written_pulled : (p : PlanValue) (old between new : History) (i : ℕ) (before a b : Option (List ℕ)) (waiting now : List ℕ) → between ≡ old → ((e : Event) × (new ≡ with_event between e) × IsOfInput i e)
+pub written_pulled : (p : ScheduleValue) (old between new : History) (i : ℕ) (before a b : Option (List ℕ)) (waiting now : List ℕ) → between ≡ old → ((e : Event) × (new ≡ with_event between e) × IsOfInput i e)
     → Sends before a (bytes_of (emitted p old.events)) waiting → Sends a b waiting now → Sends before b (bytes_of (emitted p new.events)) now
 written_pulled p old between new i before a b waiting now same event first second =
     let e = event.0 in
@@ -300,7 +408,7 @@ written_pulled p old between new i before a b waiting now same event first secon
     subst P (sym (ap bytes_of (ap (emitted p) events ∙ emitted_same p i e old.events event.2)))
     (first.0 ++ second.0, appends_on before a b first.0 second.0 first.1 second.1, first.2 ∙ ap (λ v. first.0 ++ v) second.2 ∙ sym (append_assoc first.0 second.0 now))
 
-pub begun_pulled : (p : PlanValue) (old new : History) (before a b : Option (List ℕ)) (waiting : List ℕ) → new ≡ old
+pub begun_pulled : (p : ScheduleValue) (old new : History) (before a b : Option (List ℕ)) (waiting : List ℕ) → new ≡ old
     → Sends before a (bytes_of (emitted p old.events)) waiting → SendsBeginning a b waiting → SendsBeginning before b (bytes_of (emitted p new.events))
 begun_pulled p old new before a b waiting same first second =
     let P : History → Type 0 = λ v. SendsBeginning before b (bytes_of (emitted p v.events)) in
@@ -308,7 +416,7 @@ begun_pulled p old new before a b waiting same first second =
     subst P (sym same)
     (second.0, (first.0 ++ s.0, appends_on before a b first.0 s.0 first.1 s.1, first.2 ∙ ap (λ v. first.0 ++ v) s.2 ∙ sym (append_assoc first.0 s.0 second.0)))
 
-pub fewer_pulled : (old between new : History) (i : ℕ) → between ≡ old → i < length old.run.plan.request.inputs → ((e : Event) × (new ≡ with_event between e) × IsOfInput i e)
+pub fewer_pulled : (old between new : History) (i : ℕ) → between ≡ old → i < length old.run.schedule.first.request.inputs → ((e : Event) × (new ≡ with_event between e) × IsOfInput i e)
     → turns_left i new.events < turns_left i between.events → steps_left old.run new.events < steps_left old.run old.events
 fewer_pulled old between new i same l event less =
     let e = event.0 in
@@ -326,8 +434,8 @@ consumed (Some first) None bytes all e used = absurd used
 consumed (Some first) (Some more) bytes all e used = (more, sym (same_Some first all e) ∙ used)
 
 -- what was taken of an input begins what can be taken of it
-pub begun_one : {R : Type 0} (remaining : R → Option (List ℕ)) (p : PlanValue) (h : List Event) (i : ℕ) (input : InputValue) (start : Option (List ℕ)) (all : List ℕ) (x : SerialInput R)
-    → slice_get p.request.inputs i ≡ Some input → start ≡ Some all → HasGiven remaining p i start x (taken i h)
+pub begun_one : {R : Type 0} (remaining : R → Option (List ℕ)) (p : ScheduleValue) (h : List Event) (i : ℕ) (input : InputValue) (start : Option (List ℕ)) (all : List ℕ) (x : SerialInput R)
+    → slice_get p.first.request.inputs i ≡ Some input → start ≡ Some all → HasGiven remaining p i start x (taken i h)
     → (later : List Stamped) × (taken i h ++ later ≡ takeable p (origin_of i input) (framed_at (origin_of i input) all))
 begun_one remaining p h i input start all x at known has =
     let o = has.origin in
@@ -337,54 +445,55 @@ begun_one remaining p h i input start all x at known has =
     let same : o.0 ≡ input = same_Some o.0 input (sym o.1 ∙ at) in
     (later.0, later.1 ∙ ap (λ v. takeable p v (framed_at v (b.0 ++ more.0))) (o.3 ∙ ap (origin_of i) same) ∙ ap (λ v. takeable p (origin_of i input) (framed_at (origin_of i input) v)) (sym more.1))
 
-pub begun : {R : Type 0} (remaining : R → Option (List ℕ)) (p : PlanValue) (h : List Event) (starts : List (Option (List ℕ))) (inputs : List (SerialInput R)) → AreFed remaining p h starts inputs → AreBegun p h starts
+pub begun : {R : Type 0} (remaining : R → Option (List ℕ)) (p : ScheduleValue) (h : List Event) (starts : List (Option (List ℕ))) (inputs : List (SerialInput R)) → AreFed remaining p h starts inputs → AreBegun p h starts
 begun remaining p h starts inputs fed i input all at start =
     elim (slice_get_cases inputs i).1 [
       | inl found ↦
           (let f = fed.each i found.0 found.2 in
           begun_one remaining p h i input f.0 all found.0 at (same_Some f.0 (Some all) (sym f.1 ∙ start)) f.2.given)
-      | inr past ↦ absurd (omega (arith, slice_get_within p.request.inputs i input at, past.0, fed.count))
+      | inr past ↦ absurd (omega (arith, slice_get_within p.first.request.inputs i input at, past.0, fed.count))
     ]
 
 -- what a slot leaves of the inputs
-pub fed_sent : {R : Type 0} (remaining : R → Option (List ℕ)) (p : PlanValue) (old new : History) (packet : List ℕ) (starts : List (Option (List ℕ))) (inputs : List (SerialInput R))
+pub fed_sent : {R : Type 0} (remaining : R → Option (List ℕ)) (p : ScheduleValue) (old new : History) (packet : List ℕ) (starts : List (Option (List ℕ))) (inputs : List (SerialInput R))
     → SlotAnswers old (Sent packet) new → AreFed remaining p old.events starts inputs → AreFed remaining p new.events starts inputs
 fed_sent remaining p old new packet starts inputs answer fed =
-    let sent = is_sent old.run.plan old new packet refl answer in
+    let sent = is_sent old.run.schedule old new packet refl answer in
     let P : List Event → Type 0 = λ h. AreFed remaining p h starts inputs in
     subst P (sym sent.events) (fed_slot remaining p old.events sent.content starts inputs fed)
 
-pub order_sent : {R : Type 0} (old new : History) (packet : List ℕ) (inputs : List (SerialInput R)) → SlotAnswers old (Sent packet) new → TakesInOrder old.events inputs → TakesInOrder new.events inputs
-order_sent old new packet inputs answer is =
-    let sent = is_sent old.run.plan old new packet refl answer in
-    let P : List Event → Type 0 = λ h. TakesInOrder h inputs in
+pub order_sent : {R : Type 0} (p : ScheduleValue) (old new : History) (packet : List ℕ) (inputs : List (SerialInput R)) → SlotAnswers old (Sent packet) new → TakesInOrder p old.events inputs → TakesInOrder p new.events inputs
+order_sent p old new packet inputs answer is =
+    let sent = is_sent old.run.schedule old new packet refl answer in
+    let P : List Event → Type 0 = λ h. TakesInOrder p h inputs in
     subst P (sym sent.events) is
 
 pub needed_sent : (run : Run) (old new : History) (packet : List ℕ) → SlotAnswers old (Sent packet) new → TakesAsNeeded run old.events → TakesAsNeeded run new.events
 needed_sent run old new packet answer is =
-    let sent = is_sent old.run.plan old new packet refl answer in
+    let sent = is_sent old.run.schedule old new packet refl answer in
     subst (TakesAsNeeded run) (sym sent.events) (tt, is)
 
 -- what went out is a beginning
-pub sent_begun : (p : PlanValue) (old new : History) (packet : List ℕ) (before a b : Option (List ℕ)) (waiting : List ℕ) → old.run.plan ≡ p → SlotAnswers old (Sent packet) new
+pub sent_begun : (p : ScheduleValue) (old new : History) (packet : List ℕ) (before a b : Option (List ℕ)) (waiting : List ℕ) → old.run.schedule ≡ p → SlotAnswers old (Sent packet) new
     → Sends before a (bytes_of (emitted p old.events)) waiting → SendsBeginning a b (waiting ++ packet) → SendsBeginning before b (bytes_of (emitted p new.events))
-sent_begun p old new packet before a b waiting plan answer first second = (second.0, written_sent p old new packet before a b waiting second.0 plan answer first second.1)
+sent_begun p old new packet before a b waiting schedule answer first second = (second.0, written_sent p old new packet before a b waiting second.0 schedule answer first second.1)
 
 -- where no slot is sent nothing changes
-pub unsent_stays : (old : History) (answer : Sending) (new : History) → (answer ≡ sending.Sent → ⊥) → SendAnswers old answer new → new ≡ old
-unsent_stays old sending.Sent new unsent is = absurd (unsent refl)
-unsent_stays old (sending.NotReady i) new unsent is = is.0
-unsent_stays old sending.Done new unsent is = is.0
-unsent_stays old sending.RunFull new unsent is = is.0
-unsent_stays old sending.Memory new unsent is = is.0
+pub unsent_stays : (old : History) (answer : Sending) (new : History) → (answer ≡ sending.Sent → ⊥) → (answer ≡ sending.Switched → ⊥) → SendAnswers old answer new → new ≡ old
+unsent_stays old sending.Sent new unsent unswitched is = absurd (unsent refl)
+unsent_stays old sending.Switched new unsent unswitched is = absurd (unswitched refl)
+unsent_stays old (sending.NotReady i) new unsent unswitched is = is.0
+unsent_stays old sending.Done new unsent unswitched is = is.0
+unsent_stays old sending.RunFull new unsent unswitched is = is.0
+unsent_stays old sending.Memory new unsent unswitched is = is.0
 
 -- The buffer is written at the end.
 
 pub runs_flushed : {R : Type 0} (remaining : R → Option (List ℕ)) (run : Run) (limit : InputLimit) (starts : List (Option (List ℕ))) (old : SerialRun R) (output : SlotWriter)
     → IsRunning remaining run limit starts old → output ≡ record old.output { writer = [] } → IsRunning remaining run limit starts (record old { output = output })
 runs_flushed remaining run limit starts old output is same =
-    let p = run.plan in
-    let O : SlotWriter → Type 0 = λ w. HasAnalysed w p.request.rate p.request.watch (emitted p old.mux.events) in
+    let p = run.schedule in
+    let O : SlotWriter → Type 0 = λ w. HasAnalysed w p.first.request.rate p.first.request.watch (emitted p old.mux.events) in
     let a = is.analysed in
     record {
       run_is = is.run_is;

@@ -1,7 +1,8 @@
 -- What is said of inputs at a run's end (profile).
 use Rattle.std.specs.Prelude.{◌≡◌, ℕ, List, length, map, Some, None, IsSome, true, false}
 use Rattle.std.specs.List.{slice_get}
-use Rattle.plan.specs.Build.{PlanValue}
+use Rattle.schedule.specs.Schedule.{ScheduleValue}
+use Rattle.schedule.specs.Streams.{all_streams}
 use Rattle.mux.specs.declared.event.Event.{Event}
 use Rattle.request.specs.declared.stream.Stream.{Stream}
 use Rattle.mux.specs.Totals.{IsTotals}
@@ -19,15 +20,15 @@ pub record IsLast {R : Type 0} (x : SerialInput R) (report : Report) : Type 0 wh
   pub stopped : IsSome x.reader.report.stopped → report ≡ x.reader.report
 
 -- each input's report and totals
-pub record AreReported {R : Type 0} (p : PlanValue) (h : List Event) (inputs : List (SerialInput R)) (summaries : List InputSummary) (sources : List R) : Type 0 where
+pub record AreReported {R : Type 0} (schedule : ScheduleValue) (h : List Event) (inputs : List (SerialInput R)) (summaries : List InputSummary) (sources : List R) : Type 0 where
   pub length_is : length summaries ≡ length inputs
   pub sources_are : sources ≡ map (λ x. x.reader.stream.source) inputs
-  pub totals : (i : ℕ) (s : InputSummary) → slice_get summaries i ≡ Some s → IsTotals p i h s.totals
+  pub totals : (i : ℕ) (s : InputSummary) → slice_get summaries i ≡ Some s → IsTotals schedule i h s.totals
   pub reports : (i : ℕ) (x : SerialInput R) (s : InputSummary)
       → slice_get inputs i ≡ Some x → slice_get summaries i ≡ Some s → IsLast x s.report
 
--- each stream's largest delay and fullest queue, in the plan's order
-pub record ArePeaks (p : PlanValue) (h : List Event) (peaks : List Peak) : Type 0 where
-  pub length_is : length peaks ≡ length p.request.streams
+-- each stream's largest delay and fullest queue, in the schedule's order
+pub record ArePeaks (schedule : ScheduleValue) (h : List Event) (peaks : List Peak) : Type 0 where
+  pub length_is : length peaks ≡ length (all_streams schedule)
   pub each : (k : ℕ) (st : Stream) (x : Peak)
-      → slice_get p.request.streams k ≡ Some st → slice_get peaks k ≡ Some x → IsPeak p h st x
+      → slice_get (all_streams schedule) k ≡ Some st → slice_get peaks k ≡ Some x → IsPeak schedule h st x

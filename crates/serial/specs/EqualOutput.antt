@@ -1,4 +1,4 @@
--- What a run writes follows from its plan and the bytes of its inputs, not from how these are read in turn (profile).
+-- What a run writes follows from its schedule and the bytes of its inputs, not from how these are read in turn (profile).
 use Rattle.std.specs.Prelude.{◌≡◌, ℕ, List, ◌++◌, Option}
 use Rattle.std.specs.Io.KnownBytes.{Appends}
 use Rattle.mux.specs.declared.event.Event.{Event}
@@ -24,31 +24,31 @@ pub record HasRunUnfailed (h : History) (starts : List (Option (List ℕ))) (bef
 abbrev pub GotTheSame : Option (List ℕ) → Option (List ℕ) → Option (List ℕ) → Option (List ℕ) → Type 0
 GotTheSame before after old new = (bytes : List ℕ) × Appends before after bytes × Appends old new bytes
 
--- Equal inputs give equal bytes: two such runs of one plan, for as many slots, over the same bytes send the same packets, and
+-- Equal inputs give equal bytes: two such runs of one schedule, for as many slots, over the same bytes send the same packets, and
 -- their writers get the same bytes.
 abbrev pub EqualInputsGiveEqualBytes : Type 0
 EqualInputsGiveEqualBytes =
     (h g : History) (starts : List (Option (List ℕ))) (before after old new : Option (List ℕ)) (s t : Summary)
     → h.run ≡ g.run → HasRunUnfailed h starts before after s → HasRunUnfailed g starts old new t
-    → (emitted h.run.plan h.events ≡ emitted g.run.plan g.events) × GotTheSame before after old new
+    → (emitted h.run.schedule h.events ≡ emitted g.run.schedule g.events) × GotTheSame before after old new
 
--- What such a run writes are the packets of every lawful history over its plan that takes the inputs' packets in their order
+-- What such a run writes are the packets of every lawful history over its schedule that takes the inputs' packets in their order
 -- and is finished at the run's slots.
 abbrev pub BytesAreOfEveryHistory : Type 0
 BytesAreOfEveryHistory =
     (h : History) (starts : List (Option (List ℕ))) (before after : Option (List ℕ)) (s : Summary) (other : List Event)
     → HasRunUnfailed h starts before after s
-    → IsRunOf h.run.plan (packet_lists h.run.plan starts) other → IsFinished h.run.plan h.run.limit other
-    → Appends before after (bytes_of (emitted h.run.plan other))
+    → IsRunOf h.run.schedule (packet_lists h.run.schedule starts) other → IsFinished h.run.schedule h.run.limit other
+    → Appends before after (bytes_of (emitted h.run.schedule other))
 
 -- A run of sources whose bytes are known failed, and nothing but want of memory stopped an input: it began to write the packets
 -- of a sound history that takes the inputs' packets in their order.
 pub record HasBegunUnfailed (h : History) (starts : List (Option (List ℕ))) (before after : Option (List ℕ)) : Type 0 where
   pub sound : IsSound h
-  pub faithful : IsFaithful (packet_lists h.run.plan starts) h.events
-  pub written : SendsBeginning before after (bytes_of (emitted h.run.plan h.events))
+  pub faithful : IsFaithful h.run.schedule (packet_lists h.run.schedule starts) h.events
+  pub written : SendsBeginning before after (bytes_of (emitted h.run.schedule h.events))
 
--- What such a run wrote begins what each run of the same plan, for as many slots, over the same bytes writes that ends by itself,
+-- What such a run wrote begins what each run of the same schedule, for as many slots, over the same bytes writes that ends by itself,
 -- where nothing but its end stopped an input.
 abbrev pub BegunBytesBeginTheOutput : Type 0
 BegunBytesBeginTheOutput =

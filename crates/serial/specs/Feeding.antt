@@ -6,11 +6,12 @@ use Rattle.tspkt.specs.declared.framer.TheConstants.{MAX_LIMIT}
 use Rattle.tspkt.specs.declared.stamped.Stamped.{Stamped}
 use Rattle.request.specs.Request.{InputValue, IsInput}
 use Rattle.request.specs.declared.stream.Stream.{Stream}
-use Rattle.plan.specs.Build.{PlanValue}
+use Rattle.schedule.specs.Schedule.{ScheduleValue}
 use Rattle.mux.specs.declared.event.Event.{Event}
-use Rattle.mux.specs.declared.event.Event.TheVariants.{Took, Full, Close, Slot}
-use Rattle.mux.specs.History.{History, with_event, is_mapped_to, taken, is_closed, full_noted}
-use Rattle.mux.specs.Lawful.{Refusal, refusal_of}
+use Rattle.mux.specs.declared.event.Event.TheVariants.{Took, Full, Early, Close, Slot, Switch}
+use Rattle.schedule.specs.Streams.{all_streams}
+use Rattle.mux.specs.History.{History, with_event, is_mapped_to, taken, is_closed, full_noted, early_noted}
+use Rattle.mux.specs.Lawful.{refusal_of, is_early}
 use Rattle.mux.specs.Lawful as refusals
 use Rattle.mux.specs.Faithful.{PacketLists}
 use Rattle.reading.specs.Takeable.{OriginValue, origin_of, framed_at, takeable, EndsAtTaken}
@@ -21,17 +22,17 @@ use Rattle.reading.specs.declared.stop.Stop.{Stop}
 use Rattle.reading.specs.declared.stop.Stop.TheVariants.{Gate, Memory}
 use Rattle.serial.specs.declared.serial_input.SerialInput.{SerialInput}
 
--- where the packets of the plan's input i come from
-abbrev pub IsOrigin : PlanValue → ℕ → OriginValue → Type 0
-IsOrigin p i origin =
-    (input : InputValue) × (slice_get p.request.inputs i ≡ Some input) × IsInput input × (origin ≡ origin_of i input)
+-- where the packets of the schedule's input i come from
+abbrev pub IsOrigin : ScheduleValue → ℕ → OriginValue → Type 0
+IsOrigin schedule i origin =
+    (input : InputValue) × (slice_get schedule.first.request.inputs i ≡ Some input) × IsInput input × (origin ≡ origin_of i input)
 
 -- The input gave these packets, of a source that had these bytes to give at first. It has read some of them, and has looked at
 -- some of the items that were told of those.
-pub record HasGiven {R : Type 0} (remaining : R → Option (List ℕ)) (p : PlanValue) (i : ℕ) (start : Option (List ℕ)) (x : SerialInput R) (given : List Stamped) : Type 0 where
-  pub origin : IsOrigin p i x.reader.origin
+pub record HasGiven {R : Type 0} (remaining : R → Option (List ℕ)) (schedule : ScheduleValue) (i : ℕ) (start : Option (List ℕ)) (x : SerialInput R) (given : List Stamped) : Type 0 where
+  pub origin : IsOrigin schedule i x.reader.origin
   pub limit : x.reader.stream.items.limit ≤ MAX_LIMIT
-  pub read : (bytes : List ℕ) × Consumes start (remaining x.reader.stream.source) bytes × HasRead remaining p x.reader bytes given
+  pub read : (bytes : List ℕ) × Consumes start (remaining x.reader.stream.source) bytes × HasRead remaining schedule x.reader bytes given
 
 -- What stopped an input, if anything, came of the input: the run didn't leave it, and had memory for it.
 pub record IsOwnStop (stopped : Option Stop) : Type 0 where
@@ -41,28 +42,28 @@ pub record IsOwnStop (stopped : Option Stop) : Type 0 where
 -- The multiplex took just the packets that the input gave; it was closed in the multiplex where the input says so, which is
 -- where nothing is left of it; and nothing stopped it but its own fault. Of one that is open no item was looked at behind the
 -- last packet that was taken or is held.
-pub record Feeds {R : Type 0} (remaining : R → Option (List ℕ)) (p : PlanValue) (h : List Event) (i : ℕ) (start : Option (List ℕ)) (x : SerialInput R) : Type 0 where
-  pub given : HasGiven remaining p i start x (taken i h)
+pub record Feeds {R : Type 0} (remaining : R → Option (List ℕ)) (schedule : ScheduleValue) (h : List Event) (i : ℕ) (start : Option (List ℕ)) (x : SerialInput R) : Type 0 where
+  pub given : HasGiven remaining schedule i start x (taken i h)
   pub closed : x.is_closed ≡ is_closed i h
   pub over : x.is_closed ≡ true → IsSpent x.reader
   pub own : IsOwnStop x.reader.report.stopped
-  pub stands : x.is_closed ≡ false → EndsAtTaken p x.reader.origin given.read.2.0
+  pub stands : x.is_closed ≡ false → EndsAtTaken schedule x.reader.origin given.read.2.0
 
 -- The same of an input that may have been given up for want of memory, wherever it was looked at.
-pub record HasFed {R : Type 0} (remaining : R → Option (List ℕ)) (p : PlanValue) (h : List Event) (i : ℕ) (start : Option (List ℕ)) (x : SerialInput R) : Type 0 where
-  pub given : HasGiven remaining p i start x (taken i h)
+pub record HasFed {R : Type 0} (remaining : R → Option (List ℕ)) (schedule : ScheduleValue) (h : List Event) (i : ℕ) (start : Option (List ℕ)) (x : SerialInput R) : Type 0 where
+  pub given : HasGiven remaining schedule i start x (taken i h)
   pub closed : x.is_closed ≡ is_closed i h
   pub over : x.is_closed ≡ true → IsSpent x.reader
 
 -- the packets that an input gives, as far as the bytes of its source are known
-abbrev pub packet_list : PlanValue → ℕ → Option InputValue → Option (Option (List ℕ)) → List Stamped
-packet_list p i (Some input) (Some (Some all)) = takeable p (origin_of i input) (framed_at (origin_of i input) all)
-packet_list p i (Some input) (Some None) = []
-packet_list p i (Some input) None = []
-packet_list p i None start = []
+abbrev pub packet_list : ScheduleValue → ℕ → Option InputValue → Option (Option (List ℕ)) → List Stamped
+packet_list schedule i (Some input) (Some (Some all)) = takeable schedule (origin_of i input) (framed_at (origin_of i input) all)
+packet_list schedule i (Some input) (Some None) = []
+packet_list schedule i (Some input) None = []
+packet_list schedule i None start = []
 
-abbrev pub packet_lists : PlanValue → List (Option (List ℕ)) → PacketLists
-packet_lists p starts i = packet_list p i (slice_get p.request.inputs i) (slice_get starts i)
+abbrev pub packet_lists : ScheduleValue → List (Option (List ℕ)) → PacketLists
+packet_lists schedule starts i = packet_list schedule i (slice_get schedule.first.request.inputs i) (slice_get starts i)
 
 -- the bytes of all sources are known
 abbrev pub AreKnown : List (Option (List ℕ)) → Type 0
@@ -72,38 +73,47 @@ AreKnown starts = (i : ℕ) (start : Option (List ℕ)) → slice_get starts i �
 abbrev pub AreUnrefused : {R : Type 0} → List (SerialInput R) → Type 0
 AreUnrefused {R} inputs = (i : ℕ) (x : SerialInput R) → slice_get inputs i ≡ Some x → x.reader.report.stopped ≡ Some Memory → ⊥
 
--- each of the plan's inputs may have so many bytes at its format, at most
-abbrev pub AreLimited : {R : Type 0} → InputLimit → PlanValue → List (SerialInput R) → Type 0
-AreLimited {R} limit p inputs =
-    (i : ℕ) (input : InputValue) (x : SerialInput R) → slice_get p.request.inputs i ≡ Some input → slice_get inputs i ≡ Some x
+-- each of the schedule's inputs may have so many bytes at its format, at most
+abbrev pub AreLimited : {R : Type 0} → InputLimit → ScheduleValue → List (SerialInput R) → Type 0
+AreLimited {R} limit schedule inputs =
+    (i : ℕ) (input : InputValue) (x : SerialInput R) → slice_get schedule.first.request.inputs i ≡ Some input → slice_get inputs i ≡ Some x
     → x.reader.stream.items.limit ≡ limit_of_input limit input.format
 
 -- the event is one of the input
 abbrev pub IsOfInput : ℕ → Event → Type 0
 IsOfInput i (Took j item) = j ≡ i
 IsOfInput i (Full j st) = j ≡ i
+IsOfInput i (Early j) = j ≡ i
 IsOfInput i (Close j) = j ≡ i
 IsOfInput i (Slot c) = ⊥
+IsOfInput i (Switch number) = ⊥
 
--- nothing is against the item, but that the queue of its stream may be full
-abbrev pub MayBeTaken : PlanValue → List Event → ℕ → Stamped → Type 0
-MayBeTaken p h i item = (refusal_of p h i item ≡ None) ⊎ (refusal_of p h i item ≡ Some refusals.Full)
+-- nothing is against the item, but that it may belong to a later plan, or the queue of its stream may be full
+abbrev pub MayBeTaken : ScheduleValue → List Event → ℕ → Stamped → Type 0
+MayBeTaken schedule h i item =
+    (refusal_of schedule h i item ≡ None) ⊎ (refusal_of schedule h i item ≡ Some refusals.Early) ⊎ (refusal_of schedule h i item ≡ Some refusals.Full)
 
--- the item of input i goes to the stream with this number
-abbrev pub GoesTo : PlanValue → ℕ → Stamped → ℕ → Type 0
-GoesTo p i item number =
-    (st : Stream) × (slice_get p.request.streams number ≡ Some st) × (is_mapped_to st i item ≡ true)
+-- the item of input i goes to the stream at this place of the schedule, by the plan that it belongs to
+abbrev pub GoesTo : ScheduleValue → ℕ → Stamped → ℕ → Type 0
+GoesTo schedule i item place =
+    (st : Stream) × (slice_get (all_streams schedule) place ≡ Some st) × (is_mapped_to schedule st i item ≡ true)
 
--- how often the multiplex may still turn to the input before a slot is sent, at most: no input has more packets than bytes
+-- nothing was noted of the input since the last slot or switch
+abbrev pub IsUnnoted : ℕ → List Event → Type 0
+IsUnnoted i h = (full_noted i h ≡ false) × (early_noted i h ≡ false)
+
+-- how often the multiplex may still turn to the input before a slot is sent or the next plan comes, at most: no input has more packets than bytes
 abbrev pub turns_left : ℕ → List Event → ℕ
 turns_left i h =
-    (MAX_LIMIT - length (taken i h)) + (if is_closed i h then 0 else 1) + (if full_noted i h then 0 else 1)
+    (MAX_LIMIT - length (taken i h)) + (if is_closed i h then 0 else 1) + (if full_noted i h then 0 else 1) + (if early_noted i h then 0 else 1)
 
--- The item that the input held was taken of it, or is still held, where the queue of its stream was found full.
+-- The item that the input held was taken of it, or is still held, where the queue of its stream was found full, or it belongs to a
+-- later plan.
 abbrev pub IsGivenOrHeld : {R : Type 0} → History → History → ℕ → SerialInput R → SerialInput R → Stamped → Type 0
 IsGivenOrHeld before after i old new item =
     ((after ≡ with_event before (Took i item)) × (new ≡ record old { reader = record old.reader { held = None } }))
-    ⊎ ((st : Stream) × (after ≡ with_event before (Full i st)) × (new ≡ old) × (is_mapped_to st i item ≡ true))
+    ⊎ ((st : Stream) × (after ≡ with_event before (Full i st)) × (new ≡ old) × (is_mapped_to before.run.schedule st i item ≡ true))
+    ⊎ ((after ≡ with_event before (Early i)) × (new ≡ old) × (is_early before.run.schedule before.events item ≡ true))
 
 -- the failures of all inputs are told
 abbrev pub AllTellFailures : {R : Type 0} → (R → ℕ) → List ℕ → List (SerialInput R) → Type 0

@@ -5,7 +5,7 @@ use Rattle.std.specs.Option.{option_to_list}
 use Rattle.std.specs.Io.KnownBytes.{Consumes}
 use Rattle.tspkt.specs.declared.stamped.Stamped.{Stamped}
 use Rattle.request.specs.Request.{InputValue}
-use Rattle.plan.specs.Build.{PlanValue}
+use Rattle.schedule.specs.Schedule.{ScheduleValue}
 use Rattle.mux.specs.declared.event.Event.{Event}
 use Rattle.mux.specs.History.{taken}
 use Rattle.mux.specs.Faithful.{PacketLists, IsFaithful, IsPrefix}
@@ -26,31 +26,31 @@ abbrev pub MayBeGiven : {R : Type 0} → List Event → List (SerialInput R) →
 MayBeGiven {R} h inputs lists = (i : ℕ) (x : SerialInput R) → slice_get inputs i ≡ Some x → MayGive x (taken i h) (lists i)
 
 -- The history takes each input's packets in their order, whatever more comes of them.
-abbrev pub TakesInOrder : {R : Type 0} → List Event → List (SerialInput R) → Type 0
-TakesInOrder {R} h inputs = (lists : PacketLists) → MayBeGiven h inputs lists → IsFaithful lists h
+abbrev pub TakesInOrder : {R : Type 0} → ScheduleValue → List Event → List (SerialInput R) → Type 0
+TakesInOrder {R} schedule h inputs = (lists : PacketLists) → MayBeGiven h inputs lists → IsFaithful schedule lists h
 
 -- A turn of input i takes of it in order: what may be given behind the turn may be given before it.
-abbrev pub KeepsOrder : {R : Type 0} → ℕ → List Event → List Event → SerialInput R → SerialInput R → Type 0
-KeepsOrder {R} i old new x y =
+abbrev pub KeepsOrder : {R : Type 0} → ScheduleValue → ℕ → List Event → List Event → SerialInput R → SerialInput R → Type 0
+KeepsOrder {R} schedule i old new x y =
     (lists : PacketLists) → MayGive y (taken i new) (lists i)
-    → MayGive x (taken i old) (lists i) × (IsFaithful lists old → IsFaithful lists new)
+    → MayGive x (taken i old) (lists i) × (IsFaithful schedule lists old → IsFaithful schedule lists new)
 
 -- the same among all inputs
-abbrev pub KeepOrder : {R : Type 0} → List Event → List Event → List (SerialInput R) → List (SerialInput R) → Type 0
-KeepOrder {R} old new xs ys =
-    (lists : PacketLists) → MayBeGiven new ys lists → MayBeGiven old xs lists × (IsFaithful lists old → IsFaithful lists new)
+abbrev pub KeepOrder : {R : Type 0} → ScheduleValue → List Event → List Event → List (SerialInput R) → List (SerialInput R) → Type 0
+KeepOrder {R} schedule old new xs ys =
+    (lists : PacketLists) → MayBeGiven new ys lists → MayBeGiven old xs lists × (IsFaithful schedule lists old → IsFaithful schedule lists new)
 
 -- Input i gives these packets: all that can be taken of its bytes; where a read failed, those of the bytes that were read; where
 -- it is too long, some of the first.
-pub record Gives (p : PlanValue) (starts lefts : List (Option (List ℕ))) (stops : List (Option Stop)) (i : ℕ) (packets : List Stamped) : Type 0 where
-  pub whole : (slice_get stops i ≡ Some (Some ReadFailed) → ⊥) → (slice_get stops i ≡ Some (Some TooMuch) → ⊥) → packets ≡ packet_lists p starts i
+pub record Gives (schedule : ScheduleValue) (starts lefts : List (Option (List ℕ))) (stops : List (Option Stop)) (i : ℕ) (packets : List Stamped) : Type 0 where
+  pub whole : (slice_get stops i ≡ Some (Some ReadFailed) → ⊥) → (slice_get stops i ≡ Some (Some TooMuch) → ⊥) → packets ≡ packet_lists schedule starts i
   pub failed : slice_get stops i ≡ Some (Some ReadFailed) → (input : InputValue) (start left : Option (List ℕ)) (bytes : List ℕ)
-      → slice_get p.request.inputs i ≡ Some input → slice_get starts i ≡ Some start → slice_get lefts i ≡ Some left → Consumes start left bytes
-      → packets ≡ takeable p (origin_of i input) (framed_at (origin_of i input) bytes)
-  pub begins : IsPrefix packets (packet_lists p starts i)
+      → slice_get schedule.first.request.inputs i ≡ Some input → slice_get starts i ≡ Some start → slice_get lefts i ≡ Some left → Consumes start left bytes
+      → packets ≡ takeable schedule (origin_of i input) (framed_at (origin_of i input) bytes)
+  pub begins : IsPrefix packets (packet_lists schedule starts i)
 
 -- The history takes what the inputs give, each input's packets in their order. These bytes were to be read of them, these were
 -- left, and this stopped them, if anything.
-abbrev pub TakesWhatIsGiven : PlanValue → List (Option (List ℕ)) → List (Option (List ℕ)) → List (Option Stop) → List Event → Type 0
-TakesWhatIsGiven p starts lefts stops h =
-    (lists : PacketLists) × ((i : ℕ) → Gives p starts lefts stops i (lists i)) × IsFaithful lists h
+abbrev pub TakesWhatIsGiven : ScheduleValue → List (Option (List ℕ)) → List (Option (List ℕ)) → List (Option Stop) → List Event → Type 0
+TakesWhatIsGiven schedule starts lefts stops h =
+    (lists : PacketLists) × ((i : ℕ) → Gives schedule starts lefts stops i (lists i)) × IsFaithful schedule lists h

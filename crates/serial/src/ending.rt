@@ -1,6 +1,7 @@
 //! What is said of a run at its end.
 
 ghost use Rattle.std.specs.Prelude.{◌≡◌, length, IfOk};
+ghost use Rattle.schedule.specs.Streams.{all_streams};
 ghost use Rattle.mux.specs.Totals.{IsCounts};
 ghost use Rattle.serial.specs.Ending.{AreReported, ArePeaks};
 
@@ -17,8 +18,8 @@ pub(crate) fn end_inputs<R: Source + Drop>(
     mux: &Mux,
     inputs: Vec<SerialInput<R>>,
 ) -> Result<(Vec<InputSummary>, Vec<R>), AllocError>
-    requires { length inputs.items ≡ length mux.now.run.plan.request.inputs }
-    ensures { IfOk result (λ done. AreReported mux.now.run.plan mux.now.events inputs.items done.0.items done.1.items) }
+    requires { length inputs.items ≡ length mux.now.run.schedule.first.request.inputs }
+    ensures { IfOk result (λ done. AreReported mux.now.run.schedule mux.now.events inputs.items done.0.items done.1.items) }
 {
     let mut summaries = Vec::new(alloc);
     let mut sources = Vec::new(alloc);
@@ -33,10 +34,10 @@ pub(crate) fn end_inputs<R: Source + Drop>(
     Ok((summaries, sources))
 }
 
-/// The largest delay and the fullest queue of each of so many streams, which are those of the plan.
+/// The largest delay and the fullest queue of each of so many streams, which are those of the schedule.
 pub(crate) fn end_streams(alloc: Global, mux: &Mux, streams: usize) -> Result<Vec<Peak>, AllocError>
-    requires { streams ≡ length mux.now.run.plan.request.streams }
-    ensures { IfOk result (λ peaks. ArePeaks mux.now.run.plan mux.now.events peaks.items) }
+    requires { streams ≡ length (all_streams mux.now.run.schedule) }
+    ensures { IfOk result (λ peaks. ArePeaks mux.now.run.schedule mux.now.events peaks.items) }
 {
     let mut peaks = Vec::new(alloc);
     for stream in 0..streams {
@@ -52,14 +53,14 @@ pub(crate) fn end_run<R: Source + Drop>(
     inputs: Vec<SerialInput<R>>,
     output: SlotWriter,
 ) -> Result<(Summary, Vec<R>), AllocError>
-    requires { length inputs.items ≡ length mux.now.run.plan.request.inputs }
-    ensures inputs { IfOk result (λ done. AreReported mux.now.run.plan mux.now.events inputs.items done.0.inputs.items done.1.items) }
-    ensures streams { IfOk result (λ done. ArePeaks mux.now.run.plan mux.now.events done.0.streams.items) }
+    requires { length inputs.items ≡ length mux.now.run.schedule.first.request.inputs }
+    ensures inputs { IfOk result (λ done. AreReported mux.now.run.schedule mux.now.events inputs.items done.0.inputs.items done.1.items) }
+    ensures streams { IfOk result (λ done. ArePeaks mux.now.run.schedule mux.now.events done.0.streams.items) }
     ensures counts { IfOk result (λ done. IsCounts mux.now.events done.0.counts) }
     ensures faults { IfOk result (λ done. done.0.faults ≡ output.faults) }
     ensures report { IfOk result (λ done. done.0.fault_report ≡ output.report) }
 {
-    let streams = end_streams(alloc, mux, mux.plan().streams().len())?;
+    let streams = end_streams(alloc, mux, mux.schedule().streams().len())?;
     let (inputs, readers) = end_inputs(alloc, mux, inputs)?;
     let summary = Summary {
         inputs,

@@ -9,24 +9,24 @@ ghost use Rattle.serial.specs.Sending.{WritesWaiting, ReadsWritten};
 use crate::run_fault::RunFault;
 use crate::sink::Sink;
 use crate::slot_writer::SlotWriter;
-use plan::Plan;
 use reading::{Look, PacketReader, Source};
+use schedule::Schedule;
 
-/// Finds the next packet of an input that the plan names, as `PacketReader::find` does. Before it reads, which may wait, what waits
+/// Finds the next packet of an input that its plan names, as `PacketReader::find` does. Before it reads, which may wait, what waits
 /// to go out is written. An `Err` is want of memory, or `Write`: then nothing was read.
 pub(crate) fn find_next<R: Source, W: Sink>(
     reader: &mut PacketReader<R>,
-    plan: &Plan,
+    schedule: &Schedule,
     piece: &mut [u8],
     output: &mut SlotWriter,
     sink: &mut W,
 ) -> Result<Option<usize>, RunFault>
     requires { 0 < length piece.old }
-    ensures read { ReadsOn R.remaining plan.now reader.old reader.new }
+    ensures read { ReadsOn R.remaining schedule.now reader.old reader.new }
     ensures goes { GoesOn R.failures reader.old reader.new }
     ensures found { (number : ℕ) → result ≡ Ok (Some number) → IsSome reader.new.held }
     ensures number { (number : ℕ) → result ≡ Ok (Some number)
-        → IfSome reader.new.held (λ item. number ≡ stream_number plan.now reader.new.origin item.packet) }
+        → IfSome reader.new.held (λ item. number ≡ stream_number schedule.now reader.new.origin item) }
     ensures done { result ≡ Ok None → IsSpent reader.new }
     ensures stays { IsSome reader.old.held → reader.new ≡ reader.old }
     ensures unrefused { OnOk result (reader.new.report.stopped ≡ Some stops.Memory
@@ -37,12 +37,12 @@ pub(crate) fn find_next<R: Source, W: Sink>(
     ensures unread { result ≡ Err RunFault.Write → reader.new.stream.source ≡ reader.old.stream.source }
     ensures out { WritesWaiting W.contents W.failures output.old sink.old output.new sink.new result }
 {
-    match reader.look(plan) {
+    match reader.look(schedule) {
         Look::Packet(number) => Ok(Some(number)),
         Look::Over => Ok(None),
         Look::More => {
             output.flush(sink)?;
-            Ok(reader.find(plan, piece)?)
+            Ok(reader.find(schedule, piece)?)
         }
     }
 }

@@ -27,7 +27,7 @@ pub fn analyser_tells_only_what_was_taken()
     ensures { AnalyserTellsOnlyWhatWasTaken }
 {}
 
-/// Two runs of one plan, for as many slots, over equal known bytes write equal bytes, where nothing but their end stopped an
+/// Two runs of one schedule, for as many slots, over equal known bytes write equal bytes, where nothing but their end stopped an
 /// input.
 pub fn equal_inputs_give_equal_bytes()
     ensures { EqualInputsGiveEqualBytes }
@@ -39,7 +39,7 @@ pub fn bytes_are_of_every_history()
     ensures { BytesAreOfEveryHistory }
 {}
 
-/// What a run wrote that failed begins what each run of the same plan over equal known bytes writes that ends by itself, where
+/// What a run wrote that failed begins what each run of the same schedule over equal known bytes writes that ends by itself, where
 /// nothing but want of memory, or the end of the run, stopped an input.
 pub fn begun_bytes_begin_the_output()
     ensures { BegunBytesBeginTheOutput }

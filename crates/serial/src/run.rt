@@ -2,7 +2,7 @@
 
 ghost use Rattle.std.specs.Prelude.{◌≡◌, ◌^◌, ◌≤◌, ℕ, List, length, map, Err, IfOk, IfErr, OnOk};
 ghost use Rattle.mux.specs.declared.event.Event.{Event};
-ghost use Rattle.mux.specs.Plans.{IsMultiplexPlan};
+ghost use Rattle.mux.specs.Plans.{IsMultiplexSchedule};
 ghost use Rattle.reading.specs.Failures.{FailsOnce};
 ghost use Rattle.reading.specs.InputLimit.{IsAllowed};
 ghost use Rattle.reading.specs.declared.input_limit.InputLimit.TheVariants.{OfFormat};
@@ -13,11 +13,11 @@ use crate::run_fault::RunFault;
 use crate::serial_run::SerialRun;
 use crate::sink::Sink;
 use crate::summary::Summary;
-use plan::Plan;
 use reading::{InputLimit, Source};
+use schedule::Schedule;
 use std::alloc::Global;
 
-/// Runs a plan in one thread: reads one reader an input, which may have at most 3,154,116,608 bytes, or 3,422,552,064 where its
+/// Runs a schedule in one thread: reads one reader an input, which may have at most 3,154,116,608 bytes, or 3,422,552,064 where its
 /// packets stand 204 bytes apart, and writes the packet of each slot, at most so many slots (0 to 2^40). It ends where all inputs
 /// have ended and nothing waits, or where it has all its slots.
 ///
@@ -27,22 +27,22 @@ use std::alloc::Global;
 /// the run goes on.
 pub fn run_serial<R: Source + Drop, W: Sink>(
     alloc: Global,
-    plan: Plan,
+    schedule: Schedule,
     slots: u64,
     readers: Vec<R>,
     writer: W,
 ) -> (W, Result<(Summary, Vec<R>), RunFault>)
     requires slots { slots ≤ 2 ^ 40 }
-    requires readers { length readers.items ≡ length plan.request.inputs }
+    requires readers { length readers.items ≡ length schedule.first.request.inputs }
     ensures runs { IfOk result.1 (λ done. (h : List Event)
-        × HasRun (record { run = record { plan = plan; limit = slots }; events = h }) OfFormat
+        × HasRun (record { run = record { schedule = schedule; limit = slots }; events = h }) OfFormat
         (map R.remaining readers.items) (map R.remaining done.1.items)
         (W.contents writer) (W.contents result.0) done.0
-        × TakesAsNeeded (record { plan = plan; limit = slots }) h) }
+        × TakesAsNeeded (record { schedule = schedule; limit = slots }) h) }
     ensures begins { IfErr result.1 (λ fault. (h : List Event)
-        × HasBegun R.remaining R.failures (record { run = record { plan = plan; limit = slots }; events = h }) OfFormat
+        × HasBegun R.remaining R.failures (record { run = record { schedule = schedule; limit = slots }; events = h }) OfFormat
         readers.items (W.contents writer) (W.contents result.0) fault
-        × TakesAsNeeded (record { plan = plan; limit = slots }) h) }
+        × TakesAsNeeded (record { schedule = schedule; limit = slots }) h) }
     ensures readers { IfOk result.1 (λ done. length done.1.items ≡ length readers.items) }
     ensures read_failed { IfOk result.1 (λ done.
         FailuresAreTold R.failures readers.items done.1.items done.0.inputs.items) }
@@ -50,13 +50,20 @@ pub fn run_serial<R: Source + Drop, W: Sink>(
     ensures memory { result.1 ≡ Err RunFault.Memory → W.failures result.0 ≡ W.failures writer }
     ensures write_failed { result.1 ≡ Err RunFault.Write → FailsOnce (W.failures writer) (W.failures result.0) }
 {
-    run_serial_within(alloc, plan, slots, InputLimit::OfFormat, readers, writer)
+    run_serial_within(
+        alloc,
+        schedule,
+        slots,
+        InputLimit::OfFormat,
+        readers,
+        writer,
+    )
 }
 
 /// The same with inputs of at most as many bytes as `limit` says: up to 140,737,488,355,328.
 pub fn run_serial_within<R: Source + Drop, W: Sink>(
     alloc: Global,
-    plan: Plan,
+    schedule: Schedule,
     slots: u64,
     limit: InputLimit,
     readers: Vec<R>,
@@ -64,16 +71,16 @@ pub fn run_serial_within<R: Source + Drop, W: Sink>(
 ) -> (W, Result<(Summary, Vec<R>), RunFault>)
     requires slots { slots ≤ 2 ^ 40 }
     requires limit { IsAllowed limit }
-    requires readers { length readers.items ≡ length plan.request.inputs }
+    requires readers { length readers.items ≡ length schedule.first.request.inputs }
     ensures runs { IfOk result.1 (λ done. (h : List Event)
-        × HasRun (record { run = record { plan = plan; limit = slots }; events = h }) limit
+        × HasRun (record { run = record { schedule = schedule; limit = slots }; events = h }) limit
         (map R.remaining readers.items) (map R.remaining done.1.items)
         (W.contents writer) (W.contents result.0) done.0
-        × TakesAsNeeded (record { plan = plan; limit = slots }) h) }
+        × TakesAsNeeded (record { schedule = schedule; limit = slots }) h) }
     ensures begins { IfErr result.1 (λ fault. (h : List Event)
-        × HasBegun R.remaining R.failures (record { run = record { plan = plan; limit = slots }; events = h }) limit
+        × HasBegun R.remaining R.failures (record { run = record { schedule = schedule; limit = slots }; events = h }) limit
         readers.items (W.contents writer) (W.contents result.0) fault
-        × TakesAsNeeded (record { plan = plan; limit = slots }) h) }
+        × TakesAsNeeded (record { schedule = schedule; limit = slots }) h) }
     ensures readers { IfOk result.1 (λ done. length done.1.items ≡ length readers.items) }
     ensures read_failed { IfOk result.1 (λ done.
         FailuresAreTold R.failures readers.items done.1.items done.0.inputs.items) }
@@ -82,22 +89,21 @@ pub fn run_serial_within<R: Source + Drop, W: Sink>(
     ensures write_failed { result.1 ≡ Err RunFault.Write → FailsOnce (W.failures writer) (W.failures result.0) }
 {
     let mut sink = writer;
-    let result = run_to(alloc, plan, slots, limit, readers, &mut sink);
+    let result = run_to(alloc, schedule, slots, limit, readers, &mut sink);
     (sink, result)
 }
 
-/// What every plan keeps.
-fn known(plan: &Plan)
-    ensures { IsMultiplexPlan plan.now }
+/// What every schedule keeps.
+fn known(schedule: &Schedule)
+    ensures { IsMultiplexSchedule schedule.now }
 {
-    let _ = plan.request().rate();
-    let _ = plan.rounds().rate();
+    let _ = schedule.later_plans();
 }
 
 /// The same, with the writer lent.
 fn run_to<R: Source + Drop, W: Sink>(
     alloc: Global,
-    plan: Plan,
+    schedule: Schedule,
     slots: u64,
     limit: InputLimit,
     readers: Vec<R>,
@@ -105,16 +111,16 @@ fn run_to<R: Source + Drop, W: Sink>(
 ) -> Result<(Summary, Vec<R>), RunFault>
     requires slots { slots ≤ 2 ^ 40 }
     requires limit { IsAllowed limit }
-    requires readers { length readers.items ≡ length plan.request.inputs }
+    requires readers { length readers.items ≡ length schedule.first.request.inputs }
     ensures runs { IfOk result (λ done. (h : List Event)
-        × HasRun (record { run = record { plan = plan; limit = slots }; events = h }) limit
+        × HasRun (record { run = record { schedule = schedule; limit = slots }; events = h }) limit
         (map R.remaining readers.items) (map R.remaining done.1.items)
         (W.contents sink.old) (W.contents sink.new) done.0
-        × TakesAsNeeded (record { plan = plan; limit = slots }) h) }
+        × TakesAsNeeded (record { schedule = schedule; limit = slots }) h) }
     ensures begins { IfErr result (λ fault. (h : List Event)
-        × HasBegun R.remaining R.failures (record { run = record { plan = plan; limit = slots }; events = h }) limit
+        × HasBegun R.remaining R.failures (record { run = record { schedule = schedule; limit = slots }; events = h }) limit
         readers.items (W.contents sink.old) (W.contents sink.new) fault
-        × TakesAsNeeded (record { plan = plan; limit = slots }) h) }
+        × TakesAsNeeded (record { schedule = schedule; limit = slots }) h) }
     ensures readers { IfOk result (λ done. length done.1.items ≡ length readers.items) }
     ensures read_failed { IfOk result (λ done.
         FailuresAreTold R.failures readers.items done.1.items done.0.inputs.items) }
@@ -122,8 +128,8 @@ fn run_to<R: Source + Drop, W: Sink>(
     ensures memory { result ≡ Err RunFault.Memory → W.failures sink.new ≡ W.failures sink.old }
     ensures write_failed { result ≡ Err RunFault.Write → FailsOnce (W.failures sink.old) (W.failures sink.new) }
 {
-    known(&plan);
-    let mut run = SerialRun::open(alloc, plan, slots, limit, readers)?;
+    known(&schedule);
+    let mut run = SerialRun::open(alloc, schedule, slots, limit, readers)?;
     let driven = run.drive(sink);
     // What every multiplex keeps is known with this.
     let _ = run.slots();

@@ -1,7 +1,7 @@
 //! An input of the serial run.
 
-use plan::Plan;
 use reading::{InputLimit, PacketReader, Source};
+use schedule::Schedule;
 use std::alloc::Global;
 
 /// An input, and whether the multiplex was told that nothing more comes of it.
@@ -17,22 +17,22 @@ impl<R: Source> SerialInput<R> {
     ghost use Rattle.reading.specs.InputLimit.{IsAllowed};
     ghost use Rattle.serial.specs.Opening.{IsOpened};
 
-    /// The input with this number of a plan, of which nothing was taken, and of which at most so many bytes may come at its
+    /// The input with this number of a schedule's plans, of which nothing was taken, and of which at most so many bytes may come at its
     /// format.
     pub fn open(
         alloc: Global,
-        plan: &Plan,
+        schedule: &Schedule,
         number: usize,
         limit: InputLimit,
         source: R,
     ) -> SerialInput<R>
-        requires number { number < length plan.now.request.inputs }
+        requires number { number < length schedule.now.first.request.inputs }
         requires limit { IsAllowed limit }
-        ensures { IsOpened R.remaining R.failures limit plan.now number source result }
+        ensures { IsOpened R.remaining R.failures limit schedule.now number source result }
     {
-        // What all requests keep is known with this.
-        let _ = plan.request().rate();
-        let input = &plan.inputs()[number];
+        // What all schedules keep is known with this.
+        let _ = schedule.later_plans();
+        let input = &schedule.plan(0).inputs()[number];
         let most = limit.bytes(input.format);
         SerialInput {
             reader: PacketReader::new(alloc, number, input, source, most),

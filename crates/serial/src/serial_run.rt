@@ -9,8 +9,8 @@ use crate::sink::Sink;
 use crate::slot_writer::SlotWriter;
 use crate::summary::Summary;
 use mux::{Mux, Sending};
-use plan::Plan;
 use reading::{InputLimit, Source};
+use schedule::Schedule;
 use std::alloc::{AllocError, Global};
 
 /// How many bytes are read at once, at most.
@@ -40,27 +40,28 @@ impl<R: Source + Drop> SerialRun<R> {
     ghost use Rattle.reading.specs.declared.input_limit.InputLimit.{InputLimit as Limit};
     ghost use Rattle.serial.specs.Running.{TakesAsNeeded, IsRunning, IsOver, AreHalted, steps_left};
 
-    /// A run of a plan for at most this many slots, whose inputs may have as many bytes as `limit` says at their formats, and of
+    /// A run of a schedule for at most this many slots, whose inputs may have as many bytes as `limit` says at their formats, and of
     /// which nothing was taken or sent.
     pub fn open(
         alloc: Global,
-        plan: Plan,
+        schedule: Schedule,
         slots: u64,
         limit: InputLimit,
         readers: Vec<R>,
     ) -> Result<SerialRun<R>, AllocError>
         requires slots { slots ≤ 2 ^ 40 }
         requires limit { IsAllowed limit }
-        requires readers { length readers.items ≡ length plan.request.inputs }
-        ensures running { IfOk result (λ r. IsRunning R.remaining (record { plan = plan; limit = slots }) limit (map R.remaining readers.items) r) }
+        requires readers { length readers.items ≡ length schedule.first.request.inputs }
+        ensures running { IfOk result (λ r. IsRunning R.remaining (record { schedule = schedule; limit = slots }) limit (map R.remaining readers.items) r) }
         ensures new { IfOk result (λ r. r.mux.events ≡ []) }
         ensures waiting { IfOk result (λ r. r.output.writer ≡ []) }
         ensures failures { IfOk result (λ r. AllTellFailures R.failures (map R.failures readers.items) r.inputs.items) }
     {
         let piece = vec![in alloc; 0; PIECE]?;
+        let plan = schedule.plan(0);
         let output = SlotWriter::new(alloc, plan.rate(), plan.request().watch())?;
-        let inputs = open_inputs(alloc, &plan, limit, readers)?;
-        let mux = Mux::open(alloc, plan, slots)?;
+        let inputs = open_inputs(alloc, &schedule, limit, readers)?;
+        let mux = Mux::open(alloc, schedule, slots)?;
         Ok(SerialRun {
             mux,
             inputs,
@@ -79,9 +80,9 @@ impl<R: Source + Drop> SerialRun<R> {
 
     /// What became of the run, and its readers.
     pub fn finish(self, alloc: Global) -> Result<(Summary, Vec<R>), AllocError>
-        requires { length self.inputs.items ≡ length self.mux.run.plan.request.inputs }
-        ensures inputs { IfOk result (λ done. AreReported self.mux.run.plan self.mux.events self.inputs.items done.0.inputs.items done.1.items) }
-        ensures streams { IfOk result (λ done. ArePeaks self.mux.run.plan self.mux.events done.0.streams.items) }
+        requires { length self.inputs.items ≡ length self.mux.run.schedule.first.request.inputs }
+        ensures inputs { IfOk result (λ done. AreReported self.mux.run.schedule self.mux.events self.inputs.items done.0.inputs.items done.1.items) }
+        ensures streams { IfOk result (λ done. ArePeaks self.mux.run.schedule self.mux.events done.0.streams.items) }
         ensures counts { IfOk result (λ done. IsCounts self.mux.events done.0.counts) }
         ensures faults { IfOk result (λ done. done.0.faults ≡ self.output.faults) }
         ensures report { IfOk result (λ done. done.0.fault_report ≡ self.output.report) }
@@ -103,11 +104,11 @@ impl<R: Source + Drop> SerialRun<R> {
         ensures over { OnOk result (IsOver self.old.mux.run self.new.mux.events) }
         ensures failures { OnOk result (W.failures sink.new ≡ W.failures sink.old) }
         ensures written { OnOk result ((before : Option (List ℕ))
-            → Sends before (W.contents sink.old) (bytes_of (emitted self.old.mux.run.plan self.old.mux.events)) self.old.output.writer
-            → Appends before (W.contents sink.new) (bytes_of (emitted self.old.mux.run.plan self.new.mux.events))) }
+            → Sends before (W.contents sink.old) (bytes_of (emitted self.old.mux.run.schedule self.old.mux.events)) self.old.output.writer
+            → Appends before (W.contents sink.new) (bytes_of (emitted self.old.mux.run.schedule self.new.mux.events))) }
         ensures halted { OnErr result ((run : Run) (limit : Limit) (starts : List (Option (List ℕ)))
             → IsRunning R.remaining run limit starts self.old
-            → AreHalted R.remaining limit run.plan self.new.mux.events starts self.new.inputs.items
+            → AreHalted R.remaining limit run.schedule self.new.mux.events starts self.new.inputs.items
             × TakesAsNeeded run self.new.mux.events) }
         ensures unrefused { result ≡ Err RunFault.Write → AreUnrefused self.new.inputs.items }
         ensures failures_told { (befores : List ℕ)
@@ -115,8 +116,8 @@ impl<R: Source + Drop> SerialRun<R> {
             → AllTellFailures R.failures befores self.new.inputs.items }
         ensures run { self.new.mux.run ≡ self.old.mux.run }
         ensures sent_begun { OnErr result ((before : Option (List ℕ))
-            → Sends before (W.contents sink.old) (bytes_of (emitted self.old.mux.run.plan self.old.mux.events)) self.old.output.writer
-            → SendsBeginning before (W.contents sink.new) (bytes_of (emitted self.old.mux.run.plan self.new.mux.events))) }
+            → Sends before (W.contents sink.old) (bytes_of (emitted self.old.mux.run.schedule self.old.mux.events)) self.old.output.writer
+            → SendsBeginning before (W.contents sink.new) (bytes_of (emitted self.old.mux.run.schedule self.new.mux.events))) }
         ensures memory { result ≡ Err RunFault.Memory → W.failures sink.new ≡ W.failures sink.old }
         ensures failed { result ≡ Err RunFault.Write
             → FailsOnce (W.failures sink.old) (W.failures sink.new) }
@@ -129,7 +130,7 @@ impl<R: Source + Drop> SerialRun<R> {
         self.output.flush(sink)
     }
 
-    /// One step: the next slot is sent, or the input for which the multiplex waits gives a packet or is closed. Before that input is
+    /// One step: the next slot is sent, or the next plan comes into force, or the input for which the multiplex waits gives a packet or is closed. Before that input is
     /// read what waits is written. True is answered where the run is over.
     fn step<W: Sink>(&mut self, sink: &mut W) -> Result<bool, RunFault>
         requires { (run : Run) × (limit : Limit) × (starts : List (Option (List ℕ))) × IsRunning R.remaining run limit starts self.old }
@@ -139,11 +140,11 @@ impl<R: Source + Drop> SerialRun<R> {
             → steps_left self.old.mux.run self.new.mux.events < steps_left self.old.mux.run self.old.mux.events }
         ensures over { result ≡ Ok true → IsOver self.old.mux.run self.new.mux.events }
         ensures written { OnOk result ((before : Option (List ℕ))
-            → Sends before (W.contents sink.old) (bytes_of (emitted self.old.mux.run.plan self.old.mux.events)) self.old.output.writer
-            → Sends before (W.contents sink.new) (bytes_of (emitted self.old.mux.run.plan self.new.mux.events)) self.new.output.writer) }
+            → Sends before (W.contents sink.old) (bytes_of (emitted self.old.mux.run.schedule self.old.mux.events)) self.old.output.writer
+            → Sends before (W.contents sink.new) (bytes_of (emitted self.old.mux.run.schedule self.new.mux.events)) self.new.output.writer) }
         ensures halted { OnErr result ((run : Run) (limit : Limit) (starts : List (Option (List ℕ)))
             → IsRunning R.remaining run limit starts self.old
-            → AreHalted R.remaining limit run.plan self.new.mux.events starts self.new.inputs.items
+            → AreHalted R.remaining limit run.schedule self.new.mux.events starts self.new.inputs.items
             × TakesAsNeeded run self.new.mux.events) }
         ensures unrefused { result ≡ Err RunFault.Write → AreUnrefused self.new.inputs.items }
         ensures failures_told { (befores : List ℕ)
@@ -151,8 +152,8 @@ impl<R: Source + Drop> SerialRun<R> {
             → AllTellFailures R.failures befores self.new.inputs.items }
         ensures run { self.new.mux.run ≡ self.old.mux.run }
         ensures sent_begun { OnErr result ((before : Option (List ℕ))
-            → Sends before (W.contents sink.old) (bytes_of (emitted self.old.mux.run.plan self.old.mux.events)) self.old.output.writer
-            → SendsBeginning before (W.contents sink.new) (bytes_of (emitted self.old.mux.run.plan self.new.mux.events))) }
+            → Sends before (W.contents sink.old) (bytes_of (emitted self.old.mux.run.schedule self.old.mux.events)) self.old.output.writer
+            → SendsBeginning before (W.contents sink.new) (bytes_of (emitted self.old.mux.run.schedule self.new.mux.events))) }
         ensures failures { OnOk result (W.failures sink.new ≡ W.failures sink.old) }
         ensures memory { result ≡ Err RunFault.Memory → W.failures sink.new ≡ W.failures sink.old }
         ensures failed { result ≡ Err RunFault.Write
@@ -175,6 +176,7 @@ impl<R: Source + Drop> SerialRun<R> {
                 pull_at(mux, input, inputs, piece, output, sink)?;
                 Ok(false)
             }
+            Sending::Switched => Ok(false),
             Sending::Done | Sending::RunFull => Ok(true),
             Sending::Memory => Err(RunFault::Memory),
         }

@@ -9,16 +9,16 @@ use reading::Report;
 pub struct InputSummary {
     /// What was found in it.
     pub report: Report,
-    /// What became of its packets that the plan names.
+    /// What became of its packets that the plans name.
     pub totals: Totals,
 }
 
 /// What became of a run.
 #[derive(Drop)]
 pub struct Summary {
-    /// The inputs, in the order of the plan.
+    /// The inputs, in the order of the plans.
     pub inputs: Vec<InputSummary>,
-    /// The largest delay and the fullest queue of each stream, in the order of the plan.
+    /// The largest delay and the fullest queue of each stream of the schedule, in its order.
     pub streams: Vec<Peak>,
     /// What the slots carried.
     pub counts: Counts,

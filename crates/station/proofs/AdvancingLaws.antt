@@ -1,13 +1,13 @@
 -- Steps of a station, one behind the other.
 use Rattle.std.proofs.Common.{ℕ, zero, suc, ◌+◌, ◌≡◌, ◌⊎◌, Bool, true, false, ◌||◌, List, [], ◌∷◌, ◌++◌, set, slice_get, Some, None, refl, ap, sym, subst, ◌∙◌, arith, inl, inr, append-nil, append_assoc, if◌then◌else◌}
 use Rattle.std.specs.Prelude.{IsSome}
-use Rattle.plan.specs.Build.{PlanValue}
+use Rattle.schedule.specs.Schedule.{ScheduleValue}
 use Rattle.mux.specs.declared.event.Event.{Event}
-use Rattle.mux.specs.declared.event.Event.TheVariants.{Took, Full, Close}
+use Rattle.mux.specs.declared.event.Event.TheVariants.{Took, Full, Early, Close, Switch}
 use Rattle.tspkt.specs.declared.stamped.Stamped.{Stamped}
-use Rattle.mux.specs.History.{History, with_event, emitted, is_closed, full_noted}
+use Rattle.mux.specs.History.{History, with_event, emitted, in_force, is_closed, full_noted, early_noted}
 use Rattle.mux.specs.Lawful.{is_ready}
-use Rattle.mux.specs.Answers.{SendAnswers, SlotAnswers, NotesFull}
+use Rattle.mux.specs.Answers.{SendAnswers, SlotAnswers, NotesFull, NotesEarly}
 use Rattle.mux.specs.declared.sending.Sending.{Sending}
 use Rattle.mux.specs.declared.sending.Sending.TheVariants as sending
 use Rattle.mux.specs.declared.slot.Slot.TheVariants as slot
@@ -23,12 +23,12 @@ or_left : (a b : Bool) → (a || b) ≡ false → a ≡ false
 or_left true b e = e
 or_left false b e = refl
 
-pub unready_open : (p : PlanValue) (i : ℕ) (h : List Event) → is_ready p i h ≡ false → is_closed i h ≡ false
-unready_open p i h e = or_left (is_closed i h) _ (or_left _ (full_noted i h) e)
+pub unready_open : (s : ScheduleValue) (i : ℕ) (h : List Event) → is_ready s i h ≡ false → is_closed i h ≡ false
+unready_open s i h e = or_left (is_closed i h) _ (or_left _ (full_noted i h) (or_left _ (early_noted i h) e))
 
 -- the inlet of an input for which the multiplex waits
 pub waits_open : (h new : History) (i : ℕ) (x : Inlet) → SendAnswers h (sending.NotReady i) new → IsLawfulInlet h i x → x.is_closed ≡ false
-waits_open h new i x is old = old.closed ∙ unready_open h.run.plan i h.events is.2.unready
+waits_open h new i x is old = old.closed ∙ unready_open h.run.schedule i h.events is.3.unready
 
 -- Nothing came of an input.
 
@@ -61,11 +61,14 @@ pub step_sent : (h new : History) (xs : List Inlet) (packet : List ℕ) → Slot
     → IsStep (record { history = h; inputs = xs }) (record { history = new; inputs = xs }) (packet ∷ [])
 step_sent h new xs packet answer = inl (packet, refl, record { slot = answer; inputs = refl })
 
+pub step_switched : (h new : History) (xs : List Inlet) → SendAnswers h sending.Switched new → IsStep (record { history = h; inputs = xs }) (record { history = new; inputs = xs }) []
+step_switched h new xs answer = inr (inl (refl, record { switch = answer; inputs = refl }))
+
 pub step_pulled : (h between new : History) (xs : List Inlet) (i : ℕ) (x y : Inlet) → SendAnswers h (sending.NotReady i) between → slice_get xs i ≡ Some x
     → (TakesNext i between x new y ⊎ ComesUntaken i between x new y) → IsStep (record { history = h; inputs = xs }) (record { history = new; inputs = set xs i y }) []
 step_pulled h between new xs i x y is at pulled =
     let P : History → Type 0 = λ v. TakesNext i v x new y ⊎ ComesUntaken i v x new y in
-    inr (i, refl, record { running = is.1; unready = is.2; before = x; after = y; input = at; inputs = refl; pulled = subst P is.0 pulled })
+    inr (inr (i, refl, record { running = is.1; unswitched = is.2; unready = is.3; before = x; after = y; input = at; inputs = refl; pulled = subst P is.0 pulled }))
 
 pub stuck_other : (h new : History) (xs : List Inlet) (answer : Sending) → SendAnswers h answer new → new ≡ h → ((i : ℕ) → answer ≡ sending.NotReady i → ⊥) → IsStuck answer (record { history = new; inputs = xs })
 stuck_other h new xs answer is same other =
@@ -76,7 +79,7 @@ pub stuck_waiting : (h between new : History) (xs : List Inlet) (i : ℕ) (x : I
     → IsStuck (sending.NotReady i) (record { history = new; inputs = xs })
 stuck_waiting h between new xs i x is same at none =
     let P : History → Type 0 = λ v. SendAnswers v (sending.NotReady i) v in
-    let here : SendAnswers h (sending.NotReady i) h = (refl, is.1, is.2) in
+    let here : SendAnswers h (sending.NotReady i) h = (refl, is.1, is.2, is.3) in
     record {
       answers = subst P (sym (same ∙ is.0)) here;
       unheld = λ j y e at'.
@@ -103,7 +106,8 @@ pulled_ring i a x b y (inr ends) = ends_ring i a x b y ends.0 ends.2
 
 pub step_rings : (old new : StationValue) (packets : List (List ℕ)) → IsStep old new packets → rings_of new.inputs ≡ rings_of old.inputs
 step_rings old new packets (inl sent) = ap rings_of sent.2.inputs
-step_rings old new packets (inr pull) =
+step_rings old new packets (inr (inl switch)) = ap rings_of switch.1.inputs
+step_rings old new packets (inr (inr pull)) =
     let p = pull.2 in
     ap rings_of p.inputs ∙ rings_set old.inputs pull.0 p.before p.after p.input (pulled_ring pull.0 old.history p.before new.history p.after p.pulled)
 
@@ -123,19 +127,19 @@ steps_on n old between new earlier last packets steps step same =
 -- it is the same run, and these packets went out between them
 pub record Emits (a b : History) (packets : List (List ℕ)) : Type 0 where
   pub run : b.run ≡ a.run
-  pub out : emitted b.run.plan b.events ≡ emitted a.run.plan a.events ++ packets
+  pub out : emitted b.run.schedule b.events ≡ emitted a.run.schedule a.events ++ packets
 
-silent : (a b : History) → b ≡ a → Emits a b []
+pub silent : (a b : History) → b ≡ a → Emits a b []
 silent a b e = record {
   run = ap (λ (h : History). h.run) e;
-  out = ap (λ (h : History). emitted h.run.plan h.events) e ∙ sym (append-nil (emitted a.run.plan a.events));
+  out = ap (λ (h : History). emitted h.run.schedule h.events) e ∙ sym (append-nil (emitted a.run.schedule a.events));
 }
 
 -- an event that sends nothing
-unsent : (a b : History) (e : Event) → emitted a.run.plan (e ∷ a.events) ≡ emitted a.run.plan a.events → b ≡ with_event a e → Emits a b []
+pub unsent : (a b : History) (e : Event) → emitted a.run.schedule (e ∷ a.events) ≡ emitted a.run.schedule a.events → b ≡ with_event a e → Emits a b []
 unsent a b e same is = record {
   run = ap (λ (h : History). h.run) is;
-  out = ap (λ (h : History). emitted h.run.plan h.events) is ∙ (same ∙ sym (append-nil (emitted a.run.plan a.events)));
+  out = ap (λ (h : History). emitted h.run.schedule h.events) is ∙ (same ∙ sym (append-nil (emitted a.run.schedule a.events)));
 }
 
 noted : (i : ℕ) (a b : History) (item : Stamped) → NotesFull a i item b → Emits a b []
@@ -145,11 +149,19 @@ noted i a b item is =
     let both : (v : Bool) → P v = λ v. elim v as P [ true ↦ λ is'. silent a b is' | false ↦ λ is'. unsent a b (Full i is.0) refl is' ] in
     both (full_noted i a.events) is.3
 
+noted_early : (i : ℕ) (a b : History) → NotesEarly a i b → Emits a b []
+noted_early i a b is =
+    let e = with_event a (Early i) in
+    let P : Bool → Type 0 = λ v. b ≡ (if v then a else e) → Emits a b [] in
+    let both : (v : Bool) → P v = λ v. elim v as P [ true ↦ λ is'. silent a b is' | false ↦ λ is'. unsent a b (Early i) refl is' ] in
+    both (early_noted i a.events) is
+
 held_back : (i : ℕ) (a b : History) (item : Stamped) (is_closed : Bool) → IsHeldBack i a item b is_closed → Emits a b []
 held_back i a b item true is = unsent a b (Close i) refl is.1
-held_back i a b item false is = noted i a b item is.1
+held_back i a b item false (inl full) = noted i a b item full.1
+held_back i a b item false (inr early) = noted_early i a b early.1
 
-ends_emits : (i : ℕ) (a : History) (x : Inlet) (b : History) (y : Inlet) (ending : Ending) → EndsBy i a x b y ending → Emits a b []
+pub ends_emits : (i : ℕ) (a : History) (x : Inlet) (b : History) (y : Inlet) (ending : Ending) → EndsBy i a x b y ending → Emits a b []
 ends_emits i a x b y Nothing is = silent a b is.1
 ends_emits i a x b y Mark is = unsent a b (Close i) refl is.1
 ends_emits i a x b y (HeldBack item came) is = held_back i a b item y.is_closed is.1
@@ -163,14 +175,17 @@ slot_emits a b packet answer =
     let sent = answer.1.2 in
     record {
       run = ap (λ (h : History). h.run) sent.0;
-      out = ap (λ (h : History). emitted h.run.plan h.events) sent.0 ∙ ap (λ (q : List ℕ). emitted a.run.plan a.events ++ q ∷ []) (sym sent.1);
+      out = ap (λ (h : History). emitted h.run.schedule h.events) sent.0 ∙ ap (λ (q : List ℕ). emitted a.run.schedule a.events ++ q ∷ []) (sym sent.1);
     }
 
 pub step_emits : (old new : StationValue) (packets : List (List ℕ)) → IsStep old new packets → Emits old.history new.history packets
 step_emits old new packets (inl sent) =
     let P : List (List ℕ) → Type 0 = Emits old.history new.history in
     subst P (sym sent.1) (slot_emits old.history new.history sent.0 sent.2.slot)
-step_emits old new packets (inr pull) =
+step_emits old new packets (inr (inl switch)) =
+    let P : List (List ℕ) → Type 0 = Emits old.history new.history in
+    subst P (sym switch.0) (unsent old.history new.history (Switch (in_force old.history.events + 1)) refl switch.1.switch.2)
+step_emits old new packets (inr (inr pull)) =
     let P : List (List ℕ) → Type 0 = Emits old.history new.history in
     let p = pull.2 in
     subst P (sym pull.1) (pulled_emits pull.0 old.history p.before new.history p.after p.pulled)
@@ -183,7 +198,7 @@ steps_emit (suc n) old new packets is =
     let mid = is.0.history in
     let first = steps_emit n old is.0 is.1 is.3 in
     let last = step_emits is.0 new is.2 is.4 in
-    let out = emitted old.history.run.plan old.history.events in
+    let out = emitted old.history.run.schedule old.history.events in
     record {
       run = last.run ∙ first.run;
       out = last.out ∙ (ap (λ v. v ++ is.2) first.out ∙ (append_assoc out is.1 is.2 ∙ ap (λ v. out ++ v) (sym is.5)));

@@ -5,25 +5,25 @@ use Rattle.std.specs.Option.{option_to_list}
 use Rattle.std.proofs.lemmas.List.{append-nil, nil_from_length}
 use Rattle.std.proofs.lemmas.Option.{slice_get_cases}
 use Rattle.tspkt.specs.declared.stamped.Stamped.{Stamped}
-use Rattle.plan.specs.Build.{PlanValue}
-use Rattle.mux.specs.Plans.{IsMultiplexPlan}
+use Rattle.schedule.specs.Schedule.{ScheduleValue}
+use Rattle.mux.specs.Plans.{IsMultiplexSchedule}
 use Rattle.mux.specs.History.{taken, emitted}
-use Rattle.mux.specs.Lawful.{IsLawful}
+use Rattle.mux.specs.Lawful.{IsLawful, input_count}
 use Rattle.mux.specs.Faithful.{PacketLists, IsPrefix, IsRunOf}
 use Rattle.mux.proofs.Emitted.{length-emitted}
 use Rattle.mux.proofs.Same.{outputs_agree}
 use Rattle.station.specs.declared.inlet.Inlet.{Inlet}
 use Rattle.station.specs.Stations.{StationValue, IsLawfulInlet}
 use Rattle.station.specs.Agreement.{IsStation, IsGiven, StationsAgree, SlotsAgree}
-use Rattle.station.proofs.FaithfulLaws.{IsTakenOf, prefix_on, fulls_of_list, faithful_to}
+use Rattle.station.proofs.FaithfulLaws.{IsTakenOf, prefix_on, notes_of_list, faithful_to}
 
 -- the input was taken so that it begins its list
-taken_of : (lists : PacketLists) (s : StationValue) (i : ℕ) (x : Inlet) → IsGiven lists s → slice_get s.inputs i ≡ Some x → IsLawfulInlet s.history i x → IsTakenOf s.history.events i (lists i)
+taken_of : (lists : PacketLists) (s : StationValue) (i : ℕ) (x : Inlet) → IsGiven lists s → slice_get s.inputs i ≡ Some x → IsLawfulInlet s.history i x → IsTakenOf s.history.run.schedule s.history.events i (lists i)
 taken_of lists s i x given at kept =
     let h = s.history.events in
     record {
       begins = prefix_on (taken i h) x.end.received (lists i) (option_to_list x.held, kept.received) (given.begins i x at);
-      fulls = fulls_of_list i x.end.received (lists i) h (given.begins i x at) kept.fulls;
+      notes = notes_of_list s.history.run.schedule i x.end.received (lists i) h (given.begins i x at) kept.notes;
       closed = λ shut. elim (kept.closes (kept.closed ∙ shut)) [
         | inl e ↦
             given.whole i x at e.0
@@ -32,28 +32,30 @@ taken_of lists s i x given at kept =
       ];
     }
 
-run_of : (plan : PlanValue) (lists : PacketLists) (s : StationValue) → IsStation plan s → IsGiven lists s → IsMultiplexPlan plan × IsRunOf plan lists s.history.events
-run_of plan lists s is given =
-    let of_plan : IsMultiplexPlan plan = subst IsMultiplexPlan is.plan_is is.sound.plan in
-    let lawful : IsLawful plan s.history.events = subst (λ v. IsLawful v s.history.events) is.plan_is is.sound.run.lawful in
-    let count : length s.inputs ≡ length plan.request.inputs = is.lawful.count ∙ ap (λ (p : PlanValue). length p.request.inputs) is.plan_is in (
-      of_plan,
+run_of : (schedule : ScheduleValue) (lists : PacketLists) (s : StationValue) → IsStation schedule s → IsGiven lists s → IsMultiplexSchedule schedule × IsRunOf schedule lists s.history.events
+run_of schedule lists s is given =
+    let ok : IsMultiplexSchedule schedule = subst IsMultiplexSchedule is.schedule_is is.sound.schedule in
+    let lawful : IsLawful schedule s.history.events = subst (λ v. IsLawful v s.history.events) is.schedule_is is.sound.run.lawful in
+    let count : length s.inputs ≡ input_count schedule = is.lawful.count ∙ ap input_count is.schedule_is in (
+      ok,
       record {
         lawful = lawful;
-        faithful = faithful_to plan lists s.history.events of_plan.request lawful
+        faithful = faithful_to schedule lists s.history.events ok lawful
             (λ i inside.
             elim (slice_get_cases s.inputs i).1 [
-              | inl at ↦ taken_of lists s i at.0 given at.2 (is.lawful.each i at.0 at.2)
+              | inl at ↦
+                  let P : ScheduleValue → Type 0 = λ v. IsTakenOf v s.history.events i (lists i) in
+                  subst P is.schedule_is (taken_of lists s i at.0 given at.2 (is.lawful.each i at.0 at.2))
               | inr past ↦ (let behind = past.0 in absurd (omega (arith, behind, inside, count)))
             ]);
       },
     )
 
 pub stations_agree : StationsAgree
-stations_agree plan lists a b isa givena isb givenb =
-    let ra = run_of plan lists a isa givena in
-    let rb = run_of plan lists b isb givenb in
-    outputs_agree plan lists a.history.events b.history.events ra.0 ra.1 rb.1
+stations_agree schedule lists a b isa givena isb givenb =
+    let ra = run_of schedule lists a isa givena in
+    let rb = run_of schedule lists b isb givenb in
+    outputs_agree schedule lists a.history.events b.history.events ra.0 ra.1 rb.1
 
 -- a beginning that is as long is the whole
 whole_prefix : {X : Type 0} (xs ys : List X) → IsPrefix xs ys → length xs ≡ length ys → xs ≡ ys
@@ -63,11 +65,11 @@ whole_prefix xs ys is same =
     sym (is.1 ∙ (ap (λ v. xs ++ v) none ∙ append-nil xs))
 
 pub slots_agree : SlotsAgree
-slots_agree plan lists a b isa givena isb givenb same =
-    let xs = emitted plan a.history.events in
-    let ys = emitted plan b.history.events in
-    let sizes : length xs ≡ length ys = length-emitted plan a.history.events ∙ (same ∙ sym (length-emitted plan b.history.events)) in
-    elim (stations_agree plan lists a b isa givena isb givenb) [
+slots_agree schedule lists a b isa givena isb givenb same =
+    let xs = emitted schedule a.history.events in
+    let ys = emitted schedule b.history.events in
+    let sizes : length xs ≡ length ys = length-emitted schedule a.history.events ∙ (same ∙ sym (length-emitted schedule b.history.events)) in
+    elim (stations_agree schedule lists a b isa givena isb givenb) [
       | inl p ↦ whole_prefix xs ys p sizes
       | inr p ↦ sym (whole_prefix ys xs p (sym sizes))
     ]

@@ -4,23 +4,62 @@ use Rattle.std.specs.Option.{option_to_list}
 use Rattle.std.proofs.lemmas.Bool.{false≢true, ltb-true}
 use Rattle.tspkt.specs.declared.stamped.Stamped.{Stamped}
 use Rattle.request.specs.declared.stream.Stream.{Stream}
-use Rattle.plan.specs.Build.{PlanValue}
+use Rattle.schedule.specs.Schedule.{ScheduleValue}
 use Rattle.mux.specs.declared.event.Event.{Event}
-use Rattle.mux.specs.declared.event.Event.TheVariants.{Took, Full, Close}
-use Rattle.mux.specs.History.{History, with_event, taken, is_closed, last_stamp, full_noted, is_mapped_to}
-use Rattle.mux.specs.Lawful.{Closed, Stranger, Backward, refusal_of, is_mapped, is_queue_full}
+use Rattle.mux.specs.declared.event.Event.TheVariants.{Took, Full, Early, Close}
+use Rattle.mux.specs.History.{History, with_event, taken, is_closed, last_stamp, full_noted, early_noted, is_mapped_to}
+use Rattle.mux.specs.Lawful.{Closed, Stranger, Backward, refusal_of, is_mapped, is_early, is_queue_full}
 use Rattle.mux.specs.Lawful as refusals
-use Rattle.mux.specs.Answers.{NotesFull}
+use Rattle.mux.specs.Answers.{NotesFull, NotesEarly}
+use Rattle.mux.proofs.Refusals.{early_of}
 use Rattle.station.specs.declared.inlet.Inlet.{Inlet}
-use Rattle.station.specs.Stations.{IsRefusedForGood, FullsAreOfNext, IsLawfulInlet, LeavesOthers}
-use Rattle.station.proofs.EventLaws.{Spares, took_spares, full_spares, close_spares, took_own, close_own, fulls_on, fulls_more, get_behind}
+use Rattle.station.specs.Stations.{IsRefusedForGood, IsNoted, NotesAreOfNext, IsLawfulInlet, LeavesOthers}
+use Rattle.station.proofs.EventLaws.{Spares, took_spares, full_spares, early_spares, close_spares, took_own, close_own, notes_on, notes_more, get_behind}
+
+-- why it can't
+
+stranger : (a b c d e : Bool) → cond a (Some Closed) (cond (not b) (Some Stranger) (cond c (Some Backward) (cond d (Some refusals.Early) (cond e (Some refusals.Full) None)))) ≡ Some Stranger → b ≡ false
+stranger true b c d e is = cc
+stranger false false c d e is = refl
+stranger false true true d e is = cc
+stranger false true false true e is = cc
+stranger false true false false true is = cc
+stranger false true false false false is = cc
+
+backward : (a b c d e : Bool) → cond a (Some Closed) (cond (not b) (Some Stranger) (cond c (Some Backward) (cond d (Some refusals.Early) (cond e (Some refusals.Full) None)))) ≡ Some Backward → c ≡ true
+backward true b c d e is = cc
+backward false false c d e is = cc
+backward false true true d e is = refl
+backward false true false true e is = cc
+backward false true false false true is = cc
+backward false true false false false is = cc
+
+closed : (a b c d e : Bool) → cond a (Some Closed) (cond (not b) (Some Stranger) (cond c (Some Backward) (cond d (Some refusals.Early) (cond e (Some refusals.Full) None)))) ≡ Some Closed → a ≡ true
+closed true b c d e is = refl
+closed false false c d e is = cc
+closed false true true d e is = cc
+closed false true false true e is = cc
+closed false true false false true is = cc
+closed false true false false false is = cc
+
+pub is_stranger : (s : ScheduleValue) (h : List Event) (i : ℕ) (item : Stamped) → refusal_of s h i item ≡ Some Stranger → is_mapped s i item ≡ false
+unfolding refusal_of
+is_stranger s h i item e = stranger (is_closed i h) (is_mapped s i item) (ltb item.stamp (last_stamp i h)) (is_early s h item) (is_queue_full s h i item) e
+
+pub is_backward : (s : ScheduleValue) (h : List Event) (i : ℕ) (item : Stamped) → refusal_of s h i item ≡ Some Backward → item.stamp < last_stamp i h
+unfolding refusal_of
+is_backward s h i item e = ltb-true item.stamp (last_stamp i h) (backward (is_closed i h) (is_mapped s i item) (ltb item.stamp (last_stamp i h)) (is_early s h item) (is_queue_full s h i item) e)
+
+pub is_shut : (s : ScheduleValue) (h : List Event) (i : ℕ) (item : Stamped) → refusal_of s h i item ≡ Some Closed → is_closed i h ≡ true
+unfolding refusal_of
+is_shut s h i item e = closed (is_closed i h) (is_mapped s i item) (ltb item.stamp (last_stamp i h)) (is_early s h item) (is_queue_full s h i item) e
 
 -- events of others
 
 pub spared : (h : History) (e : Event) (j : ℕ) (x : Inlet) → Spares j h.events e → IsLawfulInlet h j x → IsLawfulInlet (with_event h e) j x
 spared h e j x s old = record {
   received = old.received ∙ ap (λ (xs : List Stamped). xs ++ option_to_list x.held) (sym s.taken_is);
-  fulls = fulls_on j x.end.received h.events e s.no_full old.fulls;
+  notes = notes_on h.run.schedule j x.end.received h.events e s.unnoted old.notes;
   closed = old.closed ∙ sym s.closed_is;
   closes = λ is.
       elim (old.closes is) [
@@ -34,6 +73,15 @@ spared h e j x s old = record {
 
 pub others_stay : (i : ℕ) (h : History) → LeavesOthers i h h
 others_stay i h j x ne old = old
+
+pub others_early : (i : ℕ) (h : History) (b : Bool) → LeavesOthers i h (cond b h (with_event h (Early i)))
+others_early i h true j x ne old = old
+others_early i h false j x ne old = spared h (Early i) j x (early_spares i j h.events ne) old
+
+pub others_noted_early : (i : ℕ) (h new : History) → NotesEarly h i new → LeavesOthers i h new
+others_noted_early i h new noted =
+    let P : History → Type 0 = LeavesOthers i h in
+    subst P (sym noted) (others_early i h (early_noted i h.events))
 
 pub others_took : (i : ℕ) (h : History) (item : Stamped) → LeavesOthers i h (with_event h (Took i item))
 others_took i h item j x ne old = spared h (Took i item) j x (took_spares i j h.events item ne) old
@@ -62,7 +110,7 @@ came h i x item none opened old =
     let all : x.end.received ≡ taken i h.events = old.received ∙ (ap (λ (o : Option Stamped). taken i h.events ++ option_to_list o) none ∙ append-nil (taken i h.events)) in
     record {
       received = ap (λ (xs : List Stamped). xs ++ item ∷ []) all;
-      fulls = fulls_more i x.end.received (item ∷ []) h.events old.fulls;
+      notes = notes_more h.run.schedule i x.end.received (item ∷ []) h.events old.notes;
       closed = old.closed;
       closes = λ is. absurd (false≢true (sym opened ∙ is));
     }
@@ -72,33 +120,46 @@ pub took : (h : History) (i : ℕ) (x : Inlet) (item : Stamped) → x.held ≡ S
     → IsLawfulInlet (with_event h (Took i item)) i (record x { held = None })
 took h i x item held opened old = record {
   received = old.received ∙ (ap (λ (o : Option Stamped). taken i h.events ++ option_to_list o) held ∙ (sym (took_own i h.events item) ∙ sym (append-nil (taken i (Took i item ∷ h.events)))));
-  fulls = fulls_on i x.end.received h.events (Took i item) (λ st e. cc) old.fulls;
+  notes = notes_on h.run.schedule i x.end.received h.events (Took i item) refl old.notes;
   closed = old.closed;
   closes = λ is. absurd (false≢true (sym opened ∙ is));
 }
 
-full_next : (h : History) (i : ℕ) (x : Inlet) (item : Stamped) (st : Stream) → x.held ≡ Some item → is_mapped_to st i item ≡ true → IsLawfulInlet h i x
-    → FullsAreOfNext i x.end.received (Full i st ∷ h.events)
-full_next h i x item st held mapped old [] before su is =
+-- with this event behind these, nothing is other of what was taken of the input, and it isn't closed
+record Spared (i : ℕ) (h : List Event) (e : Event) : Type 0 where
+  taken_is : taken i (e ∷ h) ≡ taken i h
+  closed_is : is_closed i (e ∷ h) ≡ is_closed i h
+
+-- what is noted of the packet that is held is noted of the next one
+note_next : (h : History) (i : ℕ) (x : Inlet) (item : Stamped) (e : Event) → x.held ≡ Some item → IsNoted h.run.schedule i e h.events item → IsLawfulInlet h i x
+    → NotesAreOfNext h.run.schedule i x.end.received (e ∷ h.events)
+note_next h i x item e held tells old [] before note is noted =
     let all : x.end.received ≡ taken i h.events ++ item ∷ [] = old.received ∙ ap (λ (o : Option Stamped). taken i h.events ++ option_to_list o) held in
     let same : h.events ≡ before = cc in
-    let stream : st ≡ su = cc in (
+    let one : e ≡ note = cc in
+    let P : List Event → Type 0 = λ es. IsNoted h.run.schedule i e es item in
+    let Q : Event → Type 0 = λ v. IsNoted h.run.schedule i v before item in (
       item,
       ap (λ (xs : List Stamped). slice_get xs (length (taken i before))) all
           ∙ (ap (λ (es : List Event). slice_get (taken i h.events ++ item ∷ []) (length (taken i es))) (sym same) ∙ get_behind (taken i h.events) item),
-      ap (λ (v : Stream). is_mapped_to v i item) (sym stream) ∙ mapped,
+      subst Q one (subst P same tells),
     )
-full_next h i x item st held mapped old (a ∷ after) before su is = (let same : h.events ≡ after ++ Full i su ∷ before = cc in old.fulls after before su same)
+note_next h i x item e held tells old (a ∷ after) before note is noted = (let same : h.events ≡ after ++ note ∷ before = cc in old.notes after before note same noted)
 
-noted_so : (h : History) (i : ℕ) (x : Inlet) (item : Stamped) (st : Stream) (b : Bool) → x.held ≡ Some item → x.is_closed ≡ false → is_mapped_to st i item ≡ true → IsLawfulInlet h i x
-    → IsLawfulInlet (cond b h (with_event h (Full i st))) i x
-noted_so h i x item st true held opened mapped old = old
-noted_so h i x item st false held opened mapped old = record {
-  received = old.received;
-  fulls = full_next h i x item st held mapped old;
-  closed = old.closed;
+-- such a note leaves all else of the input
+noted_one : (h : History) (i : ℕ) (x : Inlet) (item : Stamped) (e : Event) → Spared i h.events e → x.held ≡ Some item → x.is_closed ≡ false → IsNoted h.run.schedule i e h.events item → IsLawfulInlet h i x
+    → IsLawfulInlet (with_event h e) i x
+noted_one h i x item e stays held opened tells old = record {
+  received = old.received ∙ ap (λ (xs : List Stamped). xs ++ option_to_list x.held) (sym stays.taken_is);
+  notes = note_next h i x item e held tells old;
+  closed = old.closed ∙ sym stays.closed_is;
   closes = λ is. absurd (false≢true (sym opened ∙ is));
 }
+
+noted_so : (h : History) (i : ℕ) (x : Inlet) (item : Stamped) (st : Stream) (b : Bool) → x.held ≡ Some item → x.is_closed ≡ false → is_mapped_to h.run.schedule st i item ≡ true → IsLawfulInlet h i x
+    → IsLawfulInlet (cond b h (with_event h (Full i st))) i x
+noted_so h i x item st true held opened mapped old = old
+noted_so h i x item st false held opened mapped old = noted_one h i x item (Full i st) (record { taken_is = refl; closed_is = refl }) held opened mapped old
 
 -- its queue is full
 pub noted : (h : History) (i : ℕ) (x : Inlet) (item : Stamped) (new : History) → x.held ≡ Some item → x.is_closed ≡ false → NotesFull h i item new → IsLawfulInlet h i x → IsLawfulInlet new i x
@@ -106,12 +167,24 @@ noted h i x item new held opened note old =
     let P : History → Type 0 = λ v. IsLawfulInlet v i x in
     subst P (sym note.3) (noted_so h i x item note.0 (full_noted i h.events) held opened note.2 old)
 
+early_so : (h : History) (i : ℕ) (x : Inlet) (item : Stamped) (b : Bool) → x.held ≡ Some item → x.is_closed ≡ false → is_early h.run.schedule h.events item ≡ true → IsLawfulInlet h i x
+    → IsLawfulInlet (cond b h (with_event h (Early i))) i x
+early_so h i x item true held opened early old = old
+early_so h i x item false held opened early old = noted_one h i x item (Early i) (record { taken_is = refl; closed_is = refl }) held opened early old
+
+-- it belongs to a later plan
+pub noted_early : (h : History) (i : ℕ) (x : Inlet) (item : Stamped) (new : History) → x.held ≡ Some item → x.is_closed ≡ false → refusal_of h.run.schedule h.events i item ≡ Some refusals.Early
+    → NotesEarly h i new → IsLawfulInlet h i x → IsLawfulInlet new i x
+noted_early h i x item new held opened why note old =
+    let P : History → Type 0 = λ v. IsLawfulInlet v i x in
+    subst P (sym note) (early_so h i x item (early_noted i h.events) held opened (early_of h.run.schedule h.events i item why) old)
+
 -- the end mark came
 pub ended : (h : History) (i : ℕ) (x : Inlet) → x.held ≡ None → IsLawfulInlet h i x
     → IsLawfulInlet (with_event h (Close i)) i (record { end = record x.end { is_ended = true }; held = x.held; is_closed = true })
 ended h i x none old = record {
   received = old.received;
-  fulls = fulls_on i x.end.received h.events (Close i) (λ st e. cc) old.fulls;
+  notes = notes_on h.run.schedule i x.end.received h.events (Close i) refl old.notes;
   closed = sym (close_own i h.events);
   closes = λ is. inl (refl, none);
 }
@@ -121,42 +194,7 @@ pub refused : (h : History) (i : ℕ) (x : Inlet) (item : Stamped) → x.held �
     → IsLawfulInlet (with_event h (Close i)) i (record x { is_closed = true })
 refused h i x item held bad old = record {
   received = old.received;
-  fulls = fulls_on i x.end.received h.events (Close i) (λ st e. cc) old.fulls;
+  notes = notes_on h.run.schedule i x.end.received h.events (Close i) refl old.notes;
   closed = sym (close_own i h.events);
   closes = λ is. inr (item, held, bad);
 }
-
--- why it can't
-
-stranger : (a b c d : Bool) → cond a (Some Closed) (cond (not b) (Some Stranger) (cond c (Some Backward) (cond d (Some refusals.Full) None))) ≡ Some Stranger → b ≡ false
-stranger true b c d e = cc
-stranger false false c d e = refl
-stranger false true true d e = cc
-stranger false true false true e = cc
-stranger false true false false e = cc
-
-backward : (a b c d : Bool) → cond a (Some Closed) (cond (not b) (Some Stranger) (cond c (Some Backward) (cond d (Some refusals.Full) None))) ≡ Some Backward → c ≡ true
-backward true b c d e = cc
-backward false false c d e = cc
-backward false true true d e = refl
-backward false true false true e = cc
-backward false true false false e = cc
-
-closed : (a b c d : Bool) → cond a (Some Closed) (cond (not b) (Some Stranger) (cond c (Some Backward) (cond d (Some refusals.Full) None))) ≡ Some Closed → a ≡ true
-closed true b c d e = refl
-closed false false c d e = cc
-closed false true true d e = cc
-closed false true false true e = cc
-closed false true false false e = cc
-
-pub is_stranger : (p : PlanValue) (h : List Event) (i : ℕ) (item : Stamped) → refusal_of p h i item ≡ Some Stranger → is_mapped p i item ≡ false
-unfolding refusal_of
-is_stranger p h i item e = stranger (is_closed i h) (is_mapped p i item) (ltb item.stamp (last_stamp i h)) (is_queue_full p h i item) e
-
-pub is_backward : (p : PlanValue) (h : List Event) (i : ℕ) (item : Stamped) → refusal_of p h i item ≡ Some Backward → item.stamp < last_stamp i h
-unfolding refusal_of
-is_backward p h i item e = ltb-true item.stamp (last_stamp i h) (backward (is_closed i h) (is_mapped p i item) (ltb item.stamp (last_stamp i h)) (is_queue_full p h i item) e)
-
-pub is_shut : (p : PlanValue) (h : List Event) (i : ℕ) (item : Stamped) → refusal_of p h i item ≡ Some Closed → is_closed i h ≡ true
-unfolding refusal_of
-is_shut p h i item e = closed (is_closed i h) (is_mapped p i item) (ltb item.stamp (last_stamp i h)) (is_queue_full p h i item) e

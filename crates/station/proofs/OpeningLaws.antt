@@ -3,45 +3,46 @@ use Rattle.std.proofs.Common.{ℕ, zero, suc, ◌≡◌, List, [], ◌∷◌, le
 use Rattle.std.proofs.lemmas.List.{length-map}
 use Rattle.std.proofs.lemmas.Option.{slice_get_within, slice_get_cases}
 use Rattle.tspkt.specs.declared.stamped.Stamped.{Stamped}
-use Rattle.plan.specs.Build.{PlanValue}
+use Rattle.schedule.specs.Schedule.{ScheduleValue}
+use Rattle.mux.specs.Lawful.{input_count}
 use Rattle.mux.specs.History.{History, opened}
 use Rattle.port.specs.Rings.{PortValue, RingEndValue, IsNewRing, AreNewRings}
 use Rattle.station.specs.declared.inlet.Inlet.{Inlet}
-use Rattle.station.specs.Stations.{FullsAreOfNext, IsLawfulInlet, IsLawfulStation}
+use Rattle.station.specs.Stations.{NotesAreOfNext, IsLawfulInlet, IsLawfulStation}
 use Rattle.station.specs.Opening.{new_inlet, IsFresh, IsOpened}
 
-no_fulls : (i : ℕ) (received : List Stamped) → FullsAreOfNext i received []
-no_fulls i received [] before st is = cc
-no_fulls i received (a ∷ after) before st is = cc
+no_notes : (s : ScheduleValue) (i : ℕ) (received : List Stamped) → NotesAreOfNext s i received []
+no_notes s i received [] before e is noted = cc
+no_notes s i received (a ∷ after) before e is noted = cc
 
 inlet_of : (ends : List RingEndValue) (i : ℕ) (x : Inlet) → slice_get (map new_inlet ends) i ≡ Some x → (end : RingEndValue) × (slice_get ends i ≡ Some end) × (new_inlet end ≡ x)
 inlet_of [] i x at = absurd (cc)
 inlet_of (e ∷ ends) zero x at = (e, refl, cc)
 inlet_of (e ∷ ends) (suc i) x at = inlet_of ends i x at
 
-new_lawful : (plan : PlanValue) (limit i : ℕ) (port : PortValue) (end : RingEndValue) → IsNewRing i port end → IsLawfulInlet (opened plan limit) i (new_inlet end)
-new_lawful plan limit i port end new = record {
+new_lawful : (schedule : ScheduleValue) (limit i : ℕ) (port : PortValue) (end : RingEndValue) → IsNewRing i port end → IsLawfulInlet (opened schedule limit) i (new_inlet end)
+new_lawful schedule limit i port end new = record {
   received = new.unreceived;
-  fulls = no_fulls i end.received;
+  notes = no_notes schedule i end.received;
   closed = refl;
   closes = λ is. cc;
 }
 
-pub opened_lawful : (plan : PlanValue) (limit n : ℕ) (ports : List PortValue) (ends : List RingEndValue) → AreNewRings n ports ends → n ≡ length plan.request.inputs → IsLawfulStation (opened plan limit) (map new_inlet ends)
-opened_lawful plan limit n ports ends new count = record {
+pub opened_lawful : (schedule : ScheduleValue) (limit n : ℕ) (ports : List PortValue) (ends : List RingEndValue) → AreNewRings n ports ends → n ≡ input_count schedule → IsLawfulStation (opened schedule limit) (map new_inlet ends)
+opened_lawful schedule limit n ports ends new count = record {
   count = length-map ends new_inlet ∙ (new.ends_are ∙ count);
   each = λ i x at.
       let from = inlet_of ends i x at in
-      let P : Inlet → Type 0 = IsLawfulInlet (opened plan limit) i in
+      let P : Inlet → Type 0 = IsLawfulInlet (opened schedule limit) i in
       elim (slice_get_cases ports i).1 [
-        | inl found ↦ subst P from.2 (new_lawful plan limit i found.0 from.0 (new.each i found.0 from.0 found.2 from.1))
+        | inl found ↦ subst P from.2 (new_lawful schedule limit i found.0 from.0 (new.each i found.0 from.0 found.2 from.1))
         | inr past ↦ absurd (omega (arith, slice_get_within ends i from.0 from.1, past.0, new.ports_are, new.ends_are))
       ];
 }
 
-pub is_opened : (plan : PlanValue) (limit n : ℕ) (ports : List PortValue) (ends : List RingEndValue) (inlets : List Inlet) (h : History) → AreNewRings n ports ends → n ≡ length plan.request.inputs
-    → inlets ≡ map new_inlet ends → h ≡ opened plan limit → IsOpened plan limit (record { history = h; inputs = inlets }) ports
-is_opened plan limit n ports ends inlets h new count are is = record {
+pub is_opened : (schedule : ScheduleValue) (limit n : ℕ) (ports : List PortValue) (ends : List RingEndValue) (inlets : List Inlet) (h : History) → AreNewRings n ports ends → n ≡ input_count schedule
+    → inlets ≡ map new_inlet ends → h ≡ opened schedule limit → IsOpened schedule limit (record { history = h; inputs = inlets }) ports
+is_opened schedule limit n ports ends inlets h new count are is = record {
   history = is;
   inputs_are = ap (λ (v : List Inlet). length v) are ∙ (length-map ends new_inlet ∙ (new.ends_are ∙ count));
   ports_are = new.ports_are ∙ count;

@@ -1,9 +1,10 @@
 -- What a station keeps, from event to event.
-use Rattle.std.proofs.Common.{ℕ, zero, suc, ◌≡◌, ◌≢◌, Bool, true, false, List, [], ◌∷◌, length, set, slice_get, Some, MatchBool, refl, ap, sym, subst, ◌∙◌, inl, inr, length-set}
+use Rattle.std.proofs.Common.{ℕ, zero, suc, ◌+◌, ◌≡◌, ◌≢◌, Bool, true, false, List, [], ◌∷◌, set, slice_get, Some, MatchBool, refl, ap, sym, subst, ◌∙◌, inl, inr, length-set}
 use Rattle.std.proofs.lemmas.Bool.{cases_eq}
-use Rattle.mux.specs.declared.event.Event.TheVariants.{Slot}
+use Rattle.mux.specs.declared.event.Event.TheVariants.{Slot, Switch}
 use Rattle.mux.specs.declared.content.Content.{Content}
-use Rattle.mux.specs.History.{History, Run, with_event}
+use Rattle.mux.specs.History.{History, Run, with_event, in_force}
+use Rattle.mux.specs.Lawful.{input_count}
 use Rattle.mux.specs.Answers.{SendAnswers}
 use Rattle.mux.specs.declared.sending.Sending.{Sending}
 use Rattle.mux.specs.declared.sending.Sending.TheVariants as sending
@@ -12,7 +13,7 @@ use Rattle.station.specs.declared.inlet.Inlet.{Inlet}
 use Rattle.station.specs.Stations.{IsLawfulInlet, IsLawfulStation, LeavesOthers, rings_of}
 use Rattle.station.specs.Moving.{MovesIn, EndsBy, Ending, Nothing, Mark, HeldBack}
 use Rattle.station.specs.Ticking.{MovesAll}
-use Rattle.station.proofs.EventLaws.{slot_spares}
+use Rattle.station.proofs.EventLaws.{slot_spares, switch_spares}
 use Rattle.station.proofs.InletLaws.{spared}
 
 get_set_here : (xs : List Inlet) (k : ℕ) (x y : Inlet) → slice_get (set xs k y) k ≡ Some x → x ≡ y
@@ -30,7 +31,7 @@ get_set_there (z ∷ xs) (suc k) (suc j) x y ne e = get_set_there xs k j x y (λ
 -- one input of it goes on
 pub lawful_set : (a b : History) (xs : List Inlet) (n : ℕ) (y : Inlet) → b.run ≡ a.run → IsLawfulStation a xs → LeavesOthers n a b → IsLawfulInlet b n y → IsLawfulStation b (set xs n y)
 lawful_set a b xs n y run old others own = record {
-  count = length-set xs n y ∙ (old.count ∙ ap (λ (r : Run). length r.plan.request.inputs) (sym run));
+  count = length-set xs n y ∙ (old.count ∙ ap (λ (r : Run). input_count r.schedule) (sym run));
   each = λ j x at. (elim (cases_eq j n) [
     | inl same ↦
         (let here : x ≡ y = get_set_here xs n x y (let P : ℕ → Type 0 = λ k. slice_get (set xs n y) k ≡ Some x in subst P same at) in
@@ -44,11 +45,15 @@ lawful_set a b xs n y run old others own = record {
 slot_sent : (h : History) (c : Content) (xs : List Inlet) → IsLawfulStation h xs → IsLawfulStation (with_event h (Slot c)) xs
 slot_sent h c xs old = record { count = old.count; each = λ j x at. spared h (Slot c) j x (slot_spares j h.events c) (old.each j x at) }
 
--- a slot was sent, or wasn't
+plan_switched : (h : History) (number : ℕ) (xs : List Inlet) → IsLawfulStation h xs → IsLawfulStation (with_event h (Switch number)) xs
+plan_switched h number xs old = record { count = old.count; each = λ j x at. spared h (Switch number) j x (switch_spares j h.events number) (old.each j x at) }
+
+-- a slot was sent, or the next plan came, or nothing was done
 pub lawful_sent : (h new : History) (answer : Sending) (xs : List Inlet) → SendAnswers h answer new → IsLawfulStation h xs → IsLawfulStation new xs
 lawful_sent h new sending.Done xs is old = (let P : History → Type 0 = λ v. IsLawfulStation v xs in subst P (sym is.0) old)
 lawful_sent h new sending.RunFull xs is old = (let P : History → Type 0 = λ v. IsLawfulStation v xs in subst P (sym is.0) old)
 lawful_sent h new (sending.NotReady i) xs is old = (let P : History → Type 0 = λ v. IsLawfulStation v xs in subst P (sym is.0) old)
+lawful_sent h new sending.Switched xs is old = (let P : History → Type 0 = λ v. IsLawfulStation v xs in subst P (sym is.2) (plan_switched h (in_force h.events + 1) xs old))
 lawful_sent h new sending.Memory xs is old = (let P : History → Type 0 = λ v. IsLawfulStation v xs in subst P (sym is.0) old)
 lawful_sent h new sending.Sent xs is old = (let P : History → Type 0 = λ v. IsLawfulStation v xs in subst P (sym is.1.2) (slot_sent h is.1.0 xs old))
 

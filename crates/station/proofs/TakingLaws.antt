@@ -10,8 +10,8 @@ use Rattle.station.specs.declared.inlet.Inlet.{Inlet}
 use Rattle.mux.specs.Answers.{OfferAnswers}
 use Rattle.mux.specs.declared.offered.Offered.{Offered}
 use Rattle.mux.specs.declared.offered.Offered.TheVariants as offered
-use Rattle.station.specs.Stations.{IsLawfulInlet, IsRefusedForGood}
-use Rattle.station.proofs.InletLaws.{is_stranger, is_backward}
+use Rattle.station.specs.Stations.{IsLawfulInlet, IsRefusedForGood, LeavesOthers}
+use Rattle.station.proofs.InletLaws.{is_stranger, is_backward, noted, noted_early, others_noted, others_noted_early}
 use Rattle.station.specs.Moving.{TakesNext, IsHeldBack, EndsTaking, Nothing, Mark, HeldBack}
 
 -- the same of equal values
@@ -96,8 +96,22 @@ pub refused_answer : (h : History) (i : ℕ) (item : Stamped) (answer : Offered)
 refused_answer h i item answer new (inl e) is =
     let P : Offered → Type 0 = λ v. OfferAnswers h i item v new in
     let a = subst P e is in
-    (inl (is_stranger h.run.plan h.events i item a.0), a.1)
+    (inl (is_stranger h.run.schedule h.events i item a.0), a.1)
 refused_answer h i item answer new (inr e) is =
     let P : Offered → Type 0 = λ v. OfferAnswers h i item v new in
     let a = subst P e is in
-    (inr (is_backward h.run.plan h.events i item a.0), a.1)
+    (inr (is_backward h.run.schedule h.events i item a.0), a.1)
+
+-- a packet that is early, or meets a full queue, is held
+pub held_answer : (h : History) (i : ℕ) (item : Stamped) (answer : Offered) (new : History) → (answer ≡ offered.Full) ⊎ (answer ≡ offered.Early) → OfferAnswers h i item answer new
+    → IsHeldBack i h item new false
+held_answer h i item answer new (inl e) is = let P : Offered → Type 0 = λ v. OfferAnswers h i item v new in inl (subst P e is)
+held_answer h i item answer new (inr e) is = let P : Offered → Type 0 = λ v. OfferAnswers h i item v new in inr (subst P e is)
+
+pub held_lawful : (h : History) (i : ℕ) (x : Inlet) (item : Stamped) (new : History) → x.held ≡ Some item → x.is_closed ≡ false → IsHeldBack i h item new false → IsLawfulInlet h i x → IsLawfulInlet new i x
+held_lawful h i x item new held opened (inl full) old = noted h i x item new held opened full.1 old
+held_lawful h i x item new held opened (inr early) old = noted_early h i x item new held opened early.0 early.1 old
+
+pub held_others : (h : History) (i : ℕ) (item : Stamped) (new : History) → IsHeldBack i h item new false → LeavesOthers i h new
+held_others h i item new (inl full) = others_noted i h item new full.1
+held_others h i item new (inr early) = others_noted_early i h new early.1

@@ -1,7 +1,7 @@
 -- How a station goes on as far as its rings show (profile).
 use Rattle.std.specs.Prelude.{◌≡◌, ◌⊎◌, ℕ, zero, suc, ◌≤◌, List, [], ◌∷◌, ◌++◌, Some, None, slice_set}
 use Rattle.std.specs.List.{slice_get}
-use Rattle.mux.specs.Answers.{IsRunning, IsLeastUnready, SendAnswers, SlotAnswers}
+use Rattle.mux.specs.Answers.{IsRunning, IsUnswitched, IsLeastUnready, SendAnswers, SlotAnswers}
 use Rattle.mux.specs.declared.sending.Sending.{Sending}
 use Rattle.mux.specs.declared.sending.Sending.TheVariants as sending
 use Rattle.mux.specs.declared.slot.Slot.TheVariants as slot
@@ -18,6 +18,7 @@ pub record SendsSlot (old new : StationValue) (packet : List ℕ) : Type 0 where
 -- it was closed at its end mark. So each step changes the station.
 pub record Pulls (i : ℕ) (old new : StationValue) : Type 0 where
   pub running : IsRunning old.history
+  pub unswitched : IsUnswitched old.history
   pub unready : IsLeastUnready old.history i
   pub before : Inlet
   pub after : Inlet
@@ -25,10 +26,16 @@ pub record Pulls (i : ℕ) (old new : StationValue) : Type 0 where
   pub inputs : new.inputs ≡ slice_set old.inputs i after
   pub pulled : TakesNext i old.history before new.history after ⊎ ComesUntaken i old.history before new.history after
 
+-- the next plan came into force, and nothing was sent
+pub record Switches (old new : StationValue) : Type 0 where
+  pub switch : SendAnswers old.history sending.Switched new.history
+  pub inputs : new.inputs ≡ old.inputs
+
 -- one step, and what went out in it
 abbrev pub IsStep : StationValue → StationValue → List (List ℕ) → Type 0
 IsStep old new packets =
     ((packet : List ℕ) × (packets ≡ packet ∷ []) × SendsSlot old new packet)
+    ⊎ ((packets ≡ []) × Switches old new)
     ⊎ ((i : ℕ) × (packets ≡ []) × Pulls i old new)
 
 -- so many steps, one behind the other, and what went out in them

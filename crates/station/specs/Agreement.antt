@@ -2,7 +2,7 @@
 use Rattle.std.specs.Prelude.{◌≡◌, ◌⊎◌, ℕ, true, Some}
 use Rattle.std.specs.List.{slice_get}
 use Rattle.tspkt.specs.declared.stamped.Stamped.{Stamped}
-use Rattle.plan.specs.Build.{PlanValue}
+use Rattle.schedule.specs.Schedule.{ScheduleValue}
 use Rattle.mux.specs.History.{slots, emitted}
 use Rattle.mux.specs.Headline.{IsSound}
 use Rattle.mux.specs.Faithful.{PacketLists, IsPrefix}
@@ -10,8 +10,8 @@ use Rattle.station.specs.declared.inlet.Inlet.{Inlet}
 use Rattle.station.specs.Stations.{StationValue, IsLawfulStation, IsRefusedForGood}
 
 -- what each station keeps, however it went on
-pub record IsStation (plan : PlanValue) (s : StationValue) : Type 0 where
-  pub plan_is : s.history.run.plan ≡ plan
+pub record IsStation (schedule : ScheduleValue) (s : StationValue) : Type 0 where
+  pub schedule_is : s.history.run.schedule ≡ schedule
   pub sound : IsSound s.history
   pub lawful : IsLawfulStation s.history s.inputs
 
@@ -23,18 +23,18 @@ pub record IsGiven (lists : PacketLists) (s : StationValue) : Type 0 where
   pub takeable : (i : ℕ) (x : Inlet) (item : Stamped)
       → slice_get s.inputs i ≡ Some x → x.held ≡ Some item → IsRefusedForGood s.history i item → ⊥
 
--- Of two stations of one plan that are given the same packets, what one sent begins what the other sent.
+-- Of two stations of one schedule that are given the same packets, what one sent begins what the other sent.
 abbrev pub StationsAgree : Type 0
 StationsAgree =
-    (plan : PlanValue) (lists : PacketLists) (a b : StationValue)
-    → IsStation plan a → IsGiven lists a → IsStation plan b → IsGiven lists b
-    → IsPrefix (emitted plan a.history.events) (emitted plan b.history.events)
-    ⊎ IsPrefix (emitted plan b.history.events) (emitted plan a.history.events)
+    (schedule : ScheduleValue) (lists : PacketLists) (a b : StationValue)
+    → IsStation schedule a → IsGiven lists a → IsStation schedule b → IsGiven lists b
+    → IsPrefix (emitted schedule a.history.events) (emitted schedule b.history.events)
+    ⊎ IsPrefix (emitted schedule b.history.events) (emitted schedule a.history.events)
 
 -- And where they sent as many slots they sent the same packets.
 abbrev pub SlotsAgree : Type 0
 SlotsAgree =
-    (plan : PlanValue) (lists : PacketLists) (a b : StationValue)
-    → IsStation plan a → IsGiven lists a → IsStation plan b → IsGiven lists b
+    (schedule : ScheduleValue) (lists : PacketLists) (a b : StationValue)
+    → IsStation schedule a → IsGiven lists a → IsStation schedule b → IsGiven lists b
     → slots a.history.events ≡ slots b.history.events
-    → emitted plan a.history.events ≡ emitted plan b.history.events
+    → emitted schedule a.history.events ≡ emitted schedule b.history.events

@@ -4,8 +4,8 @@ use Rattle.std.specs.Option.{option_to_list}
 use Rattle.tspkt.specs.declared.stamped.Stamped.{Stamped}
 use Rattle.mux.specs.declared.event.Event.TheVariants.{Took, Close}
 use Rattle.mux.specs.History.{History, with_event}
-use Rattle.mux.specs.Lawful.{Full, refusal_of}
-use Rattle.mux.specs.Answers.{NotesFull}
+use Rattle.mux.specs.Lawful.{Early, Full, refusal_of}
+use Rattle.mux.specs.Answers.{NotesFull, NotesEarly}
 use Rattle.station.specs.declared.inlet.Inlet.{Inlet}
 use Rattle.station.specs.Stations.{IsRefusedForGood}
 
@@ -32,10 +32,12 @@ pub record TakesNext (i : ℕ) (old : History) (x : Inlet) (new : History) (y : 
   pub next : option_to_list x.held ++ came ≡ item ∷ []
   pub inlet : y ≡ record { end = record x.end { received = x.end.received ++ came }; held = None; is_closed = false }
 
--- The packet that came next isn't taken: the queue of its stream is full, which is noted, or it can never be taken, and the input
--- is closed. It is held.
+-- The packet that came next isn't taken: the queue of its stream is full, or it belongs to a later plan, which is noted, or it can never
+-- be taken, and the input is closed. It is held.
 abbrev pub IsHeldBack : ℕ → History → Stamped → History → Bool → Type 0
-IsHeldBack i old item new false = (refusal_of old.run.plan old.events i item ≡ Some Full) × NotesFull old i item new
+IsHeldBack i old item new false =
+    ((refusal_of old.run.schedule old.events i item ≡ Some Full) × NotesFull old i item new)
+    ⊎ ((refusal_of old.run.schedule old.events i item ≡ Some Early) × NotesEarly old i new)
 IsHeldBack i old item new true = IsRefusedForGood old i item × (new ≡ with_event old (Close i))
 
 -- Nothing more was taken: nothing was seen in the ring, or the end mark came and the input was closed, or the packet that came

@@ -1,8 +1,9 @@
 -- A station of which nothing was taken or sent (profile).
 use Rattle.std.specs.Prelude.{◌≡◌, ℕ, List, [], length, false, None, Some}
 use Rattle.std.specs.List.{slice_get}
-use Rattle.plan.specs.Build.{PlanValue}
+use Rattle.schedule.specs.Schedule.{ScheduleValue}
 use Rattle.mux.specs.History.{opened}
+use Rattle.mux.specs.Lawful.{input_count}
 use Rattle.port.specs.Rings.{PortValue, RingEndValue}
 use Rattle.station.specs.declared.inlet.Inlet.{Inlet}
 use Rattle.station.specs.Stations.{StationValue}
@@ -20,10 +21,10 @@ pub record IsFresh (i : ℕ) (port : PortValue) (x : Inlet) : Type 0 where
   pub unheld : x.held ≡ None
   pub open_ : x.is_closed ≡ false
 
--- the station of a plan, and the port of each input, in the plan's order
-pub record IsOpened (plan : PlanValue) (limit : ℕ) (station : StationValue) (ports : List PortValue) : Type 0 where
-  pub history : station.history ≡ opened plan limit
-  pub inputs_are : length station.inputs ≡ length plan.request.inputs
-  pub ports_are : length ports ≡ length plan.request.inputs
+-- the station of a schedule, and the port of each input, in its order
+pub record IsOpened (schedule : ScheduleValue) (limit : ℕ) (station : StationValue) (ports : List PortValue) : Type 0 where
+  pub history : station.history ≡ opened schedule limit
+  pub inputs_are : length station.inputs ≡ input_count schedule
+  pub ports_are : length ports ≡ input_count schedule
   pub each : (i : ℕ) (port : PortValue) (x : Inlet)
       → slice_get ports i ≡ Some port → slice_get station.inputs i ≡ Some x → IsFresh i port x

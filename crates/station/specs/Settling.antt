@@ -4,6 +4,7 @@ use Rattle.std.specs.List.{slice_get}
 use Rattle.std.specs.Option.{option_to_list}
 use Rattle.tspkt.specs.declared.stamped.Stamped.{Stamped}
 use Rattle.mux.specs.History.{taken}
+use Rattle.mux.specs.Totals.{told}
 use Rattle.port.specs.Rings.{FinishedValue}
 use Rattle.station.specs.declared.inlet.Inlet.{Inlet}
 use Rattle.station.specs.declared.settled.Settled.{Settled}
@@ -16,7 +17,7 @@ pub record IsSettled (station : StationValue) (port : FinishedValue) (s : Settle
   pub input_is : slice_get station.inputs port.port.ring.input ≡ Some input
   pub left : List Stamped
   pub sent : port.port.sent ≡ (taken port.port.ring.input station.history.events ++ option_to_list input.held) ++ left
-  pub taken_count : s.taken ≡ length (taken port.port.ring.input station.history.events)
+  pub taken_count : s.taken ≡ told (length (taken port.port.ring.input station.history.events))
   pub held_count : s.held ≡ length (option_to_list input.held)
   pub left_count : s.left ≡ length left
   pub marked : input.end.is_ended ≡ true → (port.is_ended ≡ true) × (left ≡ [])

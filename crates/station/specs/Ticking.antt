@@ -21,5 +21,5 @@ MovesAll i most old (x ∷ xs) new ys =
 -- multiplex answered for the next slot.
 pub record Ticks (old : StationValue) (answer : Sending) (new : StationValue) : Type 0 where
   pub between : History
-  pub moves : MovesAll 0 old.history.run.plan.request.ring old.history old.inputs between new.inputs
+  pub moves : MovesAll 0 old.history.run.schedule.first.request.ring old.history old.inputs between new.inputs
   pub sends : SendAnswers between answer new.history

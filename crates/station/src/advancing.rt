@@ -2,6 +2,7 @@
 
 ghost use Rattle.std.specs.Prelude.{◌≡◌, ◌≢◌, ◌⊎◌, ◌+◌, ◌<◌, ◌≤◌, ◌++◌, ℕ, List, true, false, None, Some, IsSome, length, vec_len, vec_capacity, MatchOption};
 ghost use Rattle.mux.specs.History.{History, is_closed};
+ghost use Rattle.mux.specs.Lawful.{input_count};
 ghost use Rattle.station.specs.Stations.{IsLawfulInlet, IsLawfulStation, LeavesOthers, rings_of};
 ghost use Rattle.station.specs.Moving.{TakesNext, ComesUntaken};
 ghost use Rattle.station.specs.Advancing.{AdvancesBehind, IsStep, IsStuck};
@@ -23,7 +24,7 @@ fn is_stopped(inlet: &Inlet) -> bool
 /// Takes the packet of an open input that comes next, or holds it back, or closes the input at its end mark. False is answered
 /// where no packet is held and nothing is seen in the ring.
 fn pull(mux: &mut Mux, number: usize, inlet: &mut Inlet) -> bool
-    requires number { number < length mux.old.run.plan.request.inputs }
+    requires number { number < input_count mux.old.run.schedule }
     requires open { inlet.old.is_closed ≡ false }
     requires lawful { IsLawfulInlet mux.old number inlet.old }
     ensures pulled { result ≡ true → TakesNext number mux.old inlet.old mux.new inlet.new
@@ -39,8 +40,8 @@ fn pull(mux: &mut Mux, number: usize, inlet: &mut Inlet) -> bool
     is_stopped(inlet)
 }
 
-/// One step: the next slot is sent, and its packet goes behind those in `sent`; or what comes next is taken of the input that
-/// the multiplex waits for. Where neither can be done the answer says why, and nothing changed.
+/// One step: the next slot is sent, and its packet goes behind those in `sent`; or the next plan comes into force; or what comes next
+/// is taken of the input that the multiplex waits for. Where neither can be done the answer says why, and nothing changed.
 fn step(mux: &mut Mux, inlets: &mut Vec<Inlet>, sent: &mut Vec<Packet>) -> Option<Sending>
     requires lawful { IsLawfulStation mux.old inlets.old.items }
     requires room { vec_len sent.old < vec_capacity sent.old }
@@ -62,6 +63,7 @@ fn step(mux: &mut Mux, inlets: &mut Vec<Inlet>, sent: &mut Vec<Packet>) -> Optio
             };
             None
         }
+        Sending::Switched => None,
         Sending::NotReady(input) => {
             if pull(mux, input, &mut inlets[input]) {
                 None

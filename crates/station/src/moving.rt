@@ -4,6 +4,7 @@ ghost use Rattle.std.specs.Prelude.{◌≡◌, ◌<◌, ◌≤◌, ℕ, true, fa
 ghost use Rattle.tspkt.specs.declared.stamped.Stamped.{Stamped as GivenPacket};
 ghost use Rattle.mux.specs.declared.event.Event.{Event};
 ghost use Rattle.mux.specs.History.{with_event, is_closed};
+ghost use Rattle.mux.specs.Lawful.{input_count};
 ghost use Rattle.port.specs.Advancing.{IsLast};
 ghost use Rattle.station.specs.Stations.{IsLawfulInlet, LeavesOthers};
 ghost use Rattle.station.specs.Moving.{EndsTaking, TakesNext, IsHeldBack};
@@ -17,7 +18,7 @@ use port::ArrivalKind;
 /// taken, which is then held. An input is closed at its end mark, and where the packet that comes next can never be taken. Of
 /// a closed input nothing is moved.
 pub(crate) fn move_in(mux: &mut Mux, number: usize, inlet: &mut Inlet, most: usize)
-    requires number { number < length mux.old.run.plan.request.inputs }
+    requires number { number < input_count mux.old.run.schedule }
     requires lawful { IsLawfulInlet mux.old number inlet.old }
     ensures moves { Moves number most mux.old inlet.old mux.new inlet.new }
     ensures lawful { IsLawfulInlet mux.new number inlet.new }
@@ -37,7 +38,7 @@ pub(crate) fn move_in(mux: &mut Mux, number: usize, inlet: &mut Inlet, most: usi
 /// Takes the next packet of an open input. False is answered where none was taken: nothing is seen in the ring, the end mark
 /// came, or the packet that came next is held back.
 pub(crate) fn take_next(mux: &mut Mux, number: usize, inlet: &mut Inlet) -> bool
-    requires number { number < length mux.old.run.plan.request.inputs }
+    requires number { number < input_count mux.old.run.schedule }
     requires open { inlet.old.is_closed ≡ false }
     requires lawful { IsLawfulInlet mux.old number inlet.old }
     ensures taken { result ≡ true → TakesNext number mux.old inlet.old mux.new inlet.new }
@@ -61,7 +62,7 @@ pub(crate) fn take_next(mux: &mut Mux, number: usize, inlet: &mut Inlet) -> bool
 
 /// Offers the packet that is held to the multiplex. False is answered where it isn't taken, and is held still.
 fn give(mux: &mut Mux, number: usize, inlet: &mut Inlet) -> bool
-    requires number { number < length mux.old.run.plan.request.inputs }
+    requires number { number < input_count mux.old.run.schedule }
     requires open { inlet.old.is_closed ≡ false }
     requires held { IsSome inlet.old.held }
     requires lawful { IsLawfulInlet mux.old number inlet.old }
@@ -81,7 +82,7 @@ fn give(mux: &mut Mux, number: usize, inlet: &mut Inlet) -> bool
             inlet.held = None;
             true
         }
-        Offered::Full => false,
+        Offered::Full | Offered::Early => false,
         Offered::Stranger | Offered::Backward => {
             close(mux, number, inlet);
             false
@@ -93,7 +94,7 @@ fn give(mux: &mut Mux, number: usize, inlet: &mut Inlet) -> bool
 /// Offers the packet that came out of the ring last to the multiplex, where none is held. False is answered where it isn't taken,
 /// and is held from then on. One that is taken goes from the ring's end into the multiplex, and isn't held between.
 fn give_last(mux: &mut Mux, number: usize, inlet: &mut Inlet) -> bool
-    requires number { number < length mux.old.run.plan.request.inputs }
+    requires number { number < input_count mux.old.run.schedule }
     requires open { inlet.old.is_closed ≡ false }
     requires came { 0 < length inlet.old.end.received }
     requires unmarked { inlet.old.end.is_ended ≡ false }
@@ -112,7 +113,7 @@ fn give_last(mux: &mut Mux, number: usize, inlet: &mut Inlet) -> bool
     let item = inlet.end.last();
     match mux.offer(number, item) {
         Offered::Taken => true,
-        Offered::Full => {
+        Offered::Full | Offered::Early => {
             inlet.held = Some(*item);
             false
         }
@@ -127,7 +128,7 @@ fn give_last(mux: &mut Mux, number: usize, inlet: &mut Inlet) -> bool
 
 /// Closes an open input.
 fn close(mux: &mut Mux, number: usize, inlet: &mut Inlet)
-    requires number { number < length mux.old.run.plan.request.inputs }
+    requires number { number < input_count mux.old.run.schedule }
     requires open { is_closed number mux.old.events ≡ false }
     ensures mux { mux.new ≡ with_event mux.old (Event.Close number) }
     ensures inlet { inlet.new ≡ record inlet.old { is_closed = true } }

@@ -3,7 +3,9 @@
 ghost use Rattle.std.specs.Prelude.{◌≡◌, ◌≢◌, ◌<◌, ◌≤◌, ◌^◌, ◌+◌, ◌-◌, ◌++◌, ℕ, List, Some, length, map, vec_len, vec_capacity, IfOk, option_copied};
 ghost use Rattle.std.specs.List.{slice_get};
 ghost use Rattle.request.specs.declared.stream.Stream.{Stream};
+ghost use Rattle.schedule.specs.Streams.{all_streams};
 ghost use Rattle.mux.specs.History.{slots, emitted, is_closed};
+ghost use Rattle.mux.specs.Lawful.{input_count};
 ghost use Rattle.mux.specs.Peaks.{IsPeak};
 ghost use Rattle.mux.specs.Totals.{IsTotals, IsCounts};
 ghost use Rattle.mux.specs.Headline.{IsSound};
@@ -18,8 +20,8 @@ use crate::inlet::Inlet;
 use crate::moving::move_in;
 use crate::settled::Settled;
 use mux::{Counts, Mux, Peak, Sending, Totals};
-use plan::Plan;
 use port::{FinishedPort, Port, RingEnd, ports};
+use schedule::Schedule;
 use std::alloc::{AllocError, Global};
 use std::marker::Model;
 use tspkt::Packet;
@@ -46,7 +48,7 @@ impl Model for Station {
     ghost view = { λ s. record { history = s.mux; inputs = s.inlets.items } };
 
     ghost invariant = { λ s. IsLawfulStation s.mux s.inlets.items
-        × (s.ring ≡ s.mux.run.plan.request.ring) };
+        × (s.ring ≡ s.mux.run.schedule.first.request.ring) };
 }
 
 /// The inputs that come through these rings, of which nothing came.
@@ -77,23 +79,29 @@ fn move_all(mux: &mut Mux, inlets: &mut Vec<Inlet>, most: usize)
 }
 
 impl Station {
-    /// A station of this plan with nothing taken or sent, for at most this many slots (at most 2^40), and the port of each
+    /// A station of this schedule with nothing taken or sent, for at most this many slots (at most 2^40), and the port of each
     /// input. `Err` is want of memory.
-    pub fn open(alloc: Global, plan: Plan, slots: u64) -> Result<(Station, Vec<Port>), AllocError>
+    pub fn open(
+        alloc: Global,
+        schedule: Schedule,
+        slots: u64,
+    ) -> Result<(Station, Vec<Port>), AllocError>
         requires { slots ≤ 2 ^ 40 }
-        ensures { IfOk result (λ r. IsOpened plan slots r.0 r.1.items) }
+        ensures { IfOk result (λ r. IsOpened schedule slots r.0 r.1.items) }
     {
+        let plan = schedule.plan(0);
         let ring = plan.request().ring();
         let (ports, ends) = ports(alloc, plan.inputs().len(), ring)?;
         let inlets = new_inlets(alloc, ends)?;
-        let mux = Mux::open(alloc, plan, slots)?;
+        let mux = Mux::open(alloc, schedule, slots)?;
         Ok((Station { mux, inlets, ring }, ports))
     }
 
     /// Moves what the rings show into the multiplex, input 0 first, at most as many packets an input as a ring has room for,
-    /// and then sends the next slot, where the multiplex can. A packet that isn't taken is held, and stays the next one of its
-    /// input. An input is closed at its end mark, and where its next packet can never be taken: no stream has its PID, or its
-    /// time is before that of the packet taken before it. No memory is asked for, and `Memory` isn't answered.
+    /// and then sends the next slot, or goes over to the next plan, where the multiplex can. A packet that isn't taken is held, and stays
+    /// the next one of its input. An input is closed at its end mark, and where its next packet can never be taken: its plan has no
+    /// stream of its PID, or its time is before that of the packet taken before it. No memory is asked for, and `Memory` isn't
+    /// answered.
     pub fn tick(&mut self) -> Sending
         ensures ticks { Ticks self.old result self.new }
         ensures unrefused { result ≢ Sending.Memory }
@@ -104,8 +112,8 @@ impl Station {
         self.mux.send_next()
     }
 
-    /// Goes on as far as the rings show, by at most so many steps, in one go: a step sends the next slot, or takes what comes next
-    /// of the input that the multiplex waits for. So a packet is taken no sooner than it is needed. `Sent` is answered where all
+    /// Goes on as far as the rings show, by at most so many steps, in one go: a step sends the next slot, or goes over to the next plan,
+    /// or takes what comes next of the input that the multiplex waits for. So a packet is taken no sooner than it is needed. `Sent` is answered where all
     /// steps were done; else the answer says why there is no further one: the run is done, it has all its slots, or nothing is
     /// seen in the ring of the input that isn't ready. `Memory` isn't answered. `sent` is left with the packets of the slots,
     /// for which it needs room: no memory is asked for.
@@ -113,8 +121,8 @@ impl Station {
         requires { most ≤ vec_capacity sent.old }
         ensures advances { Advances most self.old result self.new sent.new.items }
         ensures unrefused { result ≢ Sending.Memory }
-        ensures emitted { emitted self.new.history.run.plan self.new.history.events
-            ≡ emitted self.old.history.run.plan self.old.history.events ++ sent.new.items }
+        ensures emitted { emitted self.new.history.run.schedule self.new.history.events
+            ≡ emitted self.old.history.run.schedule self.old.history.events ++ sent.new.items }
         ensures rings { rings_of self.new.inputs ≡ rings_of self.old.inputs }
         ensures run { self.new.history.run ≡ self.old.history.run }
         ensures room { vec_capacity sent.old ≤ vec_capacity sent.new }
@@ -129,8 +137,8 @@ impl Station {
         ensures advances { AdvancesBehind most self.old sent.old.items result self.new sent.new.items }
         ensures unrefused { result ≢ Sending.Memory }
         ensures emitted { (packets : List (List ℕ)) → sent.new.items ≡ sent.old.items ++ packets
-            → emitted self.new.history.run.plan self.new.history.events
-            ≡ emitted self.old.history.run.plan self.old.history.events ++ packets }
+            → emitted self.new.history.run.schedule self.new.history.events
+            ≡ emitted self.old.history.run.schedule self.old.history.events ++ packets }
         ensures rings { rings_of self.new.inputs ≡ rings_of self.old.inputs }
         ensures run { self.new.history.run ≡ self.old.history.run }
         ensures room { (vec_len sent.new ≤ vec_len sent.old + most) × (vec_capacity sent.old ≤ vec_capacity sent.new) }
@@ -150,15 +158,15 @@ impl Station {
     /// The packet of the slot that was sent last, lent; none where none was sent.
     pub fn last(&self) -> Option<&Packet>
         ensures { option_copied result
-            ≡ slice_get (emitted self.now.history.run.plan self.now.history.events) (slots self.now.history.events - 1) }
+            ≡ slice_get (emitted self.now.history.run.schedule self.now.history.events) (slots self.now.history.events - 1) }
     {
         self.mux.last()
     }
 
     /// What became of the packets that were taken of an input.
     pub fn totals(&self, input: usize) -> Totals
-        requires { input < length self.now.history.run.plan.request.inputs }
-        ensures { IsTotals self.now.history.run.plan input self.now.history.events result }
+        requires { input < input_count self.now.history.run.schedule }
+        ensures { IsTotals self.now.history.run.schedule input self.now.history.events result }
     {
         self.mux.totals(input)
     }
@@ -171,18 +179,18 @@ impl Station {
     }
 
     /// The largest delay of a stream's packets that were sent, and the most packets that ever waited in its queue. The stream
-    /// is named by its number.
-    pub fn peak(&self, stream: usize) -> Peak
-        requires { stream < length self.now.history.run.plan.request.streams }
-        ensures { (st : Stream) → slice_get self.now.history.run.plan.request.streams stream ≡ Some st
-            → IsPeak self.now.history.run.plan self.now.history.events st result }
+    /// is named by its place in the schedule.
+    pub fn peak(&self, place: usize) -> Peak
+        requires { place < length (all_streams self.now.history.run.schedule) }
+        ensures { (st : Stream) → slice_get (all_streams self.now.history.run.schedule) place ≡ Some st
+            → IsPeak self.now.history.run.schedule self.now.history.events st result }
     {
-        self.mux.peak(stream)
+        self.mux.peak(place)
     }
 
     /// Whether an input is closed: nothing more is taken of it.
     pub fn is_closed(&self, input: usize) -> bool
-        requires { input < length self.now.history.run.plan.request.inputs }
+        requires { input < input_count self.now.history.run.schedule }
         ensures { result ≡ is_closed input self.now.history.events }
     {
         self.inlets[input].is_closed

@@ -3,7 +3,8 @@ use Rattle.std.proofs.Common.{◌≡◌, ℕ, List, [], ◌∷◌, ◌++◌, len
 use Rattle.std.specs.List.{slice_get}
 use Rattle.std.specs.Option.{option_to_list}
 use Rattle.std.proofs.lemmas.Option.{slice_get-map}
-use Rattle.plan.specs.Build.{PlanValue}
+use Rattle.schedule.specs.Schedule.{ScheduleValue}
+use Rattle.mux.specs.Lawful.{input_count}
 use Rattle.port.specs.Rings.{RingId, PortValue}
 use Rattle.station.specs.Stations.{StationValue, rings_of}
 use Rattle.station.specs.Opening.{IsOpened, IsFresh}
@@ -21,25 +22,25 @@ first_inlet [] one = absurd (omega (arith, one))
 first_inlet (x ∷ inputs) one = (x, refl)
 
 -- the only port and the only input of a station
-one_fresh : (p : PlanValue) (slots : ℕ) (station : StationValue) (ports rest : List PortValue) (popped : Option PortValue) (port : PortValue) → IsOpened p slots station ports → length p.request.inputs ≡ 1
+one_fresh : (s : ScheduleValue) (slots : ℕ) (station : StationValue) (ports rest : List PortValue) (popped : Option PortValue) (port : PortValue) → IsOpened s slots station ports → input_count s ≡ 1
     → ports ≡ rest ++ option_to_list popped → popped ≡ Some port → (x : Inlet) × (slice_get station.inputs 0 ≡ Some x) × IsFresh 0 port x
-one_fresh p slots station ports rest popped port is one are some =
+one_fresh s slots station ports rest popped port is one are some =
     let behind : ports ≡ rest ++ port ∷ [] = are ∙ ap (λ (o : Option PortValue). rest ++ option_to_list o) some in
     let x = first_inlet station.inputs (is.inputs_are ∙ one) in
     (x.0, x.1, is.each 0 port x.0 (first_of_one ports rest port (is.ports_are ∙ one) behind) x.1)
 
 -- the port of a station of one input is of the ring that the input comes through
-pub one_tied : (p : PlanValue) (slots : ℕ) (station : StationValue) (ports rest : List PortValue) (popped : Option PortValue) (port : PortValue) → IsOpened p slots station ports → length p.request.inputs ≡ 1
+pub one_tied : (s : ScheduleValue) (slots : ℕ) (station : StationValue) (ports rest : List PortValue) (popped : Option PortValue) (port : PortValue) → IsOpened s slots station ports → input_count s ≡ 1
     → ports ≡ rest ++ option_to_list popped → popped ≡ Some port → slice_get (rings_of station.inputs) port.ring.input ≡ Some port.ring
-one_tied p slots station ports rest popped port is one are some =
-    let f = one_fresh p slots station ports rest popped port is one are some in
+one_tied s slots station ports rest popped port is one are some =
+    let f = one_fresh s slots station ports rest popped port is one are some in
     let ring_of : Inlet → RingId = λ x. x.end.ring in
     let there : slice_get (rings_of station.inputs) 0 ≡ Some port.ring = slice_get-map ring_of station.inputs 0 ∙ (ap (option_map ring_of) f.1 ∙ ap Some f.2.ring) in
     let N : ℕ → Type 0 = λ k. slice_get (rings_of station.inputs) k ≡ Some port.ring in
     subst N (sym f.2.number) there
 
 -- and it sent nothing
-pub one_unsent : (p : PlanValue) (slots : ℕ) (station : StationValue) (ports rest : List PortValue) (popped : Option PortValue) (port : PortValue) → IsOpened p slots station ports → length p.request.inputs ≡ 1
+pub one_unsent : (s : ScheduleValue) (slots : ℕ) (station : StationValue) (ports rest : List PortValue) (popped : Option PortValue) (port : PortValue) → IsOpened s slots station ports → input_count s ≡ 1
     → ports ≡ rest ++ option_to_list popped → popped ≡ Some port → port.sent ≡ []
-one_unsent p slots station ports rest popped port is one are some =
-    (one_fresh p slots station ports rest popped port is one are some).2.unsent
+one_unsent s slots station ports rest popped port is one are some =
+    (one_fresh s slots station ports rest popped port is one are some).2.unsent

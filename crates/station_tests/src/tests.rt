@@ -63,6 +63,7 @@ fn packets_are_taken_with_their_times(rt: HostRuntime) {
     let both = Totals {
         taken: 2,
         sent: 0,
+        dropped: 0,
         queued: 2,
     };
     assert_eq!(rt; station.totals(0), both);
@@ -84,6 +85,7 @@ fn a_packet_is_taken_where_no_slot_can_be_sent(rt: HostRuntime) {
     let waits = Totals {
         taken: 1,
         sent: 0,
+        dropped: 0,
         queued: 1,
     };
     assert_eq!(rt; station.totals(0), waits);

@@ -7,12 +7,12 @@ use Rattle.std.proofs.lemmas.Simd.{map-map}
 use Rattle.std.proofs.lemmas.Slice.Zip.{length-zip, firsts-zip, seconds-zip}
 use Rattle.std.proofs.lemmas.Option.{none-some, same_Some, slice_get-map}
 use Rattle.request.specs.Request.{InputValue}
-use Rattle.plan.specs.Build.{PlanValue}
+use Rattle.schedule.specs.Schedule.{ScheduleValue}
 use Rattle.mux.specs.declared.event.Event.{Event}
 use Rattle.mux.specs.History.{History, emitted}
 use Rattle.mux.specs.Headline.{IsSound}
 use Rattle.mux.specs.Lawful.{IsLawful}
-use Rattle.mux.specs.Plans.{IsMultiplexPlan}
+use Rattle.mux.specs.Plans.{IsMultiplexSchedule}
 use Rattle.reading.specs.InputLimit.{limit_of_input}
 use Rattle.reading.specs.Takeable.{origin_of, framed_at, takeable}
 use Rattle.reading.specs.declared.input_limit.InputLimit.{InputLimit}
@@ -39,11 +39,11 @@ use Rattle.threaded.proofs.SummaryLaws.{left_unclosed, taken_begins}
 
 -- Readers as a run may leave them, what stopped their workers, and what the history took of them. The run failed with this fault;
 -- so many writes had failed before it, and so many after it.
-pub record AreLeft {R : Type 0} (remaining : R → Option (List ℕ)) (failures : R → ℕ) (limit : InputLimit) (p : PlanValue) (h : List Event) (readers : List R) (failed_before failed_after : ℕ) (fault : RunFault) : Type 0 where
+pub record AreLeft {R : Type 0} (remaining : R → Option (List ℕ)) (failures : R → ℕ) (limit : InputLimit) (p : ScheduleValue) (h : List Event) (readers : List R) (failed_before failed_after : ℕ) (fault : RunFault) : Type 0 where
   pub lefts : List (R × Option Stop)
   pub count : length lefts ≡ length readers
   pub left : (i : ℕ) (input : InputValue) (old : R) (left : R × Option Stop)
-      → slice_get p.request.inputs i ≡ Some input → slice_get readers i ≡ Some old → slice_get lefts i ≡ Some left
+      → slice_get p.first.request.inputs i ≡ Some input → slice_get readers i ≡ Some old → slice_get lefts i ≡ Some left
       → IsLeft remaining failures (limit_of_input limit input.format) p h i input old left
   pub faithful : AreKnown (map remaining readers)
       → TakesWhatCame p (map remaining readers) (map (λ left. remaining left.0) lefts) (map (λ left. left.1) lefts) h
@@ -56,7 +56,7 @@ pub record AreLeft {R : Type 0} (remaining : R → Option (List ℕ)) (failures 
 abbrev unread : {R : Type 0} → R → R × Option Stop
 unread {R} reader = (reader, None)
 
-left_unread : {R : Type 0} (remaining : R → Option (List ℕ)) (failures : R → ℕ) (limit : ℕ) (p : PlanValue) (i : ℕ) (input : InputValue) (reader : R) → IsLeft remaining failures limit p [] i input reader (unread reader)
+left_unread : {R : Type 0} (remaining : R → Option (List ℕ)) (failures : R → ℕ) (limit : ℕ) (p : ScheduleValue) (i : ℕ) (input : InputValue) (reader : R) → IsLeft remaining failures limit p [] i input reader (unread reader)
 left_unread remaining failures limit p i input reader = record {
   bytes = [];
   read = Consumes-nil (remaining reader);
@@ -67,7 +67,7 @@ left_unread remaining failures limit p i input reader = record {
   unclosed = λ e. refl;
 }
 
-pub nothing_left : {R : Type 0} (remaining : R → Option (List ℕ)) (failures : R → ℕ) (limit : InputLimit) (p : PlanValue) (readers : List R) (failed_before failed_after : ℕ) (fault : RunFault) → failed_after ≡ failed_before
+pub nothing_left : {R : Type 0} (remaining : R → Option (List ℕ)) (failures : R → ℕ) (limit : InputLimit) (p : ScheduleValue) (readers : List R) (failed_before failed_after : ℕ) (fault : RunFault) → failed_after ≡ failed_before
     → AreLeft remaining failures limit p [] readers failed_before failed_after fault
 nothing_left {R} remaining failures limit p readers failed_before failed_after fault unfailed =
     let one : R → R × Option Stop = unread in
@@ -92,9 +92,9 @@ nothing_left {R} remaining failures limit p readers failed_before failed_after f
 abbrev left_of : {R G : Type 0} → Ended R G → R × Option Stop
 left_of {R} {G} end = (end.reader, end.report.stopped)
 
-module _ {R G : Type 0} (remaining : R → Option (List ℕ)) (failures : R → ℕ) (limit : InputLimit) (p : PlanValue) (station : StationValue) (readers : List R) (ended : List (Ended R G))
-    (each : (i : ℕ) (input : InputValue) → slice_get p.request.inputs i ≡ Some input → IsServedAt remaining failures limit p station readers ended i input)
-    (plan_is : station.history.run.plan ≡ p) (sound : IsSound station.history) (kept : IsLawfulStation station.history station.inputs) where
+module _ {R G : Type 0} (remaining : R → Option (List ℕ)) (failures : R → ℕ) (limit : InputLimit) (p : ScheduleValue) (station : StationValue) (readers : List R) (ended : List (Ended R G))
+    (each : (i : ℕ) (input : InputValue) → slice_get p.first.request.inputs i ≡ Some input → IsServedAt remaining failures limit p station readers ended i input)
+    (plan_is : station.history.run.schedule ≡ p) (sound : IsSound station.history) (kept : IsLawfulStation station.history station.inputs) where
   abbrev starts : List (Option (List ℕ))
   starts = map remaining readers
 
@@ -107,12 +107,12 @@ module _ {R G : Type 0} (remaining : R → Option (List ℕ)) (failures : R → 
   abbrev stops : List (Option Stop)
   stops = map (λ left. left.1) lefts
 
-  left_at : (i : ℕ) (input : InputValue) → slice_get p.request.inputs i ≡ Some input → (x : IsServedAt remaining failures limit p station readers ended i input) → slice_get lefts i ≡ Some (left_of x.end)
+  left_at : (i : ℕ) (input : InputValue) → slice_get p.first.request.inputs i ≡ Some input → (x : IsServedAt remaining failures limit p station readers ended i input) → slice_get lefts i ≡ Some (left_of x.end)
   left_at i input at x =
       let one : Ended R G → R × Option Stop = left_of in
       slice_get-map one ended i ∙ ap (option_map one) x.end_is
 
-  is_left : (i : ℕ) (input : InputValue) (old : R) (left : R × Option Stop) → slice_get p.request.inputs i ≡ Some input → slice_get readers i ≡ Some old → slice_get lefts i ≡ Some left
+  is_left : (i : ℕ) (input : InputValue) (old : R) (left : R × Option Stop) → slice_get p.first.request.inputs i ≡ Some input → slice_get readers i ≡ Some old → slice_get lefts i ≡ Some left
       → IsLeft remaining failures (limit_of_input limit input.format) p station.history.events i input old left
   is_left i input old left at from to =
       let x = each i input at in
@@ -132,7 +132,7 @@ module _ {R G : Type 0} (remaining : R → Option (List ℕ)) (failures : R → 
         unclosed = λ e. left_unclosed remaining (limit_of_input limit input.format) p station i input x.reader x.end.reader x.end.report served (inl e);
       }))
 
-  came_of : (i : ℕ) (input : InputValue) → slice_get p.request.inputs i ≡ Some input → CameOf remaining limit p station starts lefts_of stops i input
+  came_of : (i : ℕ) (input : InputValue) → slice_get p.first.request.inputs i ≡ Some input → CameOf remaining limit p station starts lefts_of stops i input
   came_of i input at =
       let x = each i input at in
       let source : R × Option Stop → Option (List ℕ) = λ left. remaining left.0 in
@@ -162,9 +162,9 @@ module _ {R G : Type 0} (remaining : R → Option (List ℕ)) (failures : R → 
         count = length-map ended one ∙ size;
         left = is_left;
         faithful = λ known.
-            let plan : IsMultiplexPlan p = subst IsMultiplexPlan plan_is sound.plan in
+            let schedule : IsMultiplexSchedule p = subst IsMultiplexSchedule plan_is sound.schedule in
             let lawful : IsLawful p station.history.events = subst (λ v. IsLawful v station.history.events) plan_is sound.run.lawful in
-            takes_what_came remaining limit p station starts lefts_of stops came_of plan lawful known;
+            takes_what_came remaining limit p station starts lefts_of stops came_of schedule lawful known;
         refused = λ i left to stopped.
             let e = from_map one ended i left to in
             let mine : e.0.report.stopped ≡ Some Memory = ap (λ (v : R × Option Stop). v.1) e.2 ∙ stopped in
@@ -175,10 +175,10 @@ module _ {R G : Type 0} (remaining : R → Option (List ℕ)) (failures : R → 
 -- A run that ended may be answered as one that failed for want of memory: its readers come back, with what is told of their
 -- inputs' stops.
 pub begun_of_run : {R G : Type 0} (remaining : R → Option (List ℕ)) (failures : R → ℕ) (h : History) (limit : InputLimit) (readers : List R) (lent : List (R × G)) (before after : Option (List ℕ)) (s : Summary) (failed_before failed_after : ℕ)
-    → length readers ≡ length h.run.plan.request.inputs → length lent ≡ length readers → HasRun h limit (map remaining readers) (map (λ l. remaining l.0) lent) before after s
+    → length readers ≡ length h.run.schedule.first.request.inputs → length lent ≡ length readers → HasRun h limit (map remaining readers) (map (λ l. remaining l.0) lent) before after s
     → FailuresAreTold failures readers (map (λ l. l.0) lent) s.inputs.items → failed_after ≡ failed_before → HasBegun remaining failures h limit readers before after failed_before failed_after run_faults.Memory
 begun_of_run {R} {G} remaining failures h limit readers lent before after s failed_before failed_after of_readers size run all_told unfailed =
-    let p = h.run.plan in
+    let p = h.run.schedule in
     let inputs = s.inputs.items in
     let reader_of : R × G → R = λ l. l.0 in
     let source_of : R × G → Option (List ℕ) = λ l. remaining l.0 in

@@ -3,9 +3,9 @@ use Rattle.std.proofs.Common.{◌≡◌, ℕ, zero, suc, ◌⊎◌, List, Bool, 
 use Rattle.std.specs.Prelude.{Result, Ok, Err, OnOk, OnErr}
 use Rattle.tspkt.specs.declared.stamped.Stamped.{Stamped}
 use Rattle.mux.specs.declared.event.Event.{Event}
-use Rattle.mux.specs.declared.event.Event.TheVariants.{Took, Full, Close}
-use Rattle.mux.specs.History.{History, with_event, full_noted}
-use Rattle.mux.specs.Answers.{NotesFull}
+use Rattle.mux.specs.declared.event.Event.TheVariants.{Took, Full, Early, Close}
+use Rattle.mux.specs.History.{History, with_event, full_noted, early_noted}
+use Rattle.mux.specs.Answers.{NotesFull, NotesEarly}
 use Rattle.serial.specs.Feeding.{IsOfInput}
 use Rattle.serial.specs.Running.{WaitsFor, TakesAsNeeded}
 use Rattle.serial.specs.declared.slot_writer.SlotWriter.{SlotWriter}
@@ -30,9 +30,17 @@ noted i a b item is =
     let both : (v : Bool) → P v = λ v. elim v as P [ true ↦ λ is'. inl is' | false ↦ λ is'. inr (Full i is.0, is', refl) ] in
     both (full_noted i a.events) is.3
 
+noted_early : (i : ℕ) (a b : History) → NotesEarly a i b → IsOneOf i a b
+noted_early i a b is =
+    let e = with_event a (Early i) in
+    let P : Bool → Type 0 = λ v. b ≡ (if v then a else e) → IsOneOf i a b in
+    let both : (v : Bool) → P v = λ v. elim v as P [ true ↦ λ is'. inl is' | false ↦ λ is'. inr (Early i, is', refl) ] in
+    both (early_noted i a.events) is
+
 held_back : (i : ℕ) (a b : History) (item : Stamped) (is_closed : Bool) → IsHeldBack i a item b is_closed → IsOneOf i a b
 held_back i a b item true is = inr (Close i, is.1, refl)
-held_back i a b item false is = noted i a b item is.1
+held_back i a b item false (inl full) = noted i a b item full.1
+held_back i a b item false (inr early) = noted_early i a b early.1
 
 ends : (i : ℕ) (a : History) (x : Inlet) (b : History) (y : Inlet) (ending : Ending) → EndsBy i a x b y ending → IsOneOf i a b
 ends i a x b y Nothing is = inl is.1
@@ -53,7 +61,10 @@ needed_step : (old new : StationValue) (packets : List (List ℕ)) → IsStep ol
 needed_step old new packets (inl sent) is =
     let P : History → Type 0 = λ h. TakesAsNeeded h.run h.events in
     subst P (sym sent.2.slot.1.2.0) (tt, is)
-needed_step old new packets (inr pull) is =
+needed_step old new packets (inr (inl switch)) is =
+    let P : History → Type 0 = λ h. TakesAsNeeded h.run h.events in
+    subst P (sym switch.1.switch.2) (tt, is)
+needed_step old new packets (inr (inr pull)) is =
     let p = pull.2 in
     needed_one pull.0 old.history new.history (p.running.within, p.unready) (pulled pull.0 old.history p.before new.history p.after p.pulled) is
 

@@ -8,9 +8,10 @@ use Rattle.std.proofs.lemmas.List.{append-nil}
 use Rattle.std.proofs.lemmas.Option.{same_Some}
 use Rattle.tspkt.specs.declared.stamped.Stamped.{Stamped}
 use Rattle.request.specs.Request.{InputValue, IsInput}
-use Rattle.plan.specs.Build.{PlanValue}
+use Rattle.schedule.specs.Schedule.{ScheduleValue}
 use Rattle.mux.specs.History.{taken, is_closed}
 use Rattle.mux.specs.Lawful.{is_mapped}
+use Rattle.mux.specs.Plans.{IsMultiplexSchedule}
 use Rattle.mux.specs.Faithful.{IsPrefix}
 use Rattle.reading.specs.Takeable.{origin_of, framed_at, takeable}
 use Rattle.reading.specs.declared.report.Report.{Report}
@@ -21,21 +22,22 @@ use Rattle.serial.specs.Giving.{Gives}
 use Rattle.serial.proofs.FeedingLaws.{next_in_order}
 use Rattle.serial.proofs.GivingLaws.{IsToldStop, same_bytes}
 use Rattle.serial.proofs.OutcomeLaws.{all_read}
-use Rattle.station.specs.Stations.{StationValue, IsLawfulInlet, IsRefusedForGood}
+use Rattle.station.specs.Stations.{StationValue, IsLawfulInlet, IsRefusedForGood, NotesAreOfNext}
 use Rattle.threaded.specs.Giving.{GivesSome}
 use Rattle.threaded.proofs.CrewLaws.{IsServed, consumed}
-use Rattle.station.proofs.FaithfulLaws.{IsTakenOf, prefix_on, fulls_of_list}
+use Rattle.station.proofs.FaithfulLaws.{IsTakenOf, prefix_on, notes_of_list}
 
--- The station kept the input that the worker served, of a plan's input.
-pub record IsServedInput {R : Type 0} (remaining : R → Option (List ℕ)) (limit : ℕ) (p : PlanValue) (station : StationValue) (i : ℕ) (input : InputValue) (reader left : R) (report : Report) : Type 0 where
+-- The station kept the input that the worker served, of a schedule's input.
+pub record IsServedInput {R : Type 0} (remaining : R → Option (List ℕ)) (limit : ℕ) (p : ScheduleValue) (station : StationValue) (i : ℕ) (input : InputValue) (reader left : R) (report : Report) : Type 0 where
   pub served : IsServed remaining limit p station i input reader left report
   pub kept : IsLawfulInlet station.history i served.inlet
-  pub plan_is : station.history.run.plan ≡ p
-  pub input_is : slice_get p.request.inputs i ≡ Some input
+  pub plan_is : station.history.run.schedule ≡ p
+  pub schedule : IsMultiplexSchedule p
+  pub input_is : slice_get p.first.request.inputs i ≡ Some input
   pub ranges : IsInput input
 
 -- no packet that a worker sent is refused for good
-unrefused : {R : Type 0} (remaining : R → Option (List ℕ)) (limit : ℕ) (p : PlanValue) (station : StationValue) (i : ℕ) (input : InputValue) (reader left : R) (report : Report) (item : Stamped)
+unrefused : {R : Type 0} (remaining : R → Option (List ℕ)) (limit : ℕ) (p : ScheduleValue) (station : StationValue) (i : ℕ) (input : InputValue) (reader left : R) (report : Report) (item : Stamped)
     → (x : IsServedInput remaining limit p station i input reader left report) → x.served.inlet.held ≡ Some item → IsRefusedForGood station.history i item → ⊥
 unrefused remaining limit p station i input reader left report item x held refused =
     let s = x.served in
@@ -47,20 +49,20 @@ unrefused remaining limit p station i input reader left report item x held refus
     let all : (took ++ item ∷ []) ++ (s.rest ++ later.0) ≡ takeable p (origin_of i input) (framed_at (origin_of i input) bytes) =
     sym (append_assoc (took ++ item ∷ []) s.rest later.0) ∙ (ap (λ v. v ++ later.0) (sym parts) ∙ later.1) in
     let least = x.ranges.rate.0 in
-    let next = next_in_order p h i (origin_of i input) item bytes (s.rest ++ later.0) refl (omega (arith, least)) all in
-    let mapped : is_mapped station.history.run.plan i item ≡ true = ap (λ (v : PlanValue). is_mapped v i item) x.plan_is ∙ next.mapped in
+    let next = next_in_order p h i (origin_of i input) item bytes (s.rest ++ later.0) x.schedule refl (omega (arith, least)) all in
+    let mapped : is_mapped station.history.run.schedule i item ≡ true = ap (λ (v : ScheduleValue). is_mapped v i item) x.plan_is ∙ next.mapped in
     elim refused [
       | inl e ↦ false≢true (sym e ∙ mapped)
       | inr l ↦ (let order = next.later in omega (arith, l, order))
     ]
 
 -- Of a closed input the end mark came, and nothing is held or left.
-pub record IsBehindMark {R : Type 0} (remaining : R → Option (List ℕ)) (limit : ℕ) (p : PlanValue) (station : StationValue) (i : ℕ) (input : InputValue) (reader left : R) (report : Report) (s : IsServed remaining limit p station i input reader left report) : Type 0 where
+pub record IsBehindMark {R : Type 0} (remaining : R → Option (List ℕ)) (limit : ℕ) (p : ScheduleValue) (station : StationValue) (i : ℕ) (input : InputValue) (reader left : R) (report : Report) (s : IsServed remaining limit p station i input reader left report) : Type 0 where
   pub is_ended : s.is_ended ≡ true
   pub unheld : s.inlet.held ≡ None
   pub none_left : s.rest ≡ []
 
-pub behind_mark : {R : Type 0} (remaining : R → Option (List ℕ)) (limit : ℕ) (p : PlanValue) (station : StationValue) (i : ℕ) (input : InputValue) (reader left : R) (report : Report)
+pub behind_mark : {R : Type 0} (remaining : R → Option (List ℕ)) (limit : ℕ) (p : ScheduleValue) (station : StationValue) (i : ℕ) (input : InputValue) (reader left : R) (report : Report)
     → (x : IsServedInput remaining limit p station i input reader left report) → is_closed i station.history.events ≡ true → IsBehindMark remaining limit p station i input reader left report x.served
 behind_mark remaining limit p station i input reader left report x shut =
     elim (x.kept.closes (x.kept.closed ∙ shut)) [
@@ -69,7 +71,7 @@ behind_mark remaining limit p station i input reader left report x shut =
     ]
 
 -- all that was sent was taken of it
-pub sent_taken : {R : Type 0} (remaining : R → Option (List ℕ)) (limit : ℕ) (p : PlanValue) (station : StationValue) (i : ℕ) (input : InputValue) (reader left : R) (report : Report)
+pub sent_taken : {R : Type 0} (remaining : R → Option (List ℕ)) (limit : ℕ) (p : ScheduleValue) (station : StationValue) (i : ℕ) (input : InputValue) (reader left : R) (report : Report)
     → (x : IsServedInput remaining limit p station i input reader left report) → is_closed i station.history.events ≡ true → x.served.sent ≡ taken i station.history.events
 sent_taken remaining limit p station i input reader left report x shut =
     let b = behind_mark remaining limit p station i input reader left report x shut in
@@ -83,7 +85,7 @@ sent_taken remaining limit p station i input reader left report x shut =
 
 -- What the worker sent of a source whose bytes are known.
 
-sent_begins : {R : Type 0} (remaining : R → Option (List ℕ)) (limit : ℕ) (p : PlanValue) (station : StationValue) (i : ℕ) (input : InputValue) (reader left : R) (report : Report) (all : List ℕ)
+sent_begins : {R : Type 0} (remaining : R → Option (List ℕ)) (limit : ℕ) (p : ScheduleValue) (station : StationValue) (i : ℕ) (input : InputValue) (reader left : R) (report : Report) (all : List ℕ)
     → (s : IsServed remaining limit p station i input reader left report) → remaining reader ≡ Some all → IsPrefix s.sent (takeable p (origin_of i input) (framed_at (origin_of i input) all))
 sent_begins remaining limit p station i input reader left report all s start =
     let more = consumed (remaining reader) (remaining left) s.has.bytes all start s.has.read in
@@ -91,7 +93,7 @@ sent_begins remaining limit p station i input reader left report all s start =
     (later.0, sym (later.1 ∙ ap (λ v. takeable p (origin_of i input) (framed_at (origin_of i input) v)) (sym more.1)))
 
 -- of an input that nothing stopped it is all that can be taken
-pub whole_sent : {R : Type 0} (remaining : R → Option (List ℕ)) (limit : ℕ) (p : PlanValue) (station : StationValue) (i : ℕ) (input : InputValue) (reader left : R) (report : Report) (all : List ℕ)
+pub whole_sent : {R : Type 0} (remaining : R → Option (List ℕ)) (limit : ℕ) (p : ScheduleValue) (station : StationValue) (i : ℕ) (input : InputValue) (reader left : R) (report : Report) (all : List ℕ)
     → (s : IsServed remaining limit p station i input reader left report) → remaining reader ≡ Some all → report.stopped ≡ None → s.sent ≡ takeable p (origin_of i input) (framed_at (origin_of i input) all)
 whole_sent remaining limit p station i input reader left report all s start e =
     let w = s.has.whole e in
@@ -123,11 +125,11 @@ list_begins : (sent all : List Stamped) (stopped : Option Stop) → IsPrefix sen
 list_begins sent all stopped b = elim (is_cut stopped) as (λ v. IsPrefix (if v then sent else all) all) [ true ↦ b | false ↦ ([], sym (append-nil all)) ]
 
 -- the packets that an input of known bytes gives
-pub list_is : (p : PlanValue) (starts : List (Option (List ℕ))) (i : ℕ) (input : InputValue) (all : List ℕ) → slice_get p.request.inputs i ≡ Some input → slice_get starts i ≡ Some (Some all)
+pub list_is : (p : ScheduleValue) (starts : List (Option (List ℕ))) (i : ℕ) (input : InputValue) (all : List ℕ) → slice_get p.first.request.inputs i ≡ Some input → slice_get starts i ≡ Some (Some all)
     → packet_lists p starts i ≡ takeable p (origin_of i input) (framed_at (origin_of i input) all)
 list_is p starts i input all at from = ap (λ v. packet_list p i v (slice_get starts i)) at ∙ ap (packet_list p i (Some input)) from
 
-gives_of : {R : Type 0} (remaining : R → Option (List ℕ)) (limit : ℕ) (p : PlanValue) (station : StationValue) (i : ℕ) (input : InputValue) (reader left : R) (report : Report) (starts lefts : List (Option (List ℕ))) (stops : List (Option Stop)) (all : List ℕ)
+gives_of : {R : Type 0} (remaining : R → Option (List ℕ)) (limit : ℕ) (p : ScheduleValue) (station : StationValue) (i : ℕ) (input : InputValue) (reader left : R) (report : Report) (starts lefts : List (Option (List ℕ))) (stops : List (Option Stop)) (all : List ℕ)
     → (x : IsServedInput remaining limit p station i input reader left report) → slice_get starts i ≡ Some (Some all) → remaining reader ≡ Some all → slice_get lefts i ≡ Some (remaining left)
     → IsToldStop (slice_get stops i) report.stopped → (report.stopped ≡ Some Memory → ⊥) → Gives p starts lefts stops i (given_list x.served.sent (packet_lists p starts i) report.stopped)
 gives_of remaining limit p station i input reader left report starts lefts stops all x from start to told had =
@@ -155,7 +157,7 @@ gives_of remaining limit p station i input reader left report starts lefts stops
     }
 
 -- where a worker wanted memory some of it
-pub gives_some_of : {R : Type 0} (remaining : R → Option (List ℕ)) (limit : ℕ) (p : PlanValue) (station : StationValue) (i : ℕ) (input : InputValue) (reader left : R) (report : Report) (starts lefts : List (Option (List ℕ))) (stops : List (Option Stop)) (all : List ℕ)
+pub gives_some_of : {R : Type 0} (remaining : R → Option (List ℕ)) (limit : ℕ) (p : ScheduleValue) (station : StationValue) (i : ℕ) (input : InputValue) (reader left : R) (report : Report) (starts lefts : List (Option (List ℕ))) (stops : List (Option Stop)) (all : List ℕ)
     → (x : IsServedInput remaining limit p station i input reader left report) → slice_get starts i ≡ Some (Some all) → remaining reader ≡ Some all → slice_get lefts i ≡ Some (remaining left)
     → IsToldStop (slice_get stops i) report.stopped → (report.stopped ≡ Some Memory → slice_get stops i ≡ Some (Some Memory))
     → GivesSome p starts lefts stops i (given_list x.served.sent (packet_lists p starts i) report.stopped)
@@ -167,7 +169,7 @@ gives_some_of remaining limit p station i input reader left report starts lefts 
       begins = list_begins x.served.sent list report.stopped (subst P (sym (list_is p starts i input all x.input_is from)) (sent_begins remaining limit p station i input reader left report all x.served start));
     }
 
-closed_list : {R : Type 0} (remaining : R → Option (List ℕ)) (limit : ℕ) (p : PlanValue) (station : StationValue) (i : ℕ) (input : InputValue) (reader left : R) (report : Report) (all : List ℕ) (list : List Stamped) (stopped : Option Stop)
+closed_list : {R : Type 0} (remaining : R → Option (List ℕ)) (limit : ℕ) (p : ScheduleValue) (station : StationValue) (i : ℕ) (input : InputValue) (reader left : R) (report : Report) (all : List ℕ) (list : List Stamped) (stopped : Option Stop)
     → (x : IsServedInput remaining limit p station i input reader left report) → remaining reader ≡ Some all → list ≡ takeable p (origin_of i input) (framed_at (origin_of i input) all) → is_closed i station.history.events ≡ true
     → report.stopped ≡ stopped → given_list x.served.sent list stopped ≡ taken i station.history.events
 closed_list remaining limit p station i input reader left report all list None x start is shut e =
@@ -179,9 +181,9 @@ closed_list remaining limit p station i input reader left report all list (Some 
 closed_list remaining limit p station i input reader left report all list (Some TooMuch) x start is shut e = sent_taken remaining limit p station i input reader left report x shut
 closed_list remaining limit p station i input reader left report all list (Some Memory) x start is shut e = sent_taken remaining limit p station i input reader left report x shut
 
-pub taken_of : {R : Type 0} (remaining : R → Option (List ℕ)) (limit : ℕ) (p : PlanValue) (station : StationValue) (i : ℕ) (input : InputValue) (reader left : R) (report : Report) (starts : List (Option (List ℕ))) (all : List ℕ)
+pub taken_of : {R : Type 0} (remaining : R → Option (List ℕ)) (limit : ℕ) (p : ScheduleValue) (station : StationValue) (i : ℕ) (input : InputValue) (reader left : R) (report : Report) (starts : List (Option (List ℕ))) (all : List ℕ)
     → (x : IsServedInput remaining limit p station i input reader left report) → slice_get starts i ≡ Some (Some all) → remaining reader ≡ Some all
-    → IsTakenOf station.history.events i (given_list x.served.sent (packet_lists p starts i) report.stopped)
+    → IsTakenOf p station.history.events i (given_list x.served.sent (packet_lists p starts i) report.stopped)
 taken_of remaining limit p station i input reader left report starts all x from start =
     let s = x.served in
     let h = station.history.events in
@@ -190,9 +192,10 @@ taken_of remaining limit p station i input reader left report starts all x from 
     let is = list_is p starts i input all x.input_is from in
     let P : List Stamped → Type 0 = IsPrefix s.sent in
     let front : IsPrefix s.sent list = subst P (sym is) (sent_begins remaining limit p station i input reader left report all s start) in
+    let N : ScheduleValue → Type 0 = λ v. NotesAreOfNext v i s.inlet.end.received h in
     let received : IsPrefix s.inlet.end.received s.sent = (s.rest, s.sent_is ∙ ap (λ v. v ++ s.rest) (sym x.kept.received)) in
     record {
       begins = begins_list (taken i h) s.sent list report.stopped (held ++ s.rest, s.sent_is ∙ append_assoc (taken i h) held s.rest) front;
-      fulls = fulls_of_list i s.inlet.end.received (given_list s.sent list report.stopped) h (begins_list s.inlet.end.received s.sent list report.stopped received front) x.kept.fulls;
+      notes = notes_of_list p i s.inlet.end.received (given_list s.sent list report.stopped) h (begins_list s.inlet.end.received s.sent list report.stopped received front) (subst N x.plan_is x.kept.notes);
       closed = λ shut. closed_list remaining limit p station i input reader left report all list report.stopped x start is shut refl;
     }

@@ -1,5 +1,5 @@
 -- What a run sent is handed on to its output.
-use Rattle.std.proofs.Common.{◌≡◌, ℕ, List, [], ◌∷◌, ◌++◌, true, false, Option, Some, None, refl, ap, sym, subst, ◌∙◌, append_assoc, append-nil}
+use Rattle.std.proofs.Common.{◌≡◌, ℕ, List, [], ◌∷◌, ◌++◌, true, false, Option, refl, ap, sym, subst, ◌∙◌, append_assoc, append-nil}
 use Rattle.std.proofs.lemmas.Grind.{flat_map-append}
 use Rattle.std.proofs.lemmas.Bool.{false≢true}
 use Rattle.std.specs.Prelude.{Result, Ok, Err, OnOk}
@@ -165,11 +165,11 @@ pub is_driven : {W T : Type 0} (contents : W → Option (List ℕ)) (failures : 
     → OnOk r (IsDriven x y a.output b.output (contents a.sink) (contents b.sink))
 is_driven contents failures x y old a new b (Ok done) w none whole =
     let all = whole w.ended in
-    let q = x.history.run.plan.request in
+    let q = x.history.run.schedule.first.request in
     let taken = taken_is contents failures old a new b (Ok done) w none in
     let out : sent_of y ≡ sent_of x ++ packets_in w.taken = all.0.sent ∙ ap (λ v. sent_of x ++ packets_in v) taken in
     let P : List (List ℕ) → Type 0 = HasAnalysed b.output q.rate q.watch in
-    let R : Run → Type 0 = λ v. HasAnalysed b.output v.plan.request.rate v.plan.request.watch (sent_of y) in
+    let R : Run → Type 0 = λ v. HasAnalysed b.output v.schedule.first.request.rate v.schedule.first.request.watch (sent_of y) in
     record {
       same = all.0.same;
       over = all.1;

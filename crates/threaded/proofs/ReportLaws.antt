@@ -4,7 +4,7 @@ use Rattle.std.specs.List.{list_any}
 use Rattle.std.proofs.lemmas.Bool.{false≢true, or_cases}
 use Rattle.std.proofs.lemmas.List.Folds.{list_any_at}
 use Rattle.std.proofs.lemmas.Option.{slice_get_within, get_or_from_slice_get}
-use Rattle.plan.specs.Build.{PlanValue}
+use Rattle.schedule.specs.Schedule.{ScheduleValue}
 use Rattle.mux.specs.declared.event.Event.{Event}
 use Rattle.mux.specs.Totals.{IsTotals}
 use Rattle.reading.specs.declared.stop.Stop.{Stop}
@@ -39,7 +39,7 @@ one_wanted_memory {R} {G} (e ∷ ended) any =
       | inr rest ↦ (let w = one_wanted_memory ended rest in (suc w.0, w.1, w.2, w.3))
     ]
 
-pub reported_push : {R G : Type 0} (p : PlanValue) (h : List Event) (ended : List (Ended R G)) (summaries : List InputSummary) (lent : List (R × G)) (e : Ended R G) (s : InputSummary)
+pub reported_push : {R G : Type 0} (p : ScheduleValue) (h : List Event) (ended : List (Ended R G)) (summaries : List InputSummary) (lent : List (R × G)) (e : Ended R G) (s : InputSummary)
     → AreReported p h ended summaries lent → IsTotals p (length summaries) h s.totals → IsLast h (length summaries) e.report s.report
     → AreReported p h (ended ++ e ∷ []) (summaries ++ s ∷ []) (lent ++ (e.reader, e.gate) ∷ [])
 reported_push {R} {G} p h ended summaries lent e s are totals last =

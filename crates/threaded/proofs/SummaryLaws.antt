@@ -7,7 +7,7 @@ use Rattle.std.proofs.lemmas.Option.{none-some, same_Some}
 use Rattle.tspkt.specs.declared.item.Item.{Item}
 use Rattle.tspkt.specs.declared.stamped.Stamped.{Stamped}
 use Rattle.request.specs.Request.{InputValue}
-use Rattle.plan.specs.Build.{PlanValue}
+use Rattle.schedule.specs.Schedule.{ScheduleValue}
 use Rattle.mux.specs.declared.event.Event.{Event}
 use Rattle.mux.specs.History.{taken, is_closed}
 use Rattle.mux.specs.Totals.{IsTotals}
@@ -85,7 +85,7 @@ same_counts_at h i worker report None is last =
       | inr opened ↦ subst P (sym (last.left opened is)) refl
     ]
 
-last_counts : (p : PlanValue) (o : OriginValue) (items : List Item) (h : List Event) (i : ℕ) (worker report : Report) → IsLast h i worker report → CountsItems p o items worker → CountsItems p o items report
+last_counts : (p : ScheduleValue) (o : OriginValue) (items : List Item) (h : List Event) (i : ℕ) (worker report : Report) → IsLast h i worker report → CountsItems p o items worker → CountsItems p o items report
 last_counts p o items h i worker report last counts =
     let C : Report → Type 0 = CountsItems p o items in
     subst C (sym (same_counts_at h i worker report worker.stopped refl last)) (counted_stopped p o items worker report.stopped counts)
@@ -109,7 +109,7 @@ failure_told failures old new h i worker report last failed unfailed = (
 
 -- What is said of it.
 
-counted : {R : Type 0} (remaining : R → Option (List ℕ)) (limit : ℕ) (p : PlanValue) (station : StationValue) (i : ℕ) (input : InputValue) (reader left : R) (report : Report) (s : InputSummary) (all : List ℕ)
+counted : {R : Type 0} (remaining : R → Option (List ℕ)) (limit : ℕ) (p : ScheduleValue) (station : StationValue) (i : ℕ) (input : InputValue) (reader left : R) (report : Report) (s : InputSummary) (all : List ℕ)
     → (x : IsServedInput remaining limit p station i input reader left report) → (report.stopped ≡ Some Memory → ⊥) → IsLast station.history.events i report s.report → remaining reader ≡ Some all
     → IsCounted p station.history.events i input all s
 counted remaining limit p station i input reader left report s all x had last known =
@@ -136,7 +136,7 @@ counted remaining limit p station i input reader left report s all x had last kn
     }
 
 -- it was open, where it was left
-pub left_unclosed : {R : Type 0} (remaining : R → Option (List ℕ)) (limit : ℕ) (p : PlanValue) (station : StationValue) (i : ℕ) (input : InputValue) (reader left : R) (report : Report)
+pub left_unclosed : {R : Type 0} (remaining : R → Option (List ℕ)) (limit : ℕ) (p : ScheduleValue) (station : StationValue) (i : ℕ) (input : InputValue) (reader left : R) (report : Report)
     → (x : IsServedInput remaining limit p station i input reader left report) → (report.stopped ≡ Some Gate) ⊎ (is_closed i station.history.events ≡ false) → is_closed i station.history.events ≡ false
 left_unclosed remaining limit p station i input reader left report x (inr opened) = opened
 left_unclosed remaining limit p station i input reader left report x (inl gate) =
@@ -147,7 +147,7 @@ left_unclosed remaining limit p station i input reader left report x (inl gate) 
       | inr opened ↦ opened
     ]
 
-ended : {R : Type 0} (remaining : R → Option (List ℕ)) (limit : ℕ) (p : PlanValue) (station : StationValue) (i : ℕ) (input : InputValue) (reader left : R) (report : Report) (s : InputSummary) (all : List ℕ)
+ended : {R : Type 0} (remaining : R → Option (List ℕ)) (limit : ℕ) (p : ScheduleValue) (station : StationValue) (i : ℕ) (input : InputValue) (reader left : R) (report : Report) (s : InputSummary) (all : List ℕ)
     → (x : IsServedInput remaining limit p station i input reader left report) → IsLast station.history.events i report s.report → s.report.stopped ≡ None → remaining reader ≡ Some all
     → HasEnded limit p station.history.events i input all s
 ended remaining limit p station i input reader left report s all x last e known =
@@ -164,7 +164,7 @@ ended remaining limit p station i input reader left report s all x last e known 
       counts = last_counts p (origin_of i input) (framed_at (origin_of i input) all) station.history.events i report s.report last (subst C (sym bytes) whole.counts);
     }
 
-pub input_summary : {R : Type 0} (remaining : R → Option (List ℕ)) (limit : ℕ) (p : PlanValue) (station : StationValue) (i : ℕ) (input : InputValue) (reader left : R) (report : Report) (s : InputSummary)
+pub input_summary : {R : Type 0} (remaining : R → Option (List ℕ)) (limit : ℕ) (p : ScheduleValue) (station : StationValue) (i : ℕ) (input : InputValue) (reader left : R) (report : Report) (s : InputSummary)
     → IsServedInput remaining limit p station i input reader left report → (report.stopped ≡ Some Memory → ⊥) → IsLast station.history.events i report s.report → IsTotals p i station.history.events s.totals
     → IsInputSummary limit p station.history.events i input (remaining reader) s
 input_summary remaining limit p station i input reader left report s x had last totals =
@@ -187,7 +187,7 @@ input_summary remaining limit p station i input reader left report s x had last 
     }
 
 -- what was taken of it begins what can be taken of the bytes that were read
-pub taken_begins : {R : Type 0} (remaining : R → Option (List ℕ)) (limit : ℕ) (p : PlanValue) (station : StationValue) (i : ℕ) (input : InputValue) (reader left : R) (report : Report)
+pub taken_begins : {R : Type 0} (remaining : R → Option (List ℕ)) (limit : ℕ) (p : ScheduleValue) (station : StationValue) (i : ℕ) (input : InputValue) (reader left : R) (report : Report)
     → (x : IsServed remaining limit p station i input reader left report) → BeginsTakeable p (origin_of i input) x.has.bytes (taken i station.history.events)
 taken_begins remaining limit p station i input reader left report x more =
     let took = taken i station.history.events in
@@ -195,7 +195,7 @@ taken_begins remaining limit p station i input reader left report x more =
     let later = x.has.begins more in
     (behind ++ later.0, sym (append_assoc took behind later.0) ∙ (ap (λ v. v ++ later.0) (sym (x.sent_is ∙ append_assoc took (option_to_list x.inlet.held) x.rest)) ∙ later.1))
 
-pub read_on : {R : Type 0} (remaining : R → Option (List ℕ)) (limit : ℕ) (p : PlanValue) (station : StationValue) (i : ℕ) (input : InputValue) (reader left : R) (report : Report) (s : InputSummary)
+pub read_on : {R : Type 0} (remaining : R → Option (List ℕ)) (limit : ℕ) (p : ScheduleValue) (station : StationValue) (i : ℕ) (input : InputValue) (reader left : R) (report : Report) (s : InputSummary)
     → IsServedInput remaining limit p station i input reader left report → IsLast station.history.events i report s.report
     → IsReadOn limit p station.history.events i input (remaining reader) (remaining left) s
 read_on remaining limit p station i input reader left report s x last =

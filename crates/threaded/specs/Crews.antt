@@ -1,7 +1,7 @@
 -- The workers of a run, and what they leave (profile).
 use Rattle.std.specs.Prelude.{◌≡◌, ℕ, ◌≤◌, List, [], length, Option, Some}
 use Rattle.std.specs.List.{slice_get}
-use Rattle.plan.specs.Build.{PlanValue}
+use Rattle.schedule.specs.Schedule.{ScheduleValue}
 use Rattle.port.specs.Rings.{PortValue, FinishedValue}
 use Rattle.station.specs.Stations.{StationValue, rings_of}
 use Rattle.station.specs.Settling.{IsSettled}
@@ -17,19 +17,19 @@ use Rattle.threaded.specs.declared.run_gate.RunGate.{RunGate}
 abbrev pub AreUnsent : {R G : Type 0} → List ((R × G) × PortValue) → Type 0
 AreUnsent {R} {G} seats = (i : ℕ) (seat : (R × G) × PortValue) → slice_get seats i ≡ Some seat → seat.1.sent ≡ []
 
--- the worker reads the plan's input i, of at most so many bytes at its format, from this reader, and sends by this port
-pub record IsStarted {R G : Type 0} (limit : InputLimit) (plan : PlanValue) (i : ℕ) (reader : R) (port : PortValue) (worker : Worker R G) : Type 0 where
-  pub plan_is : worker.plan ≡ plan
+-- the worker reads the schedule's input i, of at most so many bytes at its format, from this reader, and sends by this port
+pub record IsStarted {R G : Type 0} (limit : InputLimit) (schedule : ScheduleValue) (i : ℕ) (reader : R) (port : PortValue) (worker : Worker R G) : Type 0 where
+  pub plan_is : worker.schedule ≡ schedule
   pub number_is : worker.number ≡ i
   pub limit_is : worker.limit ≡ limit
   pub source_is : worker.source ≡ reader
   pub port_is : worker.port ≡ port
 
 -- the first of the inputs, each by its reader, its gate and its port, have these workers
-pub record AreStarted {R G : Type 0} (limit : InputLimit) (plan : PlanValue) (seats : List ((R × G) × PortValue)) (workers : List (Worker R (RunGate G))) : Type 0 where
+pub record AreStarted {R G : Type 0} (limit : InputLimit) (schedule : ScheduleValue) (seats : List ((R × G) × PortValue)) (workers : List (Worker R (RunGate G))) : Type 0 where
   pub within : length workers ≤ length seats
   pub each : (i : ℕ) (seat : (R × G) × PortValue) (worker : Worker R (RunGate G)) → slice_get seats i ≡ Some seat → slice_get workers i ≡ Some worker
-      → IsStarted limit plan i seat.0.0 seat.1 worker
+      → IsStarted limit schedule i seat.0.0 seat.1 worker
 
 -- each worker's port is of the ring that its input comes through
 abbrev pub AreOfStation : {R G : Type 0} → StationValue → List (Worker R G) → Type 0
@@ -65,9 +65,9 @@ abbrev pub WantedMemory : {R G : Type 0} → List (Ended R G) → Type 0
 WantedMemory {R} {G} ended = (i : ℕ) × (e : Ended R G) × (slice_get ended i ≡ Some e) × (e.report.stopped ≡ Some Memory)
 
 -- The input at each seat had a worker, and this became of them.
-pub record HaveWorked {R G : Type 0} (remaining : R → Option (List ℕ)) (failures : R → ℕ) (limit : InputLimit) (plan : PlanValue) (station : StationValue) (seats : List ((R × G) × PortValue)) (ended : List (Ended R G)) : Type 0 where
+pub record HaveWorked {R G : Type 0} (remaining : R → Option (List ℕ)) (failures : R → ℕ) (limit : InputLimit) (schedule : ScheduleValue) (station : StationValue) (seats : List ((R × G) × PortValue)) (ended : List (Ended R G)) : Type 0 where
   pub workers : List (Worker R (RunGate G))
-  pub started : AreStarted limit plan seats workers
+  pub started : AreStarted limit schedule seats workers
   pub all : length workers ≡ length seats
   pub count : length ended ≡ length workers
   pub became : AreEnded remaining failures station workers ended

@@ -10,11 +10,11 @@ use Rattle.station.specs.Stations.{StationValue, rings_of}
 
 -- the bytes of what the history sent
 abbrev pub output_of : History → List ℕ
-output_of h = bytes_of (emitted h.run.plan h.events)
+output_of h = bytes_of (emitted h.run.schedule h.events)
 
 -- what the history sent was analysed
 abbrev pub HasAnalysedAll : SlotWriter → History → Type 0
-HasAnalysedAll output h = HasAnalysed output h.run.plan.request.rate h.run.plan.request.watch (emitted h.run.plan h.events)
+HasAnalysedAll output h = HasAnalysed output h.run.schedule.first.request.rate h.run.schedule.first.request.watch (emitted h.run.schedule h.events)
 
 -- It is the same run, the inputs come through the same rings, and nothing was taken but where the multiplex waited for it.
 pub record IsSameRun (old new : StationValue) : Type 0 where

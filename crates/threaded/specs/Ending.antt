@@ -1,7 +1,7 @@
 -- What is said of inputs at a run's end (profile).
 use Rattle.std.specs.Prelude.{◌≡◌, ℕ, List, length, map, Bool, Option, Some, None, IsSome, true, false}
 use Rattle.std.specs.List.{slice_get}
-use Rattle.plan.specs.Build.{PlanValue}
+use Rattle.schedule.specs.Schedule.{ScheduleValue}
 use Rattle.mux.specs.declared.event.Event.{Event}
 use Rattle.mux.specs.History.{is_closed}
 use Rattle.mux.specs.Totals.{IsTotals}
@@ -26,9 +26,9 @@ pub record IsLast (h : List Event) (i : ℕ) (worker report : Report) : Type 0 w
   pub stopped : IsSome worker.stopped → report ≡ worker
 
 -- each input's report and totals, and its reader and gate
-pub record AreReported {R G : Type 0} (p : PlanValue) (h : List Event) (ended : List (Ended R G)) (summaries : List InputSummary) (lent : List (R × G)) : Type 0 where
+pub record AreReported {R G : Type 0} (schedule : ScheduleValue) (h : List Event) (ended : List (Ended R G)) (summaries : List InputSummary) (lent : List (R × G)) : Type 0 where
   pub length_is : length summaries ≡ length ended
   pub lent_is : lent ≡ map (λ e. (e.reader, e.gate)) ended
-  pub totals : (i : ℕ) (s : InputSummary) → slice_get summaries i ≡ Some s → IsTotals p i h s.totals
+  pub totals : (i : ℕ) (s : InputSummary) → slice_get summaries i ≡ Some s → IsTotals schedule i h s.totals
   pub reports : (i : ℕ) (e : Ended R G) (s : InputSummary)
       → slice_get ended i ≡ Some e → slice_get summaries i ≡ Some s → IsLast h i e.report s.report

@@ -26,7 +26,7 @@ pub record HasRunUnfailed (h : History) (starts : List (Option (List ℕ))) (bef
   pub known : AreKnown starts
   pub unfailed : AreUnfailed s.inputs.items
 
--- Such a run and one in one thread, of one plan, for as many slots, over the same bytes: their writers get the same bytes.
+-- Such a run and one in one thread, of one schedule, for as many slots, over the same bytes: their writers get the same bytes.
 abbrev pub ThreadsWriteTheSame : Type 0
 ThreadsWriteTheSame =
     (h g : History) (starts : List (Option (List ℕ))) (before after old new : Option (List ℕ)) (s t : Summary)
@@ -40,14 +40,14 @@ ThreadsAgree =
     → h.run ≡ g.run → HasRunUnfailed h starts before after s → HasRunUnfailed g starts old new t
     → GotTheSame before after old new
 
--- What such a run in threads writes are the packets of every lawful history over its plan that takes the inputs' packets in their
+-- What such a run in threads writes are the packets of every lawful history over its schedule that takes the inputs' packets in their
 -- order and is finished at the run's slots.
 abbrev pub BytesAreOfEveryHistory : Type 0
 BytesAreOfEveryHistory =
     (h : History) (starts : List (Option (List ℕ))) (before after : Option (List ℕ)) (s : Summary) (other : List Event)
     → HasRunUnfailed h starts before after s
-    → IsRunOf h.run.plan (packet_lists h.run.plan starts) other → IsFinished h.run.plan h.run.limit other
-    → Appends before after (bytes_of (emitted h.run.plan other))
+    → IsRunOf h.run.schedule (packet_lists h.run.schedule starts) other → IsFinished h.run.schedule h.run.limit other
+    → Appends before after (bytes_of (emitted h.run.schedule other))
 
 -- A run in threads of sources whose bytes are known failed, and nothing but its end stopped an input's worker, so none wanted
 -- memory: it began to write the packets of a sound history that takes what the inputs give, each input's packets in their order.
@@ -55,24 +55,24 @@ pub record HasBegunUnfailed (h : History) (starts : List (Option (List ℕ))) (b
   pub lefts : List (Option (List ℕ))
   pub stops : List (Option Stop)
   pub sound : IsSound h
-  pub faithful : TakesWhatCame h.run.plan starts lefts stops h.events
+  pub faithful : TakesWhatCame h.run.schedule starts lefts stops h.events
   pub unfailed : (i : ℕ) (stopped : Option Stop) → slice_get stops i ≡ Some stopped → (stopped ≡ None) ⊎ (stopped ≡ Some Gate)
-  pub written : SendsBeginning before after (bytes_of (emitted h.run.plan h.events))
+  pub written : SendsBeginning before after (bytes_of (emitted h.run.schedule h.events))
 
--- What such a run wrote begins the packets of every lawful history over its plan that takes the inputs' packets in their order
+-- What such a run wrote begins the packets of every lawful history over its schedule that takes the inputs' packets in their order
 -- and is finished at the run's slots.
 abbrev pub BegunBytesBeginEveryHistory : Type 0
 BegunBytesBeginEveryHistory =
     (h : History) (starts : List (Option (List ℕ))) (before after : Option (List ℕ)) (other : List Event)
     → HasBegunUnfailed h starts before after
-    → IsRunOf h.run.plan (packet_lists h.run.plan starts) other → IsFinished h.run.plan h.run.limit other
-    → SendsBeginning before after (bytes_of (emitted h.run.plan other))
+    → IsRunOf h.run.schedule (packet_lists h.run.schedule starts) other → IsFinished h.run.schedule h.run.limit other
+    → SendsBeginning before after (bytes_of (emitted h.run.schedule other))
 
 -- one writer got a beginning of what another got
 abbrev pub GotABeginning : Option (List ℕ) → Option (List ℕ) → Option (List ℕ) → Option (List ℕ) → Type 0
 GotABeginning before after old new = (bytes later : List ℕ) × Appends before after bytes × Appends old new (bytes ++ later)
 
--- It begins what each run in threads of the same plan, for as many slots, over the same bytes writes that ends by itself, where
+-- It begins what each run in threads of the same schedule, for as many slots, over the same bytes writes that ends by itself, where
 -- nothing but its end stopped an input.
 abbrev pub BegunBytesBeginTheOutput : Type 0
 BegunBytesBeginTheOutput =

@@ -9,7 +9,7 @@ use Rattle.threaded.specs.Outputs.{packets_in}
 
 -- the packets that the run of a station sent
 abbrev pub sent_of : StationValue → List (List ℕ)
-sent_of s = emitted s.history.run.plan s.history.events
+sent_of s = emitted s.history.run.schedule s.history.events
 
 -- The run went on, and these blocks have all the packets that it sent meanwhile.
 pub record HandsAll (old new : StationValue) (blocks : List (List (List ℕ))) : Type 0 where

@@ -7,9 +7,9 @@ ghost use Rattle.threaded.specs.Crews.{AreUnsent, AreStarted, AreOfStation, AreE
 use crate::ended::Ended;
 use crate::run_gate::RunGate;
 use crate::work::{WorkHandle, start};
-use plan::Plan;
 use port::{Gate, Port};
 use reading::{InputLimit, Source};
+use schedule::Schedule;
 use station::Station;
 use std::alloc::{AllocError, Global};
 use std::sync::atomic::AtomicBool;
@@ -18,7 +18,7 @@ use std::thread::Threads;
 use std::time::Clock;
 use worker::Worker;
 
-/// Starts a worker for each input of a plan, in their order, each of which may have as many bytes as `limit` says at its format.
+/// Starts a worker for each input of a schedule, in their order, each of which may have as many bytes as `limit` says at its format.
 /// `Err` is want of memory, or that no thread can be made; the threads that were started then run.
 pub(crate) fn start_all<
     T: Threads + Wait + Clock + Copy + Send + Drop + 'static,
@@ -27,25 +27,25 @@ pub(crate) fn start_all<
 >(
     alloc: Global,
     rt: T,
-    plan: &Plan,
+    schedule: &Schedule,
     limit: InputLimit,
     is_over: &Arc<AtomicBool, Global>,
     seats: Vec<((R, G), Port)>,
     handles: &mut Vec<WorkHandle<R, G>>,
 ) -> Result<(), AllocError>
     requires limit { IsAllowed limit }
-    requires count { length seats.items ≤ length plan.now.request.inputs }
+    requires count { length seats.items ≤ length schedule.now.first.request.inputs }
     requires unsent { AreUnsent seats.items }
     requires none { handles.old.items ≡ [] }
     requires room { length seats.items ≤ vec_capacity handles.old }
-    ensures started { AreStarted limit plan.now seats.items
+    ensures started { AreStarted limit schedule.now seats.items
         (map (λ h. h.promise.worker.value) handles.new.items) }
     ensures all { OnOk result (length handles.new.items ≡ length seats.items) }
 {
     for ((reader, gate), port) in seats {
         let gate = RunGate::new(gate, Arc::try_clone(is_over)?);
         let number = handles.len();
-        let own = plan.copy(alloc)?;
+        let own = schedule.copy(alloc)?;
         let worker = Worker::new(alloc, reader, gate, port, own, number, limit);
         let handle = start(rt, worker)?;
         let Ok(()) = handles.push(handle) else {

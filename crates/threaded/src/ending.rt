@@ -2,6 +2,7 @@
 
 ghost use Rattle.std.specs.Prelude.{◌≡◌, length, true, false, None, Some, IsSome, IfOk};
 ghost use Rattle.std.specs.List.{list_any};
+ghost use Rattle.schedule.specs.Streams.{all_streams};
 ghost use Rattle.mux.specs.Totals.{IsCounts};
 ghost use Rattle.serial.specs.Ending.{ArePeaks};
 ghost use Rattle.threaded.specs.Ending.{AreReported, wants_memory};
@@ -48,8 +49,8 @@ fn end_inputs<R: Drop, G: Drop>(
     station: &Station,
     ended: Vec<Ended<R, G>>,
 ) -> Result<(Vec<InputSummary>, Vec<(R, G)>), AllocError>
-    requires { length ended.items ≡ length station.now.history.run.plan.request.inputs }
-    ensures { IfOk result (λ done. AreReported station.now.history.run.plan station.now.history.events ended.items done.0.items done.1.items) }
+    requires { length ended.items ≡ length station.now.history.run.schedule.first.request.inputs }
+    ensures { IfOk result (λ done. AreReported station.now.history.run.schedule station.now.history.events ended.items done.0.items done.1.items) }
 {
     let mut summaries = Vec::new(alloc);
     let mut lent = Vec::new(alloc);
@@ -70,10 +71,10 @@ fn end_inputs<R: Drop, G: Drop>(
     Ok((summaries, lent))
 }
 
-/// The largest delay and the fullest queue of each of so many streams, which are those of the plan.
+/// The largest delay and the fullest queue of each of so many streams, which are those of the schedule.
 fn end_streams(alloc: Global, station: &Station, streams: usize) -> Result<Vec<Peak>, AllocError>
-    requires { streams ≡ length station.now.history.run.plan.request.streams }
-    ensures { IfOk result (λ peaks. ArePeaks station.now.history.run.plan station.now.history.events peaks.items) }
+    requires { streams ≡ length (all_streams station.now.history.run.schedule) }
+    ensures { IfOk result (λ peaks. ArePeaks station.now.history.run.schedule station.now.history.events peaks.items) }
 {
     let mut peaks = Vec::new(alloc);
     for stream in 0..streams {
@@ -90,10 +91,10 @@ pub(crate) fn end_run<R: Drop, G: Drop>(
     streams: usize,
     output: SlotWriter,
 ) -> Result<(Summary, Vec<(R, G)>), AllocError>
-    requires inputs { length ended.items ≡ length station.now.history.run.plan.request.inputs }
-    requires streams { streams ≡ length station.now.history.run.plan.request.streams }
-    ensures inputs { IfOk result (λ done. AreReported station.now.history.run.plan station.now.history.events ended.items done.0.inputs.items done.1.items) }
-    ensures streams { IfOk result (λ done. ArePeaks station.now.history.run.plan station.now.history.events done.0.streams.items) }
+    requires inputs { length ended.items ≡ length station.now.history.run.schedule.first.request.inputs }
+    requires streams { streams ≡ length (all_streams station.now.history.run.schedule) }
+    ensures inputs { IfOk result (λ done. AreReported station.now.history.run.schedule station.now.history.events ended.items done.0.inputs.items done.1.items) }
+    ensures streams { IfOk result (λ done. ArePeaks station.now.history.run.schedule station.now.history.events done.0.streams.items) }
     ensures counts { IfOk result (λ done. IsCounts station.now.history.events done.0.counts) }
     ensures faults { IfOk result (λ done. done.0.faults ≡ output.faults) }
     ensures report { IfOk result (λ done. done.0.fault_report ≡ output.report) }

@@ -6,9 +6,9 @@ ghost use Rattle.station.specs.Opening.{IsOpened};
 ghost use Rattle.threaded.specs.Opening.{IsReady};
 
 use crate::seats::seats;
-use plan::Plan;
 use port::{Gate, Port};
 use reading::Source;
+use schedule::Schedule;
 use serial::SlotWriter;
 use station::Station;
 use std::alloc::{AllocError, Global};
@@ -24,38 +24,43 @@ pub(crate) struct Opening<R: Source + Drop, G: Gate + Drop> {
     pub is_over: Arc<AtomicBool, Global>,
 }
 
-/// What the output of a plan goes through.
-fn open_output(alloc: Global, plan: &Plan) -> Result<SlotWriter, AllocError>
-    ensures analysed { IfOk result (λ o. HasAnalysed o plan.now.request.rate plan.now.request.watch []) }
+/// What the output of a schedule goes through.
+fn open_output(alloc: Global, schedule: &Schedule) -> Result<SlotWriter, AllocError>
+    ensures analysed { IfOk result (λ o. HasAnalysed o schedule.now.first.request.rate schedule.now.first.request.watch []) }
     ensures waiting { IfOk result (λ o. o.writer ≡ []) }
 {
+    let plan = schedule.plan(0);
     SlotWriter::new(alloc, plan.rate(), plan.request().watch())
 }
 
-/// The station of a plan for at most so many slots, and the port of each input, in their order.
-fn open_station(alloc: Global, plan: &Plan, slots: u64) -> Result<(Station, Vec<Port>), AllocError>
+/// The station of a schedule for at most so many slots, and the port of each input, in their order.
+fn open_station(
+    alloc: Global,
+    schedule: &Schedule,
+    slots: u64,
+) -> Result<(Station, Vec<Port>), AllocError>
     requires { slots ≤ 2 ^ 40 }
-    ensures { IfOk result (λ o. IsOpened plan.now slots o.0 o.1.items) }
+    ensures { IfOk result (λ o. IsOpened schedule.now slots o.0 o.1.items) }
 {
-    Station::open(alloc, plan.copy(alloc)?, slots)
+    Station::open(alloc, schedule.copy(alloc)?, slots)
 }
 
-/// A run of a plan for at most this many slots, with a reader and a gate an input. `Err` is want of memory.
+/// A run of a schedule for at most this many slots, with a reader and a gate an input. `Err` is want of memory.
 pub(crate) fn open<R: Source + Drop, G: Gate + Drop>(
     alloc: Global,
-    plan: &Plan,
+    schedule: &Schedule,
     slots: u64,
     readers: Vec<R>,
     gates: Vec<G>,
 ) -> Result<Opening<R, G>, AllocError>
     requires { slots ≤ 2 ^ 40 }
-    ensures ready { IfOk result (λ o. IsReady plan.now slots readers.items gates.items o.station o.seats.items) }
-    ensures analysed { IfOk result (λ o. HasAnalysed o.output plan.now.request.rate plan.now.request.watch []) }
+    ensures ready { IfOk result (λ o. IsReady schedule.now slots readers.items gates.items o.station o.seats.items) }
+    ensures analysed { IfOk result (λ o. HasAnalysed o.output schedule.now.first.request.rate schedule.now.first.request.watch []) }
     ensures waiting { IfOk result (λ o. o.output.writer ≡ []) }
 {
-    let output = open_output(alloc, plan)?;
+    let output = open_output(alloc, schedule)?;
     let is_over = Arc::new(alloc, AtomicBool::new(false))?;
-    let (station, ports) = open_station(alloc, plan, slots)?;
+    let (station, ports) = open_station(alloc, schedule, slots)?;
     let seats = seats(alloc, readers, gates, ports)?;
     Ok(Opening {
         station,

@@ -2,7 +2,7 @@
 
 ghost use Rattle.std.specs.Prelude.{◌≡◌, ◌⊎◌, ◌^◌, ◌≤◌, List, length, map, Err, IfOk, IfErr, OnOk};
 ghost use Rattle.mux.specs.declared.event.Event.{Event};
-ghost use Rattle.mux.specs.Plans.{IsMultiplexPlan};
+ghost use Rattle.mux.specs.Plans.{IsMultiplexSchedule};
 ghost use Rattle.reading.specs.Failures.{FailsOnce};
 ghost use Rattle.reading.specs.InputLimit.{IsAllowed};
 ghost use Rattle.serial.specs.Outcome.{FailuresAreTold};
@@ -13,16 +13,16 @@ use crate::ending::end_run;
 use crate::opening::{Opening, open};
 use crate::outlet::Outlet;
 use crate::working::work_through;
-use plan::Plan;
 use port::Gate;
 use reading::{InputLimit, Source};
+use schedule::Schedule;
 use serial::{RunFault, Sink, Summary};
 use std::alloc::Global;
 use std::sync::Wait;
 use std::thread::Threads;
 use std::time::Clock;
 
-/// Runs a plan in threads: reads one reader an input, each in a thread of its own and at most as many bytes of each as `limit` says
+/// Runs a schedule in threads: reads one reader an input, each in a thread of its own and at most as many bytes of each as `limit` says
 /// at the input's format (up to 140,737,488,355,328), and analyses and writes the packet of each slot in one thread more, at most so
 /// many slots (0 to 2^40). It ends where all inputs have ended and nothing waits, or where it has all its slots. What goes out is
 /// written 65,424 bytes at a time, or sooner: before that thread, which finds no packets to come, sleeps twice in a row.
@@ -42,7 +42,7 @@ pub fn run_threads<
 >(
     alloc: Global,
     rt: T,
-    plan: Plan,
+    schedule: Schedule,
     slots: u64,
     limit: InputLimit,
     readers: Vec<R>,
@@ -51,14 +51,14 @@ pub fn run_threads<
 ) -> (W, Result<(Summary, Vec<(R, G)>), RunFault>)
     requires slots { slots ≤ 2 ^ 40 }
     requires limit { IsAllowed limit }
-    requires readers { length readers.items ≡ length plan.request.inputs }
-    requires gates { length gates.items ≡ length plan.request.inputs }
+    requires readers { length readers.items ≡ length schedule.first.request.inputs }
+    requires gates { length gates.items ≡ length schedule.first.request.inputs }
     ensures runs { IfOk result.1 (λ done. (h : List Event)
-        × HasRun (record { run = record { plan = plan; limit = slots }; events = h }) limit
+        × HasRun (record { run = record { schedule = schedule; limit = slots }; events = h }) limit
         (map R.remaining readers.items) (map (λ lent. R.remaining lent.0) done.1.items)
         (W.contents writer) (W.contents result.0) done.0) }
     ensures begins { IfErr result.1 (λ fault. (h : List Event)
-        × HasBegun R.remaining R.failures (record { run = record { plan = plan; limit = slots }; events = h }) limit
+        × HasBegun R.remaining R.failures (record { run = record { schedule = schedule; limit = slots }; events = h }) limit
         readers.items (W.contents writer) (W.contents result.0) (W.failures writer) (W.failures result.0) fault) }
     ensures lent { IfOk result.1 (λ done. length done.1.items ≡ length readers.items) }
     ensures read_failed { IfOk result.1 (λ done.
@@ -68,19 +68,18 @@ pub fn run_threads<
         ⊎ FailsOnce (W.failures writer) (W.failures result.0) }
     ensures write_failed { result.1 ≡ Err RunFault.Write → FailsOnce (W.failures writer) (W.failures result.0) }
 {
-    known(&plan);
-    let Ok(opening) = open(alloc, &plan, slots, readers, gates) else {
+    known(&schedule);
+    let Ok(opening) = open(alloc, &schedule, slots, readers, gates) else {
         return (writer, Err(RunFault::Memory));
     };
-    run_opened(alloc, rt, &plan, limit, opening, writer)
+    run_opened(alloc, rt, &schedule, limit, opening, writer)
 }
 
-/// What every plan keeps.
-fn known(plan: &Plan)
-    ensures { IsMultiplexPlan plan.now }
+/// What every schedule keeps.
+fn known(schedule: &Schedule)
+    ensures { IsMultiplexSchedule schedule.now }
 {
-    let _ = plan.request().rate();
-    let _ = plan.rounds().rate();
+    let _ = schedule.later_plans();
 }
 
 /// Runs what was opened, to its end.
@@ -93,19 +92,19 @@ fn run_opened<
 >(
     alloc: Global,
     rt: T,
-    plan: &Plan,
+    schedule: &Schedule,
     limit: InputLimit,
     opening: Opening<R, G>,
     sink: W,
 ) -> (W, Result<(Summary, Vec<(R, G)>), RunFault>)
     requires limit { IsAllowed limit }
-    requires plan { opening.station.history.run.plan ≡ plan.now }
-    requires count { length opening.seats.items ≡ length plan.now.request.inputs }
+    requires schedule { opening.station.history.run.schedule ≡ schedule.now }
+    requires count { length opening.seats.items ≡ length schedule.now.first.request.inputs }
     requires unsent { AreUnsent opening.seats.items }
     requires seated { AreSeated opening.station opening.seats.items }
-    ensures ended { IfOk result.1 (λ done. RunsThrough R.remaining R.failures limit plan.now
+    ensures ended { IfOk result.1 (λ done. RunsThrough R.remaining R.failures limit schedule.now
         opening.station opening.seats.items opening.output (W.contents sink) (W.contents result.0) done.0 done.1.items) }
-    ensures failed { IfErr result.1 (λ fault. IsCutShort R.remaining R.failures limit plan.now
+    ensures failed { IfErr result.1 (λ fault. IsCutShort R.remaining R.failures limit schedule.now
         opening.station opening.seats.items opening.output (W.contents sink) (W.contents result.0)
         (W.failures sink) (W.failures result.0) fault) }
     ensures wrote { OnOk result.1 (W.failures result.0 ≡ W.failures sink) }
@@ -123,7 +122,7 @@ fn run_opened<
     let (outlet, worked) = work_through(
         alloc,
         rt,
-        plan,
+        schedule,
         limit,
         &is_over,
         seats,
@@ -137,7 +136,7 @@ fn run_opened<
         Ok(ended) => ended,
         Err(fault) => return (sink, Err(fault)),
     };
-    let streams = plan.streams().len();
+    let streams = schedule.streams().len();
     match end_run(alloc, &station, ended, streams, output) {
         Ok(done) => (sink, Ok(done)),
         Err(_) => (sink, Err(RunFault::Memory)),

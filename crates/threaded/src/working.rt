@@ -14,9 +14,9 @@ use crate::outlet::Outlet;
 use crate::output_thread::send_out;
 use crate::passage::Passage;
 use crate::work::WorkHandle;
-use plan::Plan;
 use port::{Gate, Port};
 use reading::{InputLimit, Source};
+use schedule::Schedule;
 use serial::{RunFault, Sink};
 use station::Station;
 use std::alloc::Global;
@@ -36,7 +36,7 @@ pub(crate) fn work_through<
 >(
     alloc: Global,
     rt: T,
-    plan: &Plan,
+    schedule: &Schedule,
     limit: InputLimit,
     is_over: &Arc<AtomicBool, Global>,
     seats: Vec<((R, G), Port)>,
@@ -44,14 +44,14 @@ pub(crate) fn work_through<
     outlet: Outlet<W>,
 ) -> (Outlet<W>, Result<Vec<Ended<R, G>>, RunFault>)
     requires limit { IsAllowed limit }
-    requires count { length seats.items ≤ length plan.now.request.inputs }
+    requires count { length seats.items ≤ length schedule.now.first.request.inputs }
     requires unsent { AreUnsent seats.items }
     requires seated { AreSeated station.old seats.items }
     ensures worked { IfOk result.1 (λ ended.
-        HaveWorked R.remaining R.failures limit plan.now station.new seats.items ended.items) }
+        HaveWorked R.remaining R.failures limit schedule.now station.new seats.items ended.items) }
     ensures had_memory { IfOk result.1 (λ ended. HadMemory ended.items) }
     ensures stopped { OnErr result.1 (((ended : List (EndedInput R G))
-        × HaveWorked R.remaining R.failures limit plan.now station.new seats.items ended)
+        × HaveWorked R.remaining R.failures limit schedule.now station.new seats.items ended)
         ⊎ (station.new ≡ station.old)) }
     ensures driven { OnOk result.1
         (IsDriven station.old station.new outlet.output result.0.output (W.contents outlet.sink) (W.contents result.0.sink)) }
@@ -62,10 +62,10 @@ pub(crate) fn work_through<
         ⊎ FailsOnce (W.failures outlet.sink) (W.failures result.0.sink) }
     ensures wanted { result.1 ≡ Err RunFault.Memory → (W.failures result.0.sink ≡ W.failures outlet.sink)
         ⊎ ((ended : List (EndedInput R G))
-        × HaveWorked R.remaining R.failures limit plan.now station.new seats.items ended × WantedMemory ended) }
+        × HaveWorked R.remaining R.failures limit schedule.now station.new seats.items ended × WantedMemory ended) }
     ensures failed { result.1 ≡ Err RunFault.Write → FailsOnce (W.failures outlet.sink) (W.failures result.0.sink) }
     ensures unwanted { result.1 ≡ Err RunFault.Write → (ended : List (EndedInput R G))
-        × HaveWorked R.remaining R.failures limit plan.now station.new seats.items ended × HadMemory ended }
+        × HaveWorked R.remaining R.failures limit schedule.now station.new seats.items ended × HadMemory ended }
 {
     let inputs = seats.len();
     let (Ok(mut handles), Ok(mut ended)) = (
@@ -77,7 +77,7 @@ pub(crate) fn work_through<
     let (outlet, driven) = work(
         alloc,
         rt,
-        plan,
+        schedule,
         limit,
         is_over,
         seats,
@@ -106,7 +106,7 @@ fn work<
 >(
     alloc: Global,
     rt: T,
-    plan: &Plan,
+    schedule: &Schedule,
     limit: InputLimit,
     is_over: &Arc<AtomicBool, Global>,
     seats: Vec<((R, G), Port)>,
@@ -115,11 +115,11 @@ fn work<
     outlet: Outlet<W>,
 ) -> (Outlet<W>, Result<(), RunFault>)
     requires limit { IsAllowed limit }
-    requires count { length seats.items ≤ length plan.now.request.inputs }
+    requires count { length seats.items ≤ length schedule.now.first.request.inputs }
     requires unsent { AreUnsent seats.items }
     requires none { handles.old.items ≡ [] }
     requires room { length seats.items ≤ vec_capacity handles.old }
-    ensures started { AreStarted limit plan.now seats.items (map (λ h. h.promise.worker.value) handles.new.items) }
+    ensures started { AreStarted limit schedule.now seats.items (map (λ h. h.promise.worker.value) handles.new.items) }
     ensures all { OnOk result.1 (length handles.new.items ≡ length seats.items) }
     ensures some { OnErr result.1 ((length handles.new.items ≡ length seats.items) ⊎ (station.new ≡ station.old)) }
     ensures crewed { result.1 ≡ Err RunFault.Write → length handles.new.items ≡ length seats.items }
@@ -134,7 +134,7 @@ fn work<
     let Ok(passage) = Passage::open(alloc, is_over) else {
         return (outlet, Err(RunFault::Memory));
     };
-    if start_all(alloc, rt, plan, limit, is_over, seats, handles).is_err() {
+    if start_all(alloc, rt, schedule, limit, is_over, seats, handles).is_err() {
         return (outlet, Err(RunFault::Memory));
     }
     send_out(rt, station, passage, is_over, outlet)

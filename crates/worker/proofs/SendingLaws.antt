@@ -20,7 +20,7 @@ use Rattle.tspkt.specs.Framed.{packets_of}
 use Rattle.tspkt.specs.declared.item.Item.{Item}
 use Rattle.tspkt.specs.declared.item.Item.TheVariants.{Packet, Bad, SyncLoss, Lost}
 use Rattle.port.specs.Rings.{PortValue}
-use Rattle.plan.specs.Build.{PlanValue}
+use Rattle.schedule.specs.Schedule.{ScheduleValue}
 use Rattle.tspkt.specs.declared.stamped.Stamped.{Stamped}
 use Rattle.worker.specs.declared.sender.Sender.{Sender}
 use Rattle.worker.specs.Sending.{HasSent, SendsOn}
@@ -30,7 +30,7 @@ sends_gate remaining failures a gate = record {
   sent = λ start h. h;
   told = λ before t. t;
   unleft = λ e. e;
-  plan = refl;
+  schedule = refl;
   ring = refl;
   origin = refl;
   limit = refl;
@@ -41,14 +41,14 @@ sends_sends remaining failures a b c u v = record {
   sent = λ start h. v.sent start (u.sent start h);
   told = λ before t. v.told before (u.told before t);
   unleft = λ e. u.unleft (v.unleft e);
-  plan = v.plan ∙ u.plan;
+  schedule = v.schedule ∙ u.schedule;
   ring = v.ring ∙ u.ring;
   origin = v.origin ∙ u.origin;
   limit = v.limit ∙ u.limit;
 }
 
 -- the input was read on
-pub sends_found : {R G : Type 0} (remaining : R → Option (List ℕ)) (failures : R → ℕ) (a : Sender R G) (x : PacketReader R) → ReadsOn remaining a.plan a.reader x → GoesOn failures a.reader x
+pub sends_found : {R G : Type 0} (remaining : R → Option (List ℕ)) (failures : R → ℕ) (a : Sender R G) (x : PacketReader R) → ReadsOn remaining a.schedule a.reader x → GoesOn failures a.reader x
     → SendsOn remaining failures a (record a { reader = x })
 sends_found remaining failures a x reads goes = record {
   sent = λ start h.
@@ -56,7 +56,7 @@ sends_found remaining failures a x reads goes = record {
       (h.0 ++ r.0, consumes_on start (remaining a.reader.stream.source) (remaining x.stream.source) h.0 r.0 h.1 r.1, r.2);
   told = goes.failures_told;
   unleft = goes.unleft;
-  plan = refl;
+  schedule = refl;
   ring = refl;
   origin = goes.origin;
   limit = goes.limit;
@@ -64,28 +64,28 @@ sends_found remaining failures a x reads goes = record {
 
 -- the next packet was looked for among what was read
 pub sends_looked : {R G : Type 0} (remaining : R → Option (List ℕ)) (failures : R → ℕ) (a : Sender R G) (x : PacketReader R)
-    → ((bytes : List ℕ) (given : List Stamped) → HasRead remaining a.plan a.reader bytes given → HasRead remaining a.plan x bytes given)
+    → ((bytes : List ℕ) (given : List Stamped) → HasRead remaining a.schedule a.reader bytes given → HasRead remaining a.schedule x bytes given)
     → x.stream.source ≡ a.reader.stream.source → GoesOn failures a.reader x → SendsOn remaining failures a (record a { reader = x })
 sends_looked remaining failures a x same source goes =
-    sends_found remaining failures a x (reads_told remaining a.plan a.reader a.reader x (reads_nothing remaining a.plan a.reader) same source) goes
+    sends_found remaining failures a x (reads_told remaining a.schedule a.reader a.reader x (reads_nothing remaining a.schedule a.reader) same source) goes
 
 -- the packet that the reader held was sent
 pub sends_released : {R G : Type 0} (remaining : R → Option (List ℕ)) (failures : R → ℕ) (a : Sender R G) (x : PacketReader R) (port : PortValue) (item : Stamped)
     → x ≡ record a.reader { held = None } → a.reader.held ≡ Some item → port ≡ record a.port { sent = a.port.sent ++ option_to_list (Some item) }
-    → ((plan : PlanValue) (bytes : List ℕ) (given : List Stamped) → HasRead remaining plan a.reader bytes given → HasRead remaining plan x bytes (given ++ option_to_list a.reader.held))
+    → ((schedule : ScheduleValue) (bytes : List ℕ) (given : List Stamped) → HasRead remaining schedule a.reader bytes given → HasRead remaining schedule x bytes (given ++ option_to_list a.reader.held))
     → SendsOn remaining failures a (record a { reader = x; port = port })
 sends_released {R} remaining failures a x port item is held sent reads =
     record {
       sent = λ start h.
           let P : R → Type 0 = λ s. Consumes start (remaining s) h.0 in
-          let Q : List Stamped → Type 0 = HasRead remaining a.plan x h.0 in
+          let Q : List Stamped → Type 0 = HasRead remaining a.schedule x h.0 in
           let same : a.port.sent ++ option_to_list a.reader.held ≡ port.sent = ap (λ (o : Option Stamped). a.port.sent ++ option_to_list o) held ∙ sym (ap (λ (p : PortValue). p.sent) sent) in
-          (h.0, subst P (sym (ap (λ (r : PacketReader R). r.stream.source) is)) h.1, subst Q same (reads a.plan h.0 a.port.sent h.2));
+          (h.0, subst P (sym (ap (λ (r : PacketReader R). r.stream.source) is)) h.1, subst Q same (reads a.schedule h.0 a.port.sent h.2));
       told = λ before t.
           let P : PacketReader R → Type 0 = TellsFailures failures before in
           subst P (sym is) (record { unfailed = t.unfailed; told = t.told; untold = t.untold });
       unleft = λ e. sym (ap (λ (r : PacketReader R). r.report.stopped) is) ∙ e;
-      plan = refl;
+      schedule = refl;
       ring = ap (λ (p : PortValue). p.ring) sent;
       origin = ap (λ (r : PacketReader R). r.origin) is;
       limit = ap (λ (r : PacketReader R). r.stream.items.limit) is;
@@ -94,66 +94,66 @@ sends_released {R} remaining failures a x port item is held sent reads =
 -- Where a read failed, nothing is found behind what was given of the bytes before.
 
 -- what it gave, and what it holds, is what can be taken of them
-failed_given : {R : Type 0} (remaining : R → Option (List ℕ)) (plan : PlanValue) (x : PacketReader R) (bytes : List ℕ) (given : List Stamped) → HasRead remaining plan x bytes given → x.report.stopped ≡ Some ReadFailed
-    → given ++ option_to_list x.held ≡ takeable plan x.origin (framed_at x.origin bytes)
-failed_given remaining plan x bytes given has failed =
+failed_given : {R : Type 0} (remaining : R → Option (List ℕ)) (schedule : ScheduleValue) (x : PacketReader R) (bytes : List ℕ) (given : List Stamped) → HasRead remaining schedule x bytes given → x.report.stopped ≡ Some ReadFailed
+    → given ++ option_to_list x.held ≡ takeable schedule x.origin (framed_at x.origin bytes)
+failed_given remaining schedule x bytes given has failed =
     let items = x.stream.items in
     let none = has.1.over (subst IsSome (sym failed) refl) in
     let all : has.0 ++ items.ahead ≡ has.0 = ap (λ v. has.0 ++ v) none ∙ append-nil has.0 in
     let told = told_failed (stride_at x.origin) items.limit items.framer (has.0 ++ items.ahead) bytes (remaining x.stream.source) x.report.stopped failed has.1.passed in
-    sym has.1.given_is ∙ takeable_same plan x.origin has.0 (framed_at x.origin bytes) (ap packets_of (sym all) ∙ told.packets)
+    sym has.1.given_is ∙ takeable_same schedule x.origin has.0 (framed_at x.origin bytes) (ap packets_of (sym all) ∙ told.packets)
 
 none_of : (o : Option Stamped) → length (option_to_list o) ≡ 0 → o ≡ None
 none_of None e = refl
 none_of (Some x) e = absurd (omega (arith, e))
 
-pub none_behind : {R : Type 0} (remaining : R → Option (List ℕ)) (plan : PlanValue) (a b : PacketReader R) (bytes : List ℕ) (given : List Stamped) → HasRead remaining plan a bytes given → HasRead remaining plan b bytes given
+pub none_behind : {R : Type 0} (remaining : R → Option (List ℕ)) (schedule : ScheduleValue) (a b : PacketReader R) (bytes : List ℕ) (given : List Stamped) → HasRead remaining schedule a bytes given → HasRead remaining schedule b bytes given
     → a.held ≡ None → b.origin ≡ a.origin → a.report.stopped ≡ Some ReadFailed → b.report.stopped ≡ Some ReadFailed → b.held ≡ None
-none_behind remaining plan a b bytes given first second unheld origin failed still =
-    let x = failed_given remaining plan a bytes given first failed in
-    let y = failed_given remaining plan b bytes given second still ∙ ap (λ o. takeable plan o (framed_at o bytes)) origin in
+none_behind remaining schedule a b bytes given first second unheld origin failed still =
+    let x = failed_given remaining schedule a bytes given first failed in
+    let y = failed_given remaining schedule b bytes given second still ∙ ap (λ o. takeable schedule o (framed_at o bytes)) origin in
     let none = ap (λ (o : Option Stamped). length (option_to_list o)) unheld in
     none_of b.held (omega (arith, ap length (y ∙ sym x), length-append given (option_to_list b.held), length-append given (option_to_list a.held), none))
 
 -- where a packet is found behind what was sent, no read failed
 pub unfailed_found : {R G : Type 0} (remaining : R → Option (List ℕ)) (a : Sender R G) (x : PacketReader R) (start : Option (List ℕ)) → HasSent remaining start a → a.reader.held ≡ None
-    → ((bytes : List ℕ) (given : List Stamped) → HasRead remaining a.plan a.reader bytes given → HasRead remaining a.plan x bytes given) → x.origin ≡ a.reader.origin
+    → ((bytes : List ℕ) (given : List Stamped) → HasRead remaining a.schedule a.reader bytes given → HasRead remaining a.schedule x bytes given) → x.origin ≡ a.reader.origin
     → x.report.stopped ≡ a.reader.report.stopped → IsSome x.held → x.report.stopped ≡ Some ReadFailed → ⊥
 unfailed_found remaining a x start sent unheld found origin same holds failed =
-    let none = none_behind remaining a.plan a.reader x sent.0 a.port.sent sent.2 (found sent.0 a.port.sent sent.2) unheld origin (sym same ∙ failed) failed in
+    let none = none_behind remaining a.schedule a.reader x sent.0 a.port.sent sent.2 (found sent.0 a.port.sent sent.2) unheld origin (sym same ∙ failed) failed in
     let P : Option Stamped → Type 0 = IsSome in
     let bad : false ≡ true = subst P none holds in
     cc
 
 -- nor where more is to be read
 pub unfailed_reading : {R G : Type 0} (remaining : R → Option (List ℕ)) (a : Sender R G) (x : PacketReader R) (start : Option (List ℕ)) → HasSent remaining start a
-    → ((bytes : List ℕ) (given : List Stamped) → HasRead remaining a.plan a.reader bytes given → HasRead remaining a.plan x bytes given)
+    → ((bytes : List ℕ) (given : List Stamped) → HasRead remaining a.schedule a.reader bytes given → HasRead remaining a.schedule x bytes given)
     → IsSome x.stream.items.framer → x.report.stopped ≡ Some ReadFailed → ⊥
 unfailed_reading remaining a x start sent found reading failed =
-    let none = unstopped_reading remaining a.plan x sent.0 a.port.sent (found sent.0 a.port.sent sent.2) reading in
+    let none = unstopped_reading remaining a.schedule x sent.0 a.port.sent (found sent.0 a.port.sent sent.2) reading in
     none-some ReadFailed (sym none ∙ failed)
 
 -- A reader of which nothing was read holds nothing.
 
-one_more : (plan : PlanValue) (o : OriginValue) (place : ℕ) (bytes : List ℕ) (items : List Item) → length (takeable plan o (Packet place bytes ∷ items)) ≤ 1 + length (takeable plan o items)
-one_more plan o place bytes items = elim (cases_Bool (is_well_formed bytes)) [
-  | inl e ↦ elim (cases_Bool (is_named plan o bytes)) [ inl f ↦ rw (e, f) (omega arith) | inr f ↦ rw (e, f) (omega arith) ]
+one_more : (schedule : ScheduleValue) (o : OriginValue) (place : ℕ) (bytes : List ℕ) (items : List Item) → length (takeable schedule o (Packet place bytes ∷ items)) ≤ 1 + length (takeable schedule o items)
+one_more schedule o place bytes items = elim (cases_Bool (is_well_formed bytes)) [
+  | inl e ↦ elim (cases_Bool (is_named schedule o place bytes)) [ inl f ↦ rw (e, f) (omega arith) | inr f ↦ rw (e, f) (omega arith) ]
   | inr e ↦ rw e (omega arith)
 ]
 
 -- as many packets are counted as can be taken, at least
-abbrev framed_count : PlanValue → OriginValue → Item → ℕ
-framed_count plan o item = (counted_of plan o item).framed
+abbrev framed_count : ScheduleValue → OriginValue → Item → ℕ
+framed_count schedule o item = (counted_of schedule o item).framed
 
-few_taken : (plan : PlanValue) (o : OriginValue) (items : List Item) → length (takeable plan o items) ≤ sum_by (framed_count plan o) items
-few_taken plan o [] = omega arith
-few_taken plan o (Packet place bytes ∷ items) = omega (arith, few_taken plan o items, one_more plan o place bytes items, sum_by-cons (framed_count plan o) (Packet place bytes) items)
-few_taken plan o (Bad place ∷ items) = omega (arith, few_taken plan o items, sum_by-cons (framed_count plan o) (Bad place) items)
-few_taken plan o (SyncLoss place ∷ items) = omega (arith, few_taken plan o items, sum_by-cons (framed_count plan o) (SyncLoss place) items)
-few_taken plan o (Lost count ∷ items) = omega (arith, few_taken plan o items, sum_by-cons (framed_count plan o) (Lost count) items)
+few_taken : (schedule : ScheduleValue) (o : OriginValue) (items : List Item) → length (takeable schedule o items) ≤ sum_by (framed_count schedule o) items
+few_taken schedule o [] = omega arith
+few_taken schedule o (Packet place bytes ∷ items) = omega (arith, few_taken schedule o items, one_more schedule o place bytes items, sum_by-cons (framed_count schedule o) (Packet place bytes) items)
+few_taken schedule o (Bad place ∷ items) = omega (arith, few_taken schedule o items, sum_by-cons (framed_count schedule o) (Bad place) items)
+few_taken schedule o (SyncLoss place ∷ items) = omega (arith, few_taken schedule o items, sum_by-cons (framed_count schedule o) (SyncLoss place) items)
+few_taken schedule o (Lost count ∷ items) = omega (arith, few_taken schedule o items, sum_by-cons (framed_count schedule o) (Lost count) items)
 
-pub fresh_unheld : {R : Type 0} (remaining : R → Option (List ℕ)) (plan : PlanValue) (x : PacketReader R) → HasRead remaining plan x [] [] → x.report ≡ nothing_counted → x.held ≡ None
-fresh_unheld remaining plan x has fresh =
-    let few = few_taken plan x.origin has.0 in
+pub fresh_unheld : {R : Type 0} (remaining : R → Option (List ℕ)) (schedule : ScheduleValue) (x : PacketReader R) → HasRead remaining schedule x [] [] → x.report ≡ nothing_counted → x.held ≡ None
+fresh_unheld remaining schedule x has fresh =
+    let few = few_taken schedule x.origin has.0 in
     let none : x.report.framed ≡ 0 = ap (λ (r : Report). r.framed) fresh in
     none_of x.held (omega (arith, few, ap length has.1.given_is, has.1.counts.framed, none))

@@ -5,7 +5,7 @@ use Rattle.std.proofs.lemmas.Option.{none-some}
 use Rattle.std.specs.Io.KnownBytes.{Consumes}
 use Rattle.tspkt.specs.declared.item.Item.{Item}
 use Rattle.tspkt.specs.declared.stamped.Stamped.{Stamped}
-use Rattle.plan.specs.Build.{PlanValue}
+use Rattle.schedule.specs.Schedule.{ScheduleValue}
 use Rattle.reading.specs.Takeable.{OriginValue, framed_at, CountsItems}
 use Rattle.reading.specs.Failures.{FailsOnce}
 use Rattle.reading.specs.PacketReading.{HasRead, IsSpent, TellsFailures}
@@ -77,47 +77,47 @@ pub spent_of : {R : Type 0} (x : PacketReader R) (cause : Option Stop) → cause
 spent_of x cause same memory (inl spent) = spent
 spent_of x cause same memory (inr e) = absurd (memory (same ∙ e))
 
-counts_of : (plan : PlanValue) (o : OriginValue) (items : List Item) (old report : Report) → report ≡ record old { stopped = report.stopped } → CountsItems plan o items old → CountsItems plan o items report
-counts_of plan o items old report is counts =
-    let P : Report → Type 0 = CountsItems plan o items in
-    subst P (sym is) (counted_stopped plan o items old report.stopped counts)
+counts_of : (schedule : ScheduleValue) (o : OriginValue) (items : List Item) (old report : Report) → report ≡ record old { stopped = report.stopped } → CountsItems schedule o items old → CountsItems schedule o items report
+counts_of schedule o items old report is counts =
+    let P : Report → Type 0 = CountsItems schedule o items in
+    subst P (sym is) (counted_stopped schedule o items old report.stopped counts)
 
 -- what a reader gave was sent, and this is told of it
-pub sent_of : {R : Type 0} (remaining : R → Option (List ℕ)) (most : ℕ) (plan : PlanValue) (x : PacketReader R) (start : Option (List ℕ)) (bytes : List ℕ) (sent : List Stamped) (stop : Option Stop) (is_ended : Bool) (report : Report)
-    → Consumes start (remaining x.stream.source) bytes → HasRead remaining plan x bytes sent → x.stream.items.limit ≡ most
+pub sent_of : {R : Type 0} (remaining : R → Option (List ℕ)) (most : ℕ) (schedule : ScheduleValue) (x : PacketReader R) (start : Option (List ℕ)) (bytes : List ℕ) (sent : List Stamped) (stop : Option Stop) (is_ended : Bool) (report : Report)
+    → Consumes start (remaining x.stream.source) bytes → HasRead remaining schedule x bytes sent → x.stream.items.limit ≡ most
     → report.stopped ≡ first_cause x.report.stopped stop is_ended → IsOwnStop stop x.report.stopped is_ended
     → (stop ≡ None → IsSpent x ⊎ (x.report.stopped ≡ Some Memory)) → report ≡ record x.report { stopped = report.stopped }
-    → HasSentOf most plan x.origin start (remaining x.stream.source) report is_ended sent
-sent_of remaining most plan x start bytes sent stop is_ended report read has limit cause is over counts = record {
+    → HasSentOf most schedule x.origin start (remaining x.stream.source) report is_ended sent
+sent_of remaining most schedule x start bytes sent stop is_ended report read has limit cause is over counts = record {
   bytes = bytes;
   read = read;
-  begins = given_begins remaining plan x bytes sent has;
+  begins = given_begins remaining schedule x bytes sent has;
   whole = λ e.
       let u = no_cause stop x.report.stopped is_ended (sym e ∙ cause) in
       let spent = spent_of x None (sym u.0) (λ b. none-some Memory b) (over u.1) in
-      let w = whole_read remaining plan x bytes sent has spent u.0 in
-      record { sent_is = w.given_is; counts = counts_of plan x.origin (framed_at x.origin bytes) x.report report counts w.counts; at_end = w.at_end };
+      let w = whole_read remaining schedule x bytes sent has spent u.0 in
+      record { sent_is = w.given_is; counts = counts_of schedule x.origin (framed_at x.origin bytes) x.report report counts w.counts; at_end = w.at_end };
   failed = λ e.
       let same = own_cause stop x.report.stopped report.stopped is_ended cause is.own (λ b. let bad = sym e ∙ b in cc) (λ b. let bad = sym e ∙ b in cc) in
       let u = unstopped_failed stop x.report.stopped is_ended is (sym same ∙ e) in
       let spent = spent_of x report.stopped same (λ b. let bad = sym e ∙ b in cc) (over u) in
-      failed_read remaining plan x bytes sent has spent (sym same ∙ e);
+      failed_read remaining schedule x bytes sent has spent (sym same ∙ e);
   told = λ e.
       let same = own_cause stop x.report.stopped report.stopped is_ended cause is.own (λ b. let bad = sym e ∙ b in cc) (λ b. let bad = sym e ∙ b in cc) in
-      let told = counts_told remaining plan x bytes sent has (sym same ∙ e) in
-      record { told = told.told; begun = told.begun; packets = told.packets; all = told.all; counts = counts_of plan x.origin told.told x.report report counts told.counts };
+      let told = counts_told remaining schedule x bytes sent has (sym same ∙ e) in
+      record { told = told.told; begun = told.begun; packets = told.packets; all = told.all; counts = counts_of schedule x.origin told.told x.report report counts told.counts };
   too_much = λ e.
       let same = own_cause stop x.report.stopped report.stopped is_ended cause is.own (λ b. let bad = sym e ∙ b in cc) (λ b. let bad = sym e ∙ b in cc) in
-      let much = too_much remaining plan x bytes sent has (sym same ∙ e) in
+      let much = too_much remaining schedule x bytes sent has (sym same ∙ e) in
       omega (arith, much, limit);
   within = λ other.
       let P : Option Stop → Type 0 = λ r. report.stopped ≡ first_cause r stop is_ended in
-      let fits = within_read remaining plan x bytes sent has (λ e. other (subst P e cause)) in
+      let fits = within_read remaining schedule x bytes sent has (λ e. other (subst P e cause)) in
       omega (arith, fits, limit);
   counted = record {
     looked = has.0;
-    framing = looked_framed remaining plan x bytes sent has;
-    counts = counts_of plan x.origin has.0 x.report report counts has.1.counts;
+    framing = looked_framed remaining schedule x bytes sent has;
+    counts = counts_of schedule x.origin has.0 x.report report counts has.1.counts;
     held = x.held;
     sent_is = has.1.given_is;
     over = none_held x stop report.stopped is_ended is cause over;
@@ -125,28 +125,28 @@ sent_of remaining most plan x start bytes sent stop is_ended report read has lim
 }
 
 -- nothing was sent of a reader of which nothing was read
-pub fresh_sent : {R G : Type 0} (remaining : R → Option (List ℕ)) (a : Sender R G) (source : R) → a.reader.stream.source ≡ source → HasRead remaining a.plan a.reader [] [] → a.port.sent ≡ [] → HasSent remaining (remaining source) a
+pub fresh_sent : {R G : Type 0} (remaining : R → Option (List ℕ)) (a : Sender R G) (source : R) → a.reader.stream.source ≡ source → HasRead remaining a.schedule a.reader [] [] → a.port.sent ≡ [] → HasSent remaining (remaining source) a
 fresh_sent {R} remaining a source source_is fresh unsent =
     let start = remaining source in
     let C : R → Type 0 = λ v. Consumes start (remaining v) [] in
-    let H : List Stamped → Type 0 = HasRead remaining a.plan a.reader [] in
+    let H : List Stamped → Type 0 = HasRead remaining a.schedule a.reader [] in
     ([], subst C (sym source_is) (consumes_nothing start), subst H (sym unsent) fresh)
 
 -- what a worker did, from what its sending did
-pub worked : {R G : Type 0} (remaining : R → Option (List ℕ)) (failures : R → ℕ) (most : ℕ) (a b : Sender R G) (plan : PlanValue) (origin : OriginValue) (source left : R) (stop : Option Stop) (report : Report) (finished : FinishedValue)
-    → a.plan ≡ plan → a.reader.origin ≡ origin → a.reader.stream.source ≡ source → a.reader.stream.items.limit ≡ most → HasRead remaining a.plan a.reader [] [] → a.port.sent ≡ []
+pub worked : {R G : Type 0} (remaining : R → Option (List ℕ)) (failures : R → ℕ) (most : ℕ) (a b : Sender R G) (schedule : ScheduleValue) (origin : OriginValue) (source left : R) (stop : Option Stop) (report : Report) (finished : FinishedValue)
+    → a.schedule ≡ schedule → a.reader.origin ≡ origin → a.reader.stream.source ≡ source → a.reader.stream.items.limit ≡ most → HasRead remaining a.schedule a.reader [] [] → a.port.sent ≡ []
     → SendsOn remaining failures a b → left ≡ b.reader.stream.source → (stop ≡ None → IsSpent b.reader ⊎ (b.reader.report.stopped ≡ Some Memory)) → IsOwnStop stop b.reader.report.stopped finished.is_ended
     → report ≡ record b.reader.report { stopped = report.stopped } → report.stopped ≡ first_cause b.reader.report.stopped stop finished.is_ended → finished.port ≡ b.port
-    → HasWorked most plan origin (remaining source) (remaining left) a.port.ring report finished
-worked {R} {G} remaining failures most a b plan origin source left stop report finished plan_is origin_is source_is limit fresh unsent on left_is over own counts cause shown =
+    → HasWorked most schedule origin (remaining source) (remaining left) a.port.ring report finished
+worked {R} {G} remaining failures most a b schedule origin source left stop report finished plan_is origin_is source_is limit fresh unsent on left_is over own counts cause shown =
     let start = remaining source in
     let r = on.sent start (fresh_sent remaining a source source_is fresh unsent) in
-    let s = sent_of remaining most b.plan b.reader start r.0 b.port.sent stop finished.is_ended report r.1 r.2 (on.limit ∙ limit) cause own over counts in
-    let P : PlanValue → Type 0 = λ v. HasSentOf most v b.reader.origin start (remaining b.reader.stream.source) report finished.is_ended b.port.sent in
-    let O : OriginValue → Type 0 = λ v. HasSentOf most plan v start (remaining b.reader.stream.source) report finished.is_ended b.port.sent in
-    let L : R → Type 0 = λ v. HasSentOf most plan origin start (remaining v) report finished.is_ended b.port.sent in (
+    let s = sent_of remaining most b.schedule b.reader start r.0 b.port.sent stop finished.is_ended report r.1 r.2 (on.limit ∙ limit) cause own over counts in
+    let P : ScheduleValue → Type 0 = λ v. HasSentOf most v b.reader.origin start (remaining b.reader.stream.source) report finished.is_ended b.port.sent in
+    let O : OriginValue → Type 0 = λ v. HasSentOf most schedule v start (remaining b.reader.stream.source) report finished.is_ended b.port.sent in
+    let L : R → Type 0 = λ v. HasSentOf most schedule origin start (remaining v) report finished.is_ended b.port.sent in (
       b.port.sent,
-      subst L (sym left_is) (subst O (on.origin ∙ origin_is) (subst P (on.plan ∙ plan_is) s)),
+      subst L (sym left_is) (subst O (on.origin ∙ origin_is) (subst P (on.schedule ∙ plan_is) s)),
       shown ∙ (λ k. record { ring = on.ring k; sent = b.port.sent }),
     )
 

@@ -9,7 +9,7 @@ use Rattle.worker.specs.declared.sender.Sender.{Sender}
 -- of a source that had these bytes to give at first, some were read, and the port sent all that the reader gave of them
 abbrev pub HasSent : {R G : Type 0} → (R → Option (List ℕ)) → Option (List ℕ) → Sender R G → Type 0
 HasSent remaining start x =
-    (bytes : List ℕ) × Consumes start (remaining x.reader.stream.source) bytes × HasRead remaining x.plan x.reader bytes x.port.sent
+    (bytes : List ℕ) × Consumes start (remaining x.reader.stream.source) bytes × HasRead remaining x.schedule x.reader bytes x.port.sent
 
 -- The input was read on, and what it gave was sent: by the port of the same ring. Failures are told as before, and nothing but
 -- the input stopped the reading.
@@ -17,7 +17,7 @@ pub record SendsOn {R G : Type 0} (remaining : R → Option (List ℕ)) (failure
   pub sent : (start : Option (List ℕ)) → HasSent remaining start old → HasSent remaining start new
   pub told : (before : ℕ) → TellsFailures failures before old.reader → TellsFailures failures before new.reader
   pub unleft : new.reader.report.stopped ≡ Some Gate → old.reader.report.stopped ≡ Some Gate
-  pub plan : new.plan ≡ old.plan
+  pub schedule : new.schedule ≡ old.schedule
   pub ring : new.port.ring ≡ old.port.ring
   pub origin : new.reader.origin ≡ old.reader.origin
   pub limit : new.reader.stream.items.limit ≡ old.reader.stream.items.limit

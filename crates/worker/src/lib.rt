@@ -1,4 +1,4 @@
-//! A worker: it reads an input, and sends its packets that a plan names into the input's ring.
+//! A worker: it reads an input, and sends its packets that the plans of a schedule name into the input's ring.
 //!
 //! Each worker may run in a thread of its own. What it read, counted and sent is said of what it hands back. Nothing here
 //! knows of the multiplex, of files or of what is written.

@@ -5,9 +5,9 @@ ghost use Rattle.port.specs.Stops.{StopsOnce};
 ghost use Rattle.worker.specs.Sending.{first_cause};
 
 use crate::waiting::pause;
-use plan::Plan;
 use port::{FinishedPort, Gate, Point, Port};
 use reading::{Look, PacketReader, Report, Source, Stop};
+use schedule::Schedule;
 use std::alloc::Global;
 use std::sync::Wait;
 use std::time::Clock;
@@ -18,7 +18,7 @@ const PIECE: usize = 65_536;
 /// An input that is read, the port that its packets go to, and the gate that may stop it.
 #[derive(Drop)]
 pub(crate) struct Sender<R, G> {
-    pub plan: Plan,
+    pub schedule: Schedule,
     pub reader: PacketReader<R>,
     pub gate: G,
     pub port: Port,
@@ -31,7 +31,7 @@ impl<R: Source + Drop, G: Gate + Drop> Sender<R, G> {
     ghost use Rattle.port.specs.Stops.{StopsOnce};
     ghost use Rattle.worker.specs.Sending.{HasSent, SendsOn, first_cause};
 
-    /// Sends all packets of the input that the plan names, and answers what stopped it, if anything did beside the input: the
+    /// Sends all packets of the input that a plan names, and answers what stopped it, if anything did beside the input: the
     /// gate, or want of memory to read with.
     pub fn send<T: Wait + Clock>(&mut self, alloc: Global, rt: &T) -> Option<Stop>
         requires { self.old.reader.held ≡ None }
@@ -69,7 +69,7 @@ impl<R: Source + Drop, G: Gate + Drop> Sender<R, G> {
             → self.new.reader.report.stopped ≡ Some ReadFailed → ⊥ }
     {
         for _ in rt.forever() {
-            match self.reader.look(&self.plan) {
+            match self.reader.look(&self.schedule) {
                 Look::Packet(_) => {
                     if !self.send_held(rt) {
                         return false;

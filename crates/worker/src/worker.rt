@@ -6,24 +6,24 @@ ghost use Rattle.tspkt.specs.declared.packet_format.PacketFormat.{PacketFormat};
 ghost use Rattle.reading.specs.InputLimit.{limit_of_input};
 
 use crate::sender::Sender;
-use plan::Plan;
 use port::{FinishedPort, Gate, Port};
 use reading::{InputLimit, PacketReader, Report, Source, Stop};
+use schedule::Schedule;
 use std::alloc::Global;
 use std::sync::Wait;
 use std::time::Clock;
 
-/// An input of a plan, how many bytes it may have, what it is read from, the port that its packets go to, and the gate that may stop it.
+/// An input of a schedule, how many bytes it may have, what it is read from, the port that its packets go to, and the gate that may stop it.
 #[derive(Drop)]
 pub struct Worker<R, G> {
     alloc: Global,
-    plan: Plan,
+    schedule: Schedule,
     number: usize,
     limit: InputLimit,
     source: R,
     gate: G,
     port: Port,
-    ghost known: { number < length plan.request.inputs },
+    ghost known: { number < length schedule.first.request.inputs },
     ghost within: { (format : PacketFormat) → limit_of_input limit format ≤ MAX_LIMIT },
     ghost unsent: { length port.sent ≡ 0 },
 }
@@ -38,26 +38,26 @@ impl<R: Source + Drop, G: Gate + Drop> Worker<R, G> {
     ghost use Rattle.port.specs.Stops.{StopsOnce};
     ghost use Rattle.worker.specs.Working.{HasWorked};
 
-    /// The worker of the plan's input with this number, which may have as many bytes as `limit` says (up to 140,737,488,355,328),
+    /// The worker of the schedule's input with this number, which may have as many bytes as `limit` says (up to 140,737,488,355,328),
     /// and whose port sent nothing yet. It takes no memory before it runs.
     pub fn new(
         alloc: Global,
         source: R,
         gate: G,
         port: Port,
-        plan: Plan,
+        schedule: Schedule,
         number: usize,
         limit: InputLimit,
     ) -> Worker<R, G>
-        requires number { number < length plan.request.inputs }
+        requires number { number < length schedule.first.request.inputs }
         requires limit { IsAllowed limit }
         requires unsent { port.sent ≡ [] }
-        ensures input { (result.plan ≡ plan) × (result.number ≡ number) × (result.limit ≡ limit) }
+        ensures input { (result.schedule ≡ schedule) × (result.number ≡ number) × (result.limit ≡ limit) }
         ensures ends { (result.source ≡ source) × (result.gate ≡ gate) × (result.port ≡ port) }
     {
         Worker {
             alloc,
-            plan,
+            schedule,
             number,
             limit,
             source,
@@ -66,14 +66,14 @@ impl<R: Source + Drop, G: Gate + Drop> Worker<R, G> {
         }
     }
 
-    /// Reads the input, and sends its packets that the plan names, each with its time, until the input ends, a fault ends it,
+    /// Reads the input, and sends its packets that the plans name, each with its time, until the input ends, a fault ends it,
     /// or the gate says no. Then it sends the end mark, unless the gate said no. The gate is asked before each read, after each packet that went into the ring, and after each packet or end mark that found it full.
     ///
     /// It answers what was found in the input, the finished port, and the source and the gate. Of several causes that stop it
     /// the first is told. The end mark was sent exactly where the gate never said no.
     pub fn run<T: Wait + Clock>(self, rt: &T) -> (Report, FinishedPort, R, G)
-        ensures sent { (input : InputValue) → slice_get self.plan.request.inputs self.number ≡ Some input
-            → HasWorked (limit_of_input self.limit input.format) self.plan (origin_of self.number input) (R.remaining self.source) (R.remaining result.2)
+        ensures sent { (input : InputValue) → slice_get self.schedule.first.request.inputs self.number ≡ Some input
+            → HasWorked (limit_of_input self.limit input.format) self.schedule (origin_of self.number input) (R.remaining self.source) (R.remaining result.2)
             self.port.ring result.0 result.1 }
         ensures failed { result.0.stopped ≡ Some Stop.ReadFailed
             → FailsOnce (R.failures self.source) (R.failures result.2) }
@@ -86,20 +86,20 @@ impl<R: Source + Drop, G: Gate + Drop> Worker<R, G> {
     {
         let Worker {
             alloc,
-            plan,
+            schedule,
             number,
             limit,
             source,
             gate,
             port,
         } = self;
-        // What all requests keep is known with this.
-        let _ = plan.request().rate();
-        let input = &plan.inputs()[number];
+        // What all schedules keep is known with this.
+        let _ = schedule.later_plans();
+        let input = &schedule.plan(0).inputs()[number];
         let most = limit.bytes(input.format);
         let reader = PacketReader::new(alloc, number, input, source, most);
         let mut sender = Sender {
-            plan,
+            schedule,
             reader,
             gate,
             port,

@@ -2,6 +2,8 @@
 //! compared.
 
 ghost use Rattle.std.specs.Prelude.{◌≡◌, ◌≤◌, ◌<◌, ◌^◌, length};
+ghost use Rattle.schedule.specs.Streams.{all_streams};
+ghost use Rattle.mux.specs.Lawful.{input_count};
 
 use broadcast::{Broadcast, Ticked};
 use feed::{FeedReader, NotLetIn, PublishingEnd, ReadingEnd};
@@ -161,7 +163,7 @@ pub fn is_refused(rt: &impl Abort, alloc: Global, reader: &mut FeedReader) {
 
 /// Of the packets of the input so many were taken, and so many of these were sent.
 pub fn took<E: PublishingEnd>(rt: &impl Abort, broadcast: &Broadcast<E>, taken: u64, sent: u64)
-    requires { 0 < length broadcast.now.station.history.run.plan.request.inputs }
+    requires { 0 < input_count broadcast.now.station.history.run.schedule }
 {
     let totals = broadcast.totals(0);
     equals(rt, totals.taken, taken);
@@ -170,7 +172,7 @@ pub fn took<E: PublishingEnd>(rt: &impl Abort, broadcast: &Broadcast<E>, taken: 
 
 /// The largest delay of the stream's packets is this many ticks.
 pub fn delayed<E: PublishingEnd>(rt: &impl Abort, broadcast: &Broadcast<E>, ticks: u64)
-    requires { 0 < length broadcast.now.station.history.run.plan.request.streams }
+    requires { 0 < length (all_streams broadcast.now.station.history.run.schedule) }
 {
     equals(rt, broadcast.station().peak(0).delay, ticks);
 }

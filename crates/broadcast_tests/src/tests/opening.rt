@@ -1,6 +1,8 @@
 //! A broadcast of one input, and the port of its input.
 
 ghost use Rattle.std.specs.Prelude.{◌≡◌, [], length};
+ghost use Rattle.schedule.specs.Streams.{all_streams};
+ghost use Rattle.mux.specs.Lawful.{input_count};
 
 use crate::tests::asking::offers;
 use broadcast::Broadcast;
@@ -35,8 +37,8 @@ pub fn open<T: Abort + Wait>(rt: &T, alloc: Global, packets: u8) -> (Seats, Port
     ensures first { result.0.first.known.feed ≡ result.0.broadcast.feed }
     ensures second { result.0.second.known.feed ≡ result.0.broadcast.feed }
     ensures unread { result.0.first.read ≡ [] }
-    ensures inputs { length result.0.broadcast.station.history.run.plan.request.inputs ≡ 1 }
-    ensures streams { length result.0.broadcast.station.history.run.plan.request.streams ≡ 1 }
+    ensures inputs { input_count result.0.broadcast.station.history.run.schedule ≡ 1 }
+    ensures streams { length (all_streams result.0.broadcast.station.history.run.schedule) ≡ 1 }
 {
     let plan = plan_of(rt, alloc);
     let (broadcast, mut ports, mut readers) = Broadcast::open(rt, alloc, plan, 1_000, 2).expect(

@@ -4,6 +4,7 @@ ghost use Rattle.std.specs.Prelude.{◌≡◌, ◌≤◌, ◌^◌, length};
 
 use plan::Plan;
 use reading::ReadSource;
+use schedule::Schedule;
 use serial::{WriteSink, run_serial};
 use std::alloc::Global;
 use std::process::Abort;
@@ -16,7 +17,8 @@ pub fn serial_bytes(rt: &impl Abort, alloc: Global, plan: Plan, input: &[u8]) ->
     }
     assert!(rt; readers.len() == plan.inputs().len());
     let sink = WriteSink::new(Vec::new(alloc));
-    let (sink, result) = run_serial(alloc, plan, 1_000_000, readers, sink);
+    let schedule = Schedule::single(alloc, plan);
+    let (sink, result) = run_serial(alloc, schedule, 1_000_000, readers, sink);
     assert!(rt; result.is_ok());
     sink.into_inner()
 }

@@ -3,16 +3,18 @@
 ghost use Rattle.std.specs.Prelude.{◌≡◌, ◌≢◌, ◌+◌, ◌-◌, ◌*◌, ◌<◌, ◌≤◌, true, false, IfSome, IfNone, Some, None};
 ghost use Rattle.std.specs.List.{slice_get};
 ghost use Rattle.request.specs.declared.stream.Stream.{Stream};
-ghost use Rattle.rounds.specs.Rounds.{table_at, IsPlace};
+ghost use Rattle.rounds.specs.Rounds.{IsPlace};
+ghost use Rattle.schedule.specs.Schedule.{slot_time};
+ghost use Rattle.schedule.specs.Streams.{all_streams};
 ghost use Rattle.emission.specs.Emission.{table_packet_at, counted_behind};
 ghost use Rattle.mux.specs.declared.event.Event.{Event};
 ghost use Rattle.mux.specs.declared.content.Content.{Content};
-ghost use Rattle.mux.specs.History.{with_event, queue, slots, slot_time, emitted};
-ghost use Rattle.mux.specs.Lawful.{IsDone, AllReady, IsContent, MaySend};
-ghost use Rattle.mux.specs.Answers.{SendAnswers, SlotAnswers, IsRunning, IsLeastUnready};
+ghost use Rattle.mux.specs.History.{with_event, in_force, plan_in_force, queue, slots, emitted};
+ghost use Rattle.mux.specs.Lawful.{IsDone, AllReady, is_switch_due, table_due, IsContent, MaySend};
+ghost use Rattle.mux.specs.Answers.{SendAnswers, SlotAnswers, IsRunning, IsUnswitched, IsLeastUnready};
 
 use crate::candidate::Candidate;
-use crate::choice::{all_closed, all_empty, choose, clear_full, first_unready};
+use crate::choice::{all_closed, all_empty, choose, clear_notes, first_unready};
 use crate::content::Content;
 use crate::event::Event;
 use crate::mux::Mux;
@@ -25,8 +27,8 @@ use tspkt::Packet;
 impl Mux {
     /// Whether all inputs are closed, and nothing waits.
     fn is_done(&self) -> bool
-        ensures done { result ≡ true → IsDone self.now.run.plan self.now.events }
-        ensures running { result ≡ false → IsDone self.now.run.plan self.now.events → ⊥ }
+        ensures done { result ≡ true → IsDone self.now.run.schedule self.now.events }
+        ensures running { result ≡ false → IsDone self.now.run.schedule self.now.events → ⊥ }
     {
         all_closed(self.inputs.as_slice()) && all_empty(self.queues.as_slice())
     }
@@ -41,15 +43,15 @@ impl Mux {
 
     /// When the next slot goes out, in ticks of 27 MHz.
     fn now(&self) -> u64
-        ensures { result ≡ slot_time self.now.run.plan (slots self.now.events) }
+        ensures { result ≡ slot_time self.now.run.schedule.first (slots self.now.events) }
     {
         self.progress.time()
     }
 
     /// The least input that isn't ready for the next slot, which goes out now.
     fn unready(&self, now: u64) -> Option<usize>
-        requires { now ≡ slot_time self.now.run.plan (slots self.now.events) }
-        ensures none { IfNone result (AllReady self.now.run.plan self.now.events) }
+        requires { now ≡ slot_time self.now.run.schedule.first (slots self.now.events) }
+        ensures none { IfNone result (AllReady self.now.run.schedule self.now.events) }
         ensures some { IfSome result (IsLeastUnready self.now) }
     {
         first_unready(self.inputs.as_slice(), now)
@@ -57,15 +59,15 @@ impl Mux {
 
     /// The stream that the next slot carries, which has no table, or none where it carries null.
     fn next(&self, now: u64) -> Option<Candidate>
-        requires now { now ≡ slot_time self.now.run.plan (slots self.now.events) }
-        requires no_table { table_at self.now.run.plan.rounds (slots self.now.events) ≡ None }
-        ensures none { IfNone result (IsContent self.now.run.plan self.now.events Content.Null) }
+        requires now { now ≡ slot_time self.now.run.schedule.first (slots self.now.events) }
+        requires no_table { table_due self.now.run.schedule self.now.events ≡ None }
+        ensures none { IfNone result (IsContent self.now.run.schedule self.now.events Content.Null) }
         ensures some { IfSome result (λ c.
-            (slice_get self.now.run.plan.request.streams c.index ≡ Some c.stream)
-            × IsContent self.now.run.plan self.now.events (Content.Elementary c.stream)) }
+            (slice_get (all_streams self.now.run.schedule) c.index ≡ Some c.stream)
+            × IsContent self.now.run.schedule self.now.events (Content.Elementary c.stream)) }
     {
         choose(
-            self.plan.streams(),
+            self.schedule.streams(),
             self.queues.as_slice(),
             &self.heads,
             &self.progress,
@@ -75,35 +77,37 @@ impl Mux {
 
     /// The table packet whose turn it is in the next slot, or none where that has no table.
     fn table_due(&self) -> Option<TablePlace>
-        ensures { result ≡ table_at self.now.run.plan.rounds (slots self.now.events) }
+        ensures { result ≡ table_due self.now.run.schedule self.now.events }
     {
         self.turn.next()
     }
 
-    /// A table packet with the counter that comes next on its PID.
+    /// A table packet of the plan in force, with the counter that comes next on its PID.
     fn table_packet(&self, place: TablePlace) -> Packet
-        requires { IsPlace self.now.run.plan.rounds place }
-        ensures { result ≡ counted_behind (emitted self.now.run.plan self.now.events)
-            (table_packet_at self.now.run.plan.tables place) }
+        requires { IsPlace (plan_in_force self.now.run.schedule self.now.events).rounds place }
+        ensures { result ≡ counted_behind (emitted self.now.run.schedule self.now.events)
+            (table_packet_at (plan_in_force self.now.run.schedule self.now.events).tables place) }
     {
+        self.known();
+        let plan = self.plan();
         let packet = match place {
-            TablePlace::Fast(k) => self.plan.fast_packets()[k],
-            TablePlace::Slow(k) => self.plan.slow_packets()[k],
+            TablePlace::Fast(k) => plan.fast_packets()[k],
+            TablePlace::Slow(k) => plan.slow_packets()[k],
         };
         packet.with_counter(self.output.counter(packet.pid()))
     }
 
     /// Sends the table packet whose turn it is.
     fn send_table(&mut self, place: TablePlace)
-        requires due { table_at self.old.run.plan.rounds (slots self.old.events) ≡ Some place }
+        requires due { table_due self.old.run.schedule self.old.events ≡ Some place }
         requires within { slots self.old.events < self.old.run.limit }
-        requires may { MaySend self.old.run.plan self.old.events (Content.Table place) }
+        requires may { MaySend self.old.run.schedule self.old.events (Content.Table place) }
         ensures { self.new ≡ with_event self.old (Event.Slot (Content.Table place)) }
     {
         let packet = self.table_packet(place);
         self.output.push(packet);
         self.past.add(Event::Slot(Content::Table(place)));
-        clear_full(&mut self.inputs, &mut self.is_noted);
+        clear_notes(&mut self.inputs, &mut self.is_noted);
         self.progress.pass();
         self.turn.advance();
         self.counts.tables += 1;
@@ -112,12 +116,12 @@ impl Mux {
     /// Sends a null packet.
     fn send_null(&mut self)
         requires within { slots self.old.events < self.old.run.limit }
-        requires may { MaySend self.old.run.plan self.old.events Content.Null }
+        requires may { MaySend self.old.run.schedule self.old.events Content.Null }
         ensures { self.new ≡ with_event self.old (Event.Slot Content.Null) }
     {
         self.output.push_null();
         self.past.add(Event::Slot(Content::Null));
-        clear_full(&mut self.inputs, &mut self.is_noted);
+        clear_notes(&mut self.inputs, &mut self.is_noted);
         self.progress.pass();
         self.turn.advance();
         self.counts.null += 1;
@@ -125,10 +129,10 @@ impl Mux {
 
     /// Sends the head of a stream's queue.
     fn send_head(&mut self, index: usize, stream: Stream, now: u64)
-        requires now { now ≡ slot_time self.old.run.plan (slots self.old.events) }
-        requires index { slice_get self.old.run.plan.request.streams index ≡ Some stream }
+        requires now { now ≡ slot_time self.old.run.schedule.first (slots self.old.events) }
+        requires index { slice_get (all_streams self.old.run.schedule) index ≡ Some stream }
         requires within { slots self.old.events < self.old.run.limit }
-        requires may { MaySend self.old.run.plan self.old.events (Content.Elementary stream) }
+        requires may { MaySend self.old.run.schedule self.old.events (Content.Elementary stream) }
         ensures { self.new ≡ with_event self.old (Event.Slot (Content.Elementary stream)) }
     {
         // Here, before anything is written, the compiler takes what the choice made of it.
@@ -143,7 +147,7 @@ impl Mux {
         let peak = &mut self.peaks[index];
         peak.delay = peak.delay.max(delay);
         self.past.add(Event::Slot(Content::Elementary(stream)));
-        clear_full(&mut self.inputs, &mut self.is_noted);
+        clear_notes(&mut self.inputs, &mut self.is_noted);
         self.progress.send(index, bucket);
         self.inputs[stream.input].sent += 1;
         self.turn.advance();
@@ -152,11 +156,12 @@ impl Mux {
 
     /// Sends the next slot, for which all inputs are ready.
     fn send(&mut self, now: u64)
-        requires now { now ≡ slot_time self.old.run.plan (slots self.old.events) }
-        requires running { IsDone self.old.run.plan self.old.events → ⊥ }
+        requires now { now ≡ slot_time self.old.run.schedule.first (slots self.old.events) }
+        requires running { IsDone self.old.run.schedule self.old.events → ⊥ }
         requires within { slots self.old.events < self.old.run.limit }
-        requires ready { AllReady self.old.run.plan self.old.events }
-        ensures { (c : Content) × MaySend self.old.run.plan self.old.events c
+        requires switched { is_switch_due self.old.run.schedule self.old.events ≡ false }
+        requires ready { AllReady self.old.run.schedule self.old.events }
+        ensures { (c : Content) × MaySend self.old.run.schedule self.old.events c
             × (self.new ≡ with_event self.old (Event.Slot c)) }
     {
         match self.table_due() {
@@ -168,13 +173,14 @@ impl Mux {
         }
     }
 
-    /// What keeps the next slot from being sent, if anything does: the run is done, it has all its slots, or an input isn't
-    /// ready; in this order.
+    /// What keeps the multiplex from going on, if anything does: the run is done, it has all its slots, or, where no switch is due, an
+    /// input isn't ready; in this order.
     pub(crate) fn hindrance(&self) -> Option<Sending>
         ensures some { IfSome result (λ answer. SendAnswers self.now answer self.now) }
         ensures unsent { result ≢ Some Sending.Sent }
+        ensures unswitched { result ≢ Some Sending.Switched }
         ensures unrefused { result ≢ Some Sending.Memory }
-        ensures none { IfNone result (IsRunning self.now × AllReady self.now.run.plan self.now.events) }
+        ensures none { IfNone result (IsRunning self.now × (IsUnswitched self.now → AllReady self.now.run.schedule self.now.events)) }
     {
         if self.is_done() {
             return Some(Sending::Done);
@@ -182,13 +188,18 @@ impl Mux {
         if self.is_run_full() {
             return Some(Sending::RunFull);
         }
+        if self.is_switch_due() {
+            return None;
+        }
         self.unready(self.now()).map(Sending::NotReady)
     }
 
-    /// Sends the next slot, where the run isn't done, has slots left, and each input is ready; in this order.
+    /// Sends the next slot, where the run isn't done, has slots left, no switch is due, and each input is ready; in this order. Where a
+    /// switch is due the next plan comes into force and nothing is sent: what waits of streams that it doesn't have is dropped, its
+    /// tables begin, and all else goes on.
     ///
-    /// An input is ready where it is closed, or its packet last taken comes after the slot, or a full queue of it was
-    /// noted since the last slot. A table slot carries its table packet. Each other slot carries, of the packets that wait
+    /// An input is ready where it is closed, or its packet last taken comes after the slot, or a full queue of it, or an early packet, was
+    /// noted since the last slot or switch. A table slot carries its table packet. Each other slot carries, of the packets that wait
     /// first in their streams' queues, are due, and leave no more than 512 bytes in their streams' transport buffers at
     /// each byte, the one of the least time, of equal times that with the least output PID; or a null packet where there
     /// is none. A packet that its buffer has no room for holds back no packet of another stream. No memory is asked for.
@@ -199,6 +210,10 @@ impl Mux {
     {
         if let Some(answer) = self.hindrance() {
             return answer;
+        }
+        if self.is_switch_due() {
+            self.switch();
+            return Sending::Switched;
         }
         self.send(self.now());
         Sending::Sent
@@ -212,6 +227,7 @@ impl Mux {
     {
         match self.send_next() {
             Sending::Sent => Slot::Sent(*self.last().unwrap()),
+            Sending::Switched => Slot::Switched,
             Sending::NotReady(input) => Slot::NotReady(input),
             Sending::Done => Slot::Done,
             Sending::RunFull => Slot::RunFull,

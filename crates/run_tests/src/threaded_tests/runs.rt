@@ -8,6 +8,7 @@ use example::packets;
 use plan::Plan;
 use port::Gate;
 use reading::{InputLimit, ReadSource};
+use schedule::Schedule;
 use serial::{Summary, WriteSink, run_serial};
 use std::alloc::Global;
 use std::sync::Wait;
@@ -36,7 +37,8 @@ pub fn run_gated<
     }
     let sink = WriteSink::new(KeptBytes::new(alloc));
     let limit = InputLimit::OfFormat;
-    let (sink, result) = run_threads(alloc, rt, plan, slots, limit, readers, gates, sink);
+    let schedule = Schedule::single(alloc, plan);
+    let (sink, result) = run_threads(alloc, rt, schedule, slots, limit, readers, gates, sink);
     let (summary, lent) = result?;
     Ok((sink.into_inner().bytes, summary, gates_of(alloc, lent)?))
 }
@@ -57,7 +59,8 @@ pub fn written_in_one(alloc: Global, plan: &Plan) -> Result<Vec<u8>> {
         bail!("the plan has another number of inputs");
     }
     let sink = WriteSink::new(KeptBytes::new(alloc));
-    let (sink, result) = run_serial(alloc, plan, 1_000, readers, sink);
+    let schedule = Schedule::single(alloc, plan);
+    let (sink, result) = run_serial(alloc, schedule, 1_000, readers, sink);
     let _ = result?;
     Ok(sink.into_inner().bytes)
 }

@@ -1,6 +1,8 @@
 //! What the tests ask of a station and of a port: each is lent, so that a test owns nothing where an answer is compared.
 
 ghost use Rattle.std.specs.Prelude.{◌≡◌, ◌<◌, length};
+ghost use Rattle.schedule.specs.Streams.{all_streams};
+ghost use Rattle.mux.specs.Lawful.{input_count};
 ghost use Rattle.station.specs.Stations.{rings_of};
 
 use mux::Sending;
@@ -76,14 +78,14 @@ pub fn shows(rt: &impl Abort, station: &Station, pid: u16, counter: u8) {
 
 /// The station's first input is open, or isn't.
 pub fn is_open(rt: &impl Abort, station: &Station, expected: bool)
-    requires { 0 < length station.now.history.run.plan.request.inputs }
+    requires { 0 < input_count station.now.history.run.schedule }
 {
     assert_eq!(rt; !station.is_closed(0), expected);
 }
 
 /// The largest delay of the first stream is this many ticks.
 pub fn delayed(rt: &impl Abort, station: &Station, ticks: u64)
-    requires { 0 < length station.now.history.run.plan.request.streams }
+    requires { 0 < length (all_streams station.now.history.run.schedule) }
 {
     assert_eq!(rt; station.peak(0).delay, ticks);
 }

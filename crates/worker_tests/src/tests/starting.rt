@@ -7,6 +7,7 @@ use anyhow::{Result, bail};
 use example::{packets, plan_of};
 use port::{FinishedPort, Gate, Port, RingEnd, ports};
 use reading::{InputLimit, ReadSource, Report};
+use schedule::Schedule;
 use std::alloc::Global;
 use std::io::Read;
 use std::sync::Wait;
@@ -57,7 +58,8 @@ pub fn run_over<T: Wait + Clock, R: Read + Drop, G: Gate + Drop>(
         bail!("no input");
     }
     let source = ReadSource::new(reader);
-    let worker = Worker::new(alloc, source, gate, port, plan, 0, InputLimit::OfFormat);
+    let schedule = Schedule::single(alloc, plan);
+    let worker = Worker::new(alloc, source, gate, port, schedule, 0, InputLimit::OfFormat);
     let (report, finished, _, gate) = worker.run(rt);
     Ok((report, finished, gate))
 }

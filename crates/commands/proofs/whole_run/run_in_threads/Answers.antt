@@ -20,13 +20,13 @@ returns-in-Ok-without_gates-clause-read_failed g c =
 -- there was no memory for the gates, and nothing was run
 pub returns-in_default-clause-begins : goal.returns-in_default-clause-begins
 returns-in_default-clause-begins g c =
-    let run : Run = record { plan = c.args.plan; limit = c.args.slots } in
+    let run : Run = record { schedule = c.args.schedule; limit = c.args.slots } in
     ([], begun_nothing g.R.Source.remaining g.R.Source.failures run c.args.limit c.args.readers.items (g.W.Sink.contents c.args.writer) (g.W.Sink.failures c.args.writer) run_faults.Memory c.known.ensures c.requires.slots)
 
 -- there was none for the list of the readers of a run that ended
 pub returns-in-Err-clause-begins : goal.returns-in-Err-clause-begins
 returns-in-Err-clause-begins g c =
-    let run : Run = record { plan = c.args.plan; limit = c.args.slots } in
+    let run : Run = record { schedule = c.args.schedule; limit = c.args.slots } in
     let done = c.in_default-Ok in
     let ended = IfOk-at_ok _ done.is-1 c.run_threads.ensures.runs in
     let told = IfOk-at_ok _ done.is-1 c.run_threads.ensures.read_failed in

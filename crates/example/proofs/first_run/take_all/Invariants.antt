@@ -1,6 +1,7 @@
-use Rattle.std.proofs.Common.{◌<◌, length}
+use Rattle.std.proofs.Common.{◌<◌}
+use Rattle.mux.specs.Lawful.{input_count}
 use Rattle.example.proofs.first_run.take_all.Given as goal
 
--- the plan stays
+-- the schedule stays
 abbrev pub invariant-loop-item : goal.invariant-loop-item
-invariant-loop-item l = l.input < length l.mux.run.plan.request.inputs
+invariant-loop-item l = l.input < input_count l.mux.run.schedule

@@ -1,7 +1,7 @@
-use Rattle.std.proofs.Common.{◌≡◌, [], map}
-use Rattle.mux.specs.Keeping.{state_of}
+use Rattle.std.proofs.Common.{◌≡◌, map}
+use Rattle.mux.specs.Keeping.{new_state}
 use Rattle.std.specs.List.{range_with_len}
 use Rattle.mux.proofs.mux.new_states.Given as goal
 
 abbrev pub invariant-loop : goal.invariant-loop
-invariant-loop l = l.states.items ≡ map (state_of []) (range_with_len 0 l.counter)
+invariant-loop l = l.states.items ≡ map new_state (range_with_len 0 l.counter)

@@ -1,10 +1,13 @@
 use Rattle.std.proofs.Common.{subst}
 use Rattle.request.specs.Request.{IsRequest}
 use Rattle.rounds.specs.Rounds.{IsRounds}
-use Rattle.output_faults.proofs.OutputFaultLaws as told
+use Rattle.schedule.specs.Schedule.{single}
+use Rattle.output_faults.proofs.OutputFaultLaws.{counters_judged}
+use Rattle.output_faults.proofs.ScheduleTold.{judged_of}
+use Rattle.output_faults.proofs.PlanTold.{known_one, streams_of_one}
 use Rattle.output_faults.proofs.laws.counter_faults_are_of_streams.Goals as goal
 
 pub returns : goal.returns
 returns c = λ rate period out h.
-    told.counter_faults c.args.plan.now rate period out (subst IsRequest c.request.ensures.value c.rate.ensures.request) c.request.ensures.plan
-    (subst IsRounds c.rounds.ensures c.rate-2.ensures.rounds) h
+    counters_judged c.args.plan.now.request.streams rate period out
+    (judged_of (single c.args.plan.now) (known_one c.args.plan.now (subst IsRequest c.request.ensures.value c.rate.ensures.request) c.request.ensures.plan (subst IsRounds c.rounds.ensures c.rate-2.ensures.rounds)) (streams_of_one c.args.plan.now (subst IsRequest c.request.ensures.value c.rate.ensures.request)) out h)

@@ -8,7 +8,7 @@ use Rattle.serial.proofs.ending.end_inputs.Goals as goal
 pub loop-input-preserved : goal.loop-input-preserved
 loop-input-preserved g c =
     let l = c.loop-input in
-    let p = c.args.mux.now.run.plan in
+    let p = c.args.mux.now.run.schedule in
     let h = c.args.mux.now.events in
     let x = c.in-Some.input in
     let summary : InputSummary = record { report = c.report.result; totals = c.totals.result } in

@@ -1,9 +1,10 @@
 use Rattle.std.proofs.Common.{length, ap, ◌∙◌}
-use Rattle.plan.specs.Build.{PlanValue}
+use Rattle.schedule.specs.Schedule.{ScheduleValue}
+use Rattle.schedule.specs.Streams.{all_streams}
 use Rattle.serial.proofs.ending.end_run.Goals as goal
 
 pub end_streams-requires : goal.end_streams-requires
-end_streams-requires g c = ap length c.streams.ensures ∙ ap (λ (v : PlanValue). length v.request.streams) c.plan.ensures
+end_streams-requires g c = ap length c.streams.ensures ∙ ap (λ (v : ScheduleValue). length (all_streams v)) c.schedule.ensures
 
 pub end_inputs-requires : goal.end_inputs-requires
 end_inputs-requires g c = c.requires

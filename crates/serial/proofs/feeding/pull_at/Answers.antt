@@ -20,7 +20,7 @@ returns-clause-order g c =
     let i = c.args.number in
     let l = c.requires.unready.input in
     let within : i < length c.args.inputs.now.items = omega (arith, l, c.requires.fed.1.count) in
-    keep_order c.args.inputs.now.items i c.index_mut.result.now c.pull.new.input h.events c.pull.new.mux.events c.index_mut.ensures.value within c.pull.ensures.order
+    keep_order h.run.schedule c.args.inputs.now.items i c.index_mut.result.now c.pull.new.input h.events c.pull.new.mux.events c.index_mut.ensures.value within c.pull.ensures.order
     (taken_still c.pull.result i h c.pull.new.mux c.pull.ensures.event c.pull.ensures.err)
 
 pub returns-clause-failures : goal.returns-clause-failures
@@ -48,14 +48,14 @@ returns-clause-halted g c =
     on_fault c.pull.result (λ e. inl (c.pull.ensures.refused e)) (λ e. inr (c.pull.ensures.unrefused e)) in
     on_err_three c.pull.result stopped c.pull.ensures.given c.pull.ensures.err
     (λ stop given same limit starts fed limited order.
-    let K : History → Type 0 = λ v. KeepOrder h.events v.events items (set items i y) in
-    halted_looked g.R.Source.remaining limit h.run.plan h.events i starts items x y c.index_mut.ensures.value within waits stop fed limited given (subst K same (returns-clause-order g c)) order)
+    let K : History → Type 0 = λ v. KeepOrder h.run.schedule h.events v.events items (set items i y) in
+    halted_looked g.R.Source.remaining limit h.run.schedule h.events i starts items x y c.index_mut.ensures.value within waits stop fed limited given (subst K same (returns-clause-order g c)) order)
 
 pub returns-clause-unrefused : goal.returns-clause-unrefused
 returns-clause-unrefused g c e starts fed =
     let l = c.requires.unready.input in
     let within : c.args.number < length c.args.inputs.now.items = omega (arith, l, c.requires.fed.1.count) in
-    unrefused_looked g.R.Source.remaining c.args.mux.now.run.plan c.args.mux.now.events c.args.number starts c.args.inputs.now.items c.index_mut.result.now c.pull.new.input c.index_mut.ensures.value within
+    unrefused_looked g.R.Source.remaining c.args.mux.now.run.schedule c.args.mux.now.events c.args.number starts c.args.inputs.now.items c.index_mut.result.now c.pull.new.input c.index_mut.ensures.value within
     (c.pull.ensures.unrefused e) fed
 
 pub returns-clause-fed : goal.returns-clause-fed
@@ -68,8 +68,8 @@ returns-clause-fed g c =
     on_ok_two c.pull.result c.pull.ensures.feeds c.pull.ensures.event
     (λ goes event starts fed.
     let e = event.0 in
-    let M : History → Type 0 = λ v. (start : Option (List ℕ)) → Feeds g.R.Source.remaining c.args.mux.now.run.plan h i start x → Feeds g.R.Source.remaining c.args.mux.now.run.plan v.events i start y in
-    let N : History → Type 0 = λ v. AreFed g.R.Source.remaining c.args.mux.now.run.plan v.events starts (set c.args.inputs.now.items i y) in
+    let M : History → Type 0 = λ v. (start : Option (List ℕ)) → Feeds g.R.Source.remaining c.args.mux.now.run.schedule h i start x → Feeds g.R.Source.remaining c.args.mux.now.run.schedule v.events i start y in
+    let N : History → Type 0 = λ v. AreFed g.R.Source.remaining c.args.mux.now.run.schedule v.events starts (set c.args.inputs.now.items i y) in
     subst N (sym event.1)
-    (fed_input g.R.Source.remaining c.args.mux.now.run.plan h e i starts c.args.inputs.now.items x y c.index_mut.ensures.value
+    (fed_input g.R.Source.remaining c.args.mux.now.run.schedule h e i starts c.args.inputs.now.items x y c.index_mut.ensures.value
     (omega (arith, l)) event.2 fed (subst M event.1 goes)))

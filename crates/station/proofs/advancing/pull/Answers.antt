@@ -1,4 +1,4 @@
-use Rattle.std.proofs.Common.{inl, inr}
+use Rattle.std.proofs.Common.{inr}
 use Rattle.station.proofs.AdvancingLaws.{nothing_came, something_came}
 use Rattle.station.proofs.advancing.pull.Goals as goal
 

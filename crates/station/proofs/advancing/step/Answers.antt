@@ -9,7 +9,7 @@ use Rattle.mux.proofs.Heads.{some_of, lent_last}
 use Rattle.station.specs.declared.inlet.Inlet.{Inlet}
 use Rattle.station.specs.Stations.{IsLawfulInlet, IsLawfulStation}
 use Rattle.station.proofs.StationLaws.{lawful_sent, lawful_set}
-use Rattle.station.proofs.AdvancingLaws.{waits_open, step_sent, step_pulled, stuck_waiting}
+use Rattle.station.proofs.AdvancingLaws.{waits_open, step_sent, step_switched, step_pulled, stuck_waiting}
 use Rattle.station.proofs.advancing.step.Goals as goal
 
 pub unwrap-packet-requires : goal.unwrap-packet-requires
@@ -22,7 +22,7 @@ pull-requires-clause-open c =
     let i = c.in-NotReady.input in
     let x = c.index_mut.result.now in
     let is = c.in-NotReady.ensures.answer in
-    let within : i < length xs = omega (arith, c.requires.lawful.count, is.2.input) in
+    let within : i < length xs = omega (arith, c.requires.lawful.count, is.3.input) in
     let at : slice_get xs i ≡ Some x = slice_get_read xs (length xs) i x refl within c.index_mut.ensures.value in
     waits_open c.args.mux.now c.send_next.new.self i x is (c.requires.lawful.each i x at)
 
@@ -32,7 +32,7 @@ pull-requires-clause-lawful c =
     let i = c.in-NotReady.input in
     let x = c.index_mut.result.now in
     let is = c.in-NotReady.ensures.answer in
-    let within : i < length xs = omega (arith, c.requires.lawful.count, is.2.input) in
+    let within : i < length xs = omega (arith, c.requires.lawful.count, is.3.input) in
     let at : slice_get xs i ≡ Some x = slice_get_read xs (length xs) i x refl within c.index_mut.ensures.value in
     let P : History → Type 0 = λ v. IsLawfulInlet v i x in
     subst P (sym is.0) (c.requires.lawful.each i x at)
@@ -52,7 +52,7 @@ returns-then-pull-clause-step c =
     let i = c.in-NotReady.input in
     let x = c.index_mut.result.now in
     let is = c.in-NotReady.ensures.answer in
-    let within : i < length xs = omega (arith, c.requires.lawful.count, is.2.input) in
+    let within : i < length xs = omega (arith, c.requires.lawful.count, is.3.input) in
     let at : slice_get xs i ≡ Some x = slice_get_read xs (length xs) i x refl within c.index_mut.ensures.value in
     ([], sym (append-nil c.args.sent.now.items), step_pulled c.args.mux.now c.send_next.new.self c.pull.new.mux xs i x c.pull.new.inlet is at (c.pull.ensures.pulled c.if-pull.true))
 
@@ -71,8 +71,15 @@ returns-else-pull-clause-step c =
     let x = c.index_mut.result.now in
     let is = c.in-NotReady.ensures.answer in
     let no = c.pull.ensures.nothing c.if-pull.false in
-    let within : i < length xs = omega (arith, c.requires.lawful.count, is.2.input) in
+    let within : i < length xs = omega (arith, c.requires.lawful.count, is.3.input) in
     let at : slice_get xs i ≡ Some x = slice_get_read xs (length xs) i x refl within c.index_mut.ensures.value in
     let stays : set xs i c.pull.new.inlet ≡ xs = ap (set xs i) (no.1 ∙ c.index_mut.ensures.value) ∙ set-get_or xs i x in
     let S : List Inlet → Type 0 = λ v. IsStuck (sending.NotReady i) (record { history = c.pull.new.mux; inputs = v }) in
     (no.0 ∙ is.0, stays, refl, subst S (sym stays) (stuck_waiting c.args.mux.now c.send_next.new.self c.pull.new.mux xs i x is no.0 at no.2))
+
+pub returns-in-Switched-clause-step : goal.returns-in-Switched-clause-step
+returns-in-Switched-clause-step c =
+    ([], sym (append-nil c.args.sent.now.items), step_switched c.args.mux.now c.send_next.new.self c.args.inlets.now.items c.in-Switched.ensures.answer)
+
+pub returns-in-Switched-clause-lawful : goal.returns-in-Switched-clause-lawful
+returns-in-Switched-clause-lawful c = lawful_sent c.args.mux.now c.send_next.new.self sending.Switched c.args.inlets.now.items c.in-Switched.ensures.answer c.requires.lawful

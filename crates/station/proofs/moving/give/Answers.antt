@@ -8,8 +8,8 @@ use Rattle.mux.specs.Answers.{OfferAnswers}
 use Rattle.station.specs.declared.inlet.Inlet.{Inlet}
 use Rattle.station.specs.Stations.{LeavesOthers}
 use Rattle.station.specs.Moving.{IsHeldBack}
-use Rattle.station.proofs.InletLaws.{took, noted, refused, is_shut, others_took, others_noted, others_close}
-use Rattle.station.proofs.TakingLaws.{lawful_at, refused_answer}
+use Rattle.station.proofs.InletLaws.{took, refused, is_shut, others_took, others_close}
+use Rattle.station.proofs.TakingLaws.{lawful_at, refused_answer, held_answer, held_lawful, held_others}
 use Rattle.station.proofs.moving.give.Goals as goal
 
 pub unreachable-requires : goal.unreachable-requires
@@ -20,7 +20,7 @@ unreachable-requires c =
       | inl e ↦
           (let P : Offered → Type 0 = λ v. OfferAnswers h c.args.number item v c.offer.new.self in
           let a = subst P e c.offer.ensures.answer in
-          let shut = is_shut h.run.plan h.events c.args.number item a.0 in
+          let shut = is_shut h.run.schedule h.events c.args.number item a.0 in
           false≢true (sym c.requires.open ∙ (c.requires.lawful.closed ∙ shut)))
       | inr e ↦ c.offer.ensures.unrefused e
     ]
@@ -46,6 +46,15 @@ returns-in-Taken-clause-others c =
     let L : History → Type 0 = LeavesOthers i h in
     subst L (sym a.1) (others_took i h item)
 
+pub returns-in-Full-clause-kept : goal.returns-in-Full-clause-kept
+returns-in-Full-clause-kept c e =
+    let h = c.args.mux.now in
+    let i = c.args.number in
+    let item = c.unwrap-item.result.now in
+    let held = sym c.as_ref.ensures.value ∙ ap option_copied c.unwrap-item.ensures in
+    let B : Bool → Type 0 = IsHeldBack i h item c.offer.new.self in
+    (item, held, subst B (sym c.requires.open) (held_answer h i item c.offer.result c.offer.new.self c.in-Full.is c.offer.ensures.answer), refl)
+
 pub returns-in-Full-clause-lawful : goal.returns-in-Full-clause-lawful
 returns-in-Full-clause-lawful c =
     let h = c.args.mux.now in
@@ -53,18 +62,14 @@ returns-in-Full-clause-lawful c =
     let x = c.args.inlet.now in
     let item = c.unwrap-item.result.now in
     let held : x.held ≡ Some item = sym c.as_ref.ensures.value ∙ ap option_copied c.unwrap-item.ensures in
-    let P : Offered → Type 0 = λ v. OfferAnswers h i item v c.offer.new.self in
-    let a = subst P c.in-Full.is c.offer.ensures.answer in
-    noted h i x item c.offer.new.self held c.requires.open a.1 c.requires.lawful
+    held_lawful h i x item c.offer.new.self held c.requires.open (held_answer h i item c.offer.result c.offer.new.self c.in-Full.is c.offer.ensures.answer) c.requires.lawful
 
 pub returns-in-Full-clause-others : goal.returns-in-Full-clause-others
 returns-in-Full-clause-others c =
     let h = c.args.mux.now in
     let i = c.args.number in
     let item = c.unwrap-item.result.now in
-    let P : Offered → Type 0 = λ v. OfferAnswers h i item v c.offer.new.self in
-    let a = subst P c.in-Full.is c.offer.ensures.answer in
-    others_noted i h item c.offer.new.self a.1
+    held_others h i item c.offer.new.self (held_answer h i item c.offer.result c.offer.new.self c.in-Full.is c.offer.ensures.answer)
 
 pub returns-in-Stranger-clause-kept : goal.returns-in-Stranger-clause-kept
 returns-in-Stranger-clause-kept c e =

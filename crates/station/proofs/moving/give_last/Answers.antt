@@ -7,8 +7,8 @@ use Rattle.mux.specs.Answers.{OfferAnswers}
 use Rattle.station.specs.declared.inlet.Inlet.{Inlet}
 use Rattle.station.specs.Stations.{LeavesOthers}
 use Rattle.station.specs.Moving.{IsHeldBack}
-use Rattle.station.proofs.InletLaws.{took, noted, refused, is_shut, others_took, others_noted, others_close}
-use Rattle.station.proofs.TakingLaws.{lawful_at, refused_answer}
+use Rattle.station.proofs.InletLaws.{took, refused, is_shut, others_took, others_close}
+use Rattle.station.proofs.TakingLaws.{lawful_at, refused_answer, held_answer, held_lawful, held_others}
 use Rattle.station.proofs.moving.give_last.Goals as goal
 
 pub unreachable-requires : goal.unreachable-requires
@@ -20,7 +20,7 @@ unreachable-requires c =
       | inl e ↦
           (let P : Offered → Type 0 = λ v. OfferAnswers h c.args.number item v c.offer.new.self in
           let a = subst P e c.offer.ensures.answer in
-          let shut = is_shut h.run.plan h.events c.args.number item a.0 in
+          let shut = is_shut h.run.schedule h.events c.args.number item a.0 in
           false≢true (sym c.requires.open ∙ (lawful.closed ∙ shut)))
       | inr e ↦ c.offer.ensures.unrefused e
     ]
@@ -48,6 +48,14 @@ returns-in-Taken-clause-others c =
     let L : History → Type 0 = LeavesOthers i h in
     subst L (sym a.1) (others_took i h item)
 
+pub returns-in-Full-clause-kept : goal.returns-in-Full-clause-kept
+returns-in-Full-clause-kept c e =
+    let h = c.args.mux.now in
+    let i = c.args.number in
+    let item = c.last-item.result.now in
+    let B : Bool → Type 0 = IsHeldBack i h item c.offer.new.self in
+    (item, c.last-item.ensures, subst B (sym c.requires.open) (held_answer h i item c.offer.result c.offer.new.self c.in-Full.is c.offer.ensures.answer), refl)
+
 pub returns-in-Full-clause-lawful : goal.returns-in-Full-clause-lawful
 returns-in-Full-clause-lawful c =
     let h = c.args.mux.now in
@@ -55,19 +63,15 @@ returns-in-Full-clause-lawful c =
     let x = c.args.inlet.now in
     let item = c.last-item.result.now in
     let y : Inlet = record x { held = Some item } in
-    let lawful = c.requires.lawful item c.last-item.ensures in
-    let P : Offered → Type 0 = λ v. OfferAnswers h i item v c.offer.new.self in
-    let a = subst P c.in-Full.is c.offer.ensures.answer in
-    noted h i y item c.offer.new.self refl c.requires.open a.1 lawful
+    held_lawful h i y item c.offer.new.self refl c.requires.open (held_answer h i item c.offer.result c.offer.new.self c.in-Full.is c.offer.ensures.answer)
+    (c.requires.lawful item c.last-item.ensures)
 
 pub returns-in-Full-clause-others : goal.returns-in-Full-clause-others
 returns-in-Full-clause-others c =
     let h = c.args.mux.now in
     let i = c.args.number in
     let item = c.last-item.result.now in
-    let P : Offered → Type 0 = λ v. OfferAnswers h i item v c.offer.new.self in
-    let a = subst P c.in-Full.is c.offer.ensures.answer in
-    others_noted i h item c.offer.new.self a.1
+    held_others h i item c.offer.new.self (held_answer h i item c.offer.result c.offer.new.self c.in-Full.is c.offer.ensures.answer)
 
 pub returns-in-Stranger-clause-kept : goal.returns-in-Stranger-clause-kept
 returns-in-Stranger-clause-kept c e =

@@ -1,4 +1,5 @@
 use Rattle.std.proofs.Common.{◌≡◌, ◌<◌, length, slice_get, Some, refl, ap, ◌∙◌, arith}
+use Rattle.mux.specs.Lawful.{input_count}
 use Rattle.std.proofs.lemmas.Option.{slice_get_read}
 use Rattle.mux.specs.History.{Run}
 use Rattle.station.proofs.MovingLaws.{moved_on}
@@ -9,7 +10,7 @@ pub move_in-requires-clause-lawful : goal.move_in-requires-clause-lawful
 move_in-requires-clause-lawful c =
     let l = c.loop-number in
     let x = c.index_mut.result.now in
-    let within : l.number < length l.inlets.items = omega (arith, c.loop-number-test.true, c.len-number-end.ensures, c.requires.count, l.invariant.lawful.count, ap (λ (r : Run). length r.plan.request.inputs) l.invariant.run) in
+    let within : l.number < length l.inlets.items = omega (arith, c.loop-number-test.true, c.len-number-end.ensures, c.requires.count, l.invariant.lawful.count, ap (λ (r : Run). input_count r.schedule) l.invariant.run) in
     let at : slice_get l.inlets.items l.number ≡ Some x = slice_get_read l.inlets.items (length l.inlets.items) l.number x refl within c.index_mut.ensures.value in
     l.invariant.lawful.each l.number x at
 
@@ -18,7 +19,7 @@ loop-number-preserved c =
     let l = c.loop-number in
     let x = c.index_mut.result.now in
     let y = c.move_in.new.inlet in
-    let within : l.number < length l.inlets.items = omega (arith, c.loop-number-test.true, c.len-number-end.ensures, c.requires.count, l.invariant.lawful.count, ap (λ (r : Run). length r.plan.request.inputs) l.invariant.run) in
+    let within : l.number < length l.inlets.items = omega (arith, c.loop-number-test.true, c.len-number-end.ensures, c.requires.count, l.invariant.lawful.count, ap (λ (r : Run). input_count r.schedule) l.invariant.run) in
     let at : slice_get l.inlets.items l.number ≡ Some x = slice_get_read l.inlets.items (length l.inlets.items) l.number x refl within c.index_mut.ensures.value in
     record {
       moved = moved_on c.args.most c.args.mux.now c.args.inlets.now.items l.mux l.inlets.items l.number x c.move_in.new.mux y l.invariant.moved at c.move_in.ensures.moves;

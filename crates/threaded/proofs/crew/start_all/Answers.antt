@@ -1,5 +1,5 @@
 use Rattle.std.proofs.Common.{rules, ◌≡◌, [], ◌∷◌, ◌++◌, length, ap, ◌∙◌, arith, length-append}
-use Rattle.plan.specs.Build.{PlanValue}
+use Rattle.schedule.specs.Schedule.{ScheduleValue}
 use Rattle.threaded.proofs.ListLaws.{drop_next}
 use Rattle.threaded.proofs.CrewLaws.{started_of, started_next, rest_next}
 use Rattle.threaded.proofs.crew.start_all.Goals as goal
@@ -7,7 +7,7 @@ use Rattle.threaded.proofs.crew.start_all.Goals as goal
 pub new-worker-requires-clause-number : goal.new-worker-requires-clause-number
 new-worker-requires-clause-number g c =
     let l = c.loop-reader in
-    let size = ap (λ (v : PlanValue). length v.request.inputs) c.in_ok-own.ensures in
+    let size = ap (λ (v : ScheduleValue). length v.first.request.inputs) c.in_ok-own.ensures in
     omega (arith, l.invariant.left, c.in-Some.ensures.steps.1, c.requires.count, c.len-number.ensures, l.handles.ok.0, size)
 
 pub new-worker-requires-clause-unsent : goal.new-worker-requires-clause-unsent
@@ -28,8 +28,8 @@ loop-reader-preserved g c =
     let number : c.len-number.result ≡ length l.handles.items = omega (arith, c.len-number.ensures, l.handles.ok.0) in
     let made = c.new-worker.ensures in
     record {
-      started = started_next _ c.args.limit c.args.plan.now seats l.handles.items new handle _ l.invariant.started next.0
-          (started_of c.args.limit c.args.plan.now (length l.handles.items) _ _ c.in_ok-own.own c.len-number.result c.new-worker.result _ c.in_ok-handle.ensures made.input made.ends.0 made.ends.2 c.in_ok-own.ensures number)
+      started = started_next _ c.args.limit c.args.schedule.now seats l.handles.items new handle _ l.invariant.started next.0
+          (started_of c.args.limit c.args.schedule.now (length l.handles.items) _ _ c.in_ok-own.own c.len-number.result c.new-worker.result _ c.in_ok-handle.ensures made.input made.ends.0 made.ends.2 c.in_ok-own.ensures number)
           grown;
       rest = rest_next l.handles.items new handle seats _ _ grown at;
       left = (let size = ap length grown in let more = length-append l.handles.items (handle ∷ []) in omega (arith, l.invariant.left, c.in-Some.ensures.steps.1, size, more));

@@ -8,7 +8,7 @@ use Rattle.threaded.proofs.ending.end_inputs.Goals as goal
 pub loop-input-preserved : goal.loop-input-preserved
 loop-input-preserved g c =
     let l = c.loop-input in
-    let p = c.args.station.now.history.run.plan in
+    let p = c.args.station.now.history.run.schedule in
     let h = c.args.station.now.history.events in
     let x = c.in-Some.input in
     let report = c.last_report-report.result in

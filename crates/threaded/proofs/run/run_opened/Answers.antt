@@ -1,7 +1,8 @@
 use Rattle.std.proofs.Common.{length, Err, ap, refl, ◌∙◌, sym, inl, arith}
 use Rattle.std.proofs.lemmas.Result.{IfOk-at_ok}
 use Rattle.mux.specs.History.{Run}
-use Rattle.plan.specs.Build.{PlanValue}
+use Rattle.schedule.specs.Schedule.{ScheduleValue}
+use Rattle.schedule.specs.Streams.{all_streams}
 use Rattle.serial.specs.declared.run_fault.RunFault.TheVariants as run_faults
 use Rattle.serial.proofs.SendingLaws.{same_err}
 use Rattle.threaded.proofs.ResultLaws.{ok_no_err, not_write, is_fine, is_failed}
@@ -27,15 +28,15 @@ end_run-requires-clause-inputs g c =
     let w = c.work_through-outlet in
     let worked = IfOk-at_ok _ c.in-Ok.is w.ensures.worked in
     let driven = is_fine w.result.1 c.in-Ok.ended c.in-Ok.is w.ensures.driven in
-    told_count g.R.Source.remaining g.R.Source.failures c.args.limit c.args.plan.now o.station w.new.station o.seats.items c.in-Ok.ended.items
-    o.output w.result.0.output (g.W.Sink.contents c.args.sink) (g.W.Sink.contents w.result.0.sink) c.requires.plan c.requires.count worked driven
+    told_count g.R.Source.remaining g.R.Source.failures c.args.limit c.args.schedule.now o.station w.new.station o.seats.items c.in-Ok.ended.items
+    o.output w.result.0.output (g.W.Sink.contents c.args.sink) (g.W.Sink.contents w.result.0.sink) c.requires.schedule c.requires.count worked driven
 
 pub end_run-requires-clause-streams : goal.end_run-requires-clause-streams
 end_run-requires-clause-streams g c =
     let w = c.work_through-outlet in
     let driven = is_fine w.result.1 c.in-Ok.ended c.in-Ok.is w.ensures.driven in
-    let same = ap (λ (r : Run). length r.plan.request.streams) driven.same.run in
-    let plan_is = ap (λ (v : PlanValue). length v.request.streams) c.requires.plan in
+    let same = ap (λ (r : Run). length (all_streams r.schedule)) driven.same.run in
+    let plan_is = ap (λ (v : ScheduleValue). length (all_streams v)) c.requires.schedule in
     ap length c.streams-streams.ensures ∙ sym (same ∙ plan_is)
 
 -- it ended

@@ -13,23 +13,23 @@ open-requires g c = c.requires.slots
 pub run_opened-requires-clause-limit : goal.run_opened-requires-clause-limit
 run_opened-requires-clause-limit g c κs lives = c.requires.limit
 
-pub run_opened-requires-clause-plan : goal.run_opened-requires-clause-plan
-run_opened-requires-clause-plan g c κs lives = ap (λ (h : History). h.run.plan) c.in-Ok.ensures.ready.opened.history
+pub run_opened-requires-clause-schedule : goal.run_opened-requires-clause-schedule
+run_opened-requires-clause-schedule g c κs lives = ap (λ (h : History). h.run.schedule) c.in-Ok.ensures.ready.opened.history
 
 pub run_opened-requires-clause-count : goal.run_opened-requires-clause-count
 run_opened-requires-clause-count g c κs lives =
     let o = c.in-Ok.opening in
-    ready_count c.args.plan c.args.slots c.args.readers.items c.args.gates.items o.station o.seats.items c.in-Ok.ensures.ready c.requires.readers c.requires.gates
+    ready_count c.args.schedule c.args.slots c.args.readers.items c.args.gates.items o.station o.seats.items c.in-Ok.ensures.ready c.requires.readers c.requires.gates
 
 pub run_opened-requires-clause-unsent : goal.run_opened-requires-clause-unsent
 run_opened-requires-clause-unsent g c κs lives =
     let o = c.in-Ok.opening in
-    ready_unsent c.args.plan c.args.slots c.args.readers.items c.args.gates.items o.station o.seats.items c.in-Ok.ensures.ready c.requires.readers c.requires.gates
+    ready_unsent c.args.schedule c.args.slots c.args.readers.items c.args.gates.items o.station o.seats.items c.in-Ok.ensures.ready c.requires.readers c.requires.gates
 
 pub run_opened-requires-clause-seated : goal.run_opened-requires-clause-seated
 run_opened-requires-clause-seated g c κs lives =
     let o = c.in-Ok.opening in
-    ready_seated c.args.plan c.args.slots c.args.readers.items c.args.gates.items o.station o.seats.items c.in-Ok.ensures.ready c.requires.readers c.requires.gates
+    ready_seated c.args.schedule c.args.slots c.args.readers.items c.args.gates.items o.station o.seats.items c.in-Ok.ensures.ready c.requires.readers c.requires.gates
 
 pub returns-clause-runs : goal.returns-clause-runs
 returns-clause-runs g c =
@@ -37,7 +37,7 @@ returns-clause-runs g c =
     let opening = c.in-Ok.ensures in
     IfOk-weaker c.run_opened.result.1 _ _
     (λ done e.
-    run_ended g.R.Source.remaining g.R.Source.failures c.args.plan c.args.slots c.args.limit o.station c.args.readers.items c.args.gates.items o.seats.items o.output
+    run_ended g.R.Source.remaining g.R.Source.failures c.args.schedule c.args.slots c.args.limit o.station c.args.readers.items c.args.gates.items o.seats.items o.output
     (g.W.Sink.contents c.args.writer) (g.W.Sink.contents c.run_opened.result.0) done.0 done.1.items
     c.requires.slots opening.ready c.requires.readers c.requires.gates opening.waiting opening.analysed e)
     c.run_opened.ensures.ended
@@ -48,7 +48,7 @@ returns-clause-begins g c =
     let opening = c.in-Ok.ensures in
     IfErr-weaker c.run_opened.result.1 _ _
     (λ fault f.
-    run_failed g.R.Source.remaining g.R.Source.failures c.args.plan c.args.slots c.args.limit o.station c.args.readers.items c.args.gates.items o.seats.items o.output
+    run_failed g.R.Source.remaining g.R.Source.failures c.args.schedule c.args.slots c.args.limit o.station c.args.readers.items c.args.gates.items o.seats.items o.output
     (g.W.Sink.contents c.args.writer) (g.W.Sink.contents c.run_opened.result.0) (g.W.Sink.failures c.args.writer) (g.W.Sink.failures c.run_opened.result.0) fault opening.ready c.requires.readers c.requires.gates opening.waiting f)
     c.run_opened.ensures.failed
 
@@ -57,7 +57,7 @@ returns-clause-lent g c =
     let o = c.in-Ok.opening in
     IfOk-weaker c.run_opened.result.1 _ _
     (λ done e.
-    lent_count g.R.Source.remaining g.R.Source.failures c.args.plan c.args.slots c.args.limit o.station c.args.readers.items c.args.gates.items o.seats.items o.output
+    lent_count g.R.Source.remaining g.R.Source.failures c.args.schedule c.args.slots c.args.limit o.station c.args.readers.items c.args.gates.items o.seats.items o.output
     (g.W.Sink.contents c.args.writer) (g.W.Sink.contents c.run_opened.result.0) done.0 done.1.items c.in-Ok.ensures.ready c.requires.readers c.requires.gates e)
     c.run_opened.ensures.ended
 
@@ -66,7 +66,7 @@ returns-clause-read_failed g c =
     let o = c.in-Ok.opening in
     IfOk-weaker c.run_opened.result.1 _ _
     (λ done e.
-    failures_told g.R.Source.remaining g.R.Source.failures c.args.plan c.args.slots c.args.limit o.station c.args.readers.items c.args.gates.items o.seats.items o.output
+    failures_told g.R.Source.remaining g.R.Source.failures c.args.schedule c.args.slots c.args.limit o.station c.args.readers.items c.args.gates.items o.seats.items o.output
     (g.W.Sink.contents c.args.writer) (g.W.Sink.contents c.run_opened.result.0) done.0 done.1.items c.in-Ok.ensures.ready c.requires.readers c.requires.gates e)
     c.run_opened.ensures.ended
 
@@ -82,7 +82,7 @@ returns-clause-write_failed g c = c.run_opened.ensures.write_failed
 -- there was no memory to open it
 pub returns-in_default-clause-begins : goal.returns-in_default-clause-begins
 returns-in_default-clause-begins g c =
-    let run : Run = record { plan = c.args.plan; limit = c.args.slots } in
+    let run : Run = record { schedule = c.args.schedule; limit = c.args.slots } in
     ([], begun_nothing g.R.Source.remaining g.R.Source.failures run c.args.limit c.args.readers.items (g.W.Sink.contents c.args.writer) (g.W.Sink.failures c.args.writer) run_faults.Memory c.known.ensures c.requires.slots)
 
 pub returns-in_default-clause-memory : goal.returns-in_default-clause-memory

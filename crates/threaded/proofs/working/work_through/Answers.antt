@@ -20,7 +20,7 @@ join_all-requires-clause-station g c =
     let before = g.W.Sink.contents c.args.outlet.sink in
     let after = g.W.Sink.contents w.result.0.sink in
     let same = same_either w.result.1 old w.new.station c.args.outlet.output w.result.0.output before after w.ensures.driven w.ensures.broken in
-    seated_workers c.args.limit c.args.plan.now old w.new.station c.args.seats.items (map (λ h. h.promise.worker.value) w.new.handles.items) c.requires.seated same.rings w.ensures.started
+    seated_workers c.args.limit c.args.schedule.now old w.new.station c.args.seats.items (map (λ h. h.promise.worker.value) w.new.handles.items) c.requires.seated same.rings w.ensures.started
 
 -- a worker wanted memory
 
@@ -32,7 +32,7 @@ returns-then-wanted_memory-clause-stopped g c =
     elim (either_part w.result.1 w.ensures.all w.ensures.some) [
       | inl all ↦ inl (
         c.join_all.new.ended.items,
-        have_worked g.R.Source.remaining g.R.Source.failures c.args.limit c.args.plan.now w.new.station c.join_all.new.station c.args.seats.items (map (λ h. h.promise.worker.value) handles) c.join_all.new.ended.items
+        have_worked g.R.Source.remaining g.R.Source.failures c.args.limit c.args.schedule.now w.new.station c.join_all.new.station c.args.seats.items (map (λ h. h.promise.worker.value) handles) c.join_all.new.ended.items
             w.ensures.started (size ∙ all) (c.join_all.ensures.count ∙ sym size) c.join_all.ensures.ended c.join_all.ensures.same,
       )
       | inr same ↦ inr (c.join_all.ensures.same ∙ same)
@@ -62,7 +62,7 @@ returns-then-wanted_memory-clause-wanted g c is =
       | inl unfailed ↦ inl unfailed
       | inr all ↦ inr (
         c.join_all.new.ended.items,
-        have_worked g.R.Source.remaining g.R.Source.failures c.args.limit c.args.plan.now w.new.station c.join_all.new.station c.args.seats.items (map (λ h. h.promise.worker.value) handles) c.join_all.new.ended.items
+        have_worked g.R.Source.remaining g.R.Source.failures c.args.limit c.args.schedule.now w.new.station c.join_all.new.station c.args.seats.items (map (λ h. h.promise.worker.value) handles) c.join_all.new.ended.items
             w.ensures.started (size ∙ all) (c.join_all.ensures.count ∙ sym size) c.join_all.ensures.ended c.join_all.ensures.same,
         one_wanted_memory c.join_all.new.ended.items (sym told ∙ c.if-wanted_memory.true),
       )
@@ -76,7 +76,7 @@ returns-in-Ok-clause-worked g c =
     let handles = w.new.handles.items in
     let size = length-map handles (λ h. h.promise.worker.value) in
     let all = is_fine w.result.1 _ c.in-Ok.is w.ensures.all in
-    have_worked g.R.Source.remaining g.R.Source.failures c.args.limit c.args.plan.now w.new.station c.join_all.new.station c.args.seats.items (map (λ h. h.promise.worker.value) handles) c.join_all.new.ended.items
+    have_worked g.R.Source.remaining g.R.Source.failures c.args.limit c.args.schedule.now w.new.station c.join_all.new.station c.args.seats.items (map (λ h. h.promise.worker.value) handles) c.join_all.new.ended.items
     w.ensures.started (size ∙ all) (c.join_all.ensures.count ∙ sym size) c.join_all.ensures.ended c.join_all.ensures.same
 
 pub returns-in-Ok-clause-had_memory : goal.returns-in-Ok-clause-had_memory
@@ -94,7 +94,7 @@ returns-in-Err-clause-stopped g c =
     elim (is_failed w.result.1 c.in-Err.fault c.in-Err.is w.ensures.some) [
       | inl all ↦ inl (
         c.join_all.new.ended.items,
-        have_worked g.R.Source.remaining g.R.Source.failures c.args.limit c.args.plan.now w.new.station c.join_all.new.station c.args.seats.items (map (λ h. h.promise.worker.value) handles) c.join_all.new.ended.items
+        have_worked g.R.Source.remaining g.R.Source.failures c.args.limit c.args.schedule.now w.new.station c.join_all.new.station c.args.seats.items (map (λ h. h.promise.worker.value) handles) c.join_all.new.ended.items
             w.ensures.started (size ∙ all) (c.join_all.ensures.count ∙ sym size) c.join_all.ensures.ended c.join_all.ensures.same,
       )
       | inr same ↦ inr (c.join_all.ensures.same ∙ same)
@@ -108,7 +108,7 @@ returns-in-Err-clause-unwanted g c is =
     let handles = w.new.handles.items in
     let size = length-map handles (λ h. h.promise.worker.value) in (
       c.join_all.new.ended.items,
-      have_worked g.R.Source.remaining g.R.Source.failures c.args.limit c.args.plan.now w.new.station c.join_all.new.station c.args.seats.items (map (λ h. h.promise.worker.value) handles) c.join_all.new.ended.items
+      have_worked g.R.Source.remaining g.R.Source.failures c.args.limit c.args.schedule.now w.new.station c.join_all.new.station c.args.seats.items (map (λ h. h.promise.worker.value) handles) c.join_all.new.ended.items
           w.ensures.started (size ∙ w.ensures.crewed was) (c.join_all.ensures.count ∙ sym size) c.join_all.ensures.ended c.join_all.ensures.same,
       all_had_memory c.join_all.new.ended.items (sym told ∙ c.if-wanted_memory.false),
     )

@@ -1,35 +1,55 @@
-use Rattle.std.proofs.Common.{false, List, [], map, length, sym, ap, ◌∙◌, subst}
+use Rattle.std.proofs.Common.{◌≡◌, ◌≤◌, false, List, map, length, get_or, sym, ap, ◌∙◌, subst, All, arith}
 use Rattle.std.specs.List.{range_with_len}
-use Rattle.request.specs.declared.stream.Stream.{Stream}
 use Rattle.std.proofs.lemmas.List.{length-map}
-use Rattle.request.specs.Request.{RequestValue, IsRequest, input_value}
-use Rattle.rounds.specs.Rounds.{RoundsValue, IsRounds}
-use Rattle.mux.specs.Plans.{IsMultiplexPlan}
+use Rattle.std.proofs.lemmas.Option.{slice_get-get_or}
+use Rattle.request.specs.declared.limits.TheConstants.{MAX_LEAK}
+use Rattle.request.specs.declared.stream.Stream.{Stream}
+use Rattle.request.specs.Request.{RequestValue, input_value}
+use Rattle.rounds.specs.Rounds.{RoundsValue}
+use Rattle.rounds.specs.Turn.{TurnValue}
+use Rattle.plan.specs.Build.{PlanValue}
+use Rattle.schedule.specs.Streams.{all_streams}
+use Rattle.mux.specs.declared.event.Event.{Event}
+use Rattle.mux.specs.Plans.{IsMultiplexSchedule}
 use Rattle.mux.specs.SlotClock.{clock_at}
-use Rattle.mux.specs.Keeping.{state_of, queue_of, turn_at, no_peak, head_time}
+use Rattle.mux.specs.History.{Run, in_force}
+use Rattle.mux.specs.Keeping.{IsSpanOf, new_state, empty_queue, no_peak, head_time}
 use Rattle.mux.specs.Buckets.{empty_bucket}
+use Rattle.mux.proofs.Plans.{stream_in}
 use Rattle.mux.proofs.Steps.{opening}
 use Rattle.mux.proofs.Noted.{noted_none}
 use Rattle.mux.proofs.Peaks.{peaks_none}
 use Rattle.mux.proofs.HeadTimes.{output_of}
 use Rattle.mux.proofs.mux.Mux.open.Goals as goal
 
+pub new-requires-clause-leaks : goal.new-requires-clause-leaks
+new-requires-clause-leaks c =
+    let s = c.args.schedule in
+    let ok : IsMultiplexSchedule s = record { schedule = c.later_plans.ensures.schedule; plans = c.later_plans.ensures.plans } in
+    let P : List Stream → Type 0 = All (λ (st : Stream). (1 ≤ st.leak) × (st.leak ≤ MAX_LEAK)) in
+    subst P (sym c.streams-streams.ensures) (λ k d l. (let leak = (stream_in s k (get_or (all_streams s) k d) ok (slice_get-get_or (all_streams s) k d l)).leak in (omega (arith, leak.0), leak.1)))
+
 pub invariant_of-result : goal.invariant_of-result
 invariant_of-result c =
-    let p = c.args.plan in
-    let Q : RequestValue → Type 0 = IsRequest in
-    let R : RoundsValue → Type 0 = IsRounds in
-    let plan : IsMultiplexPlan p = record { request = subst Q c.request.ensures.value c.rate.ensures.request; rounds = subst R c.rounds.ensures c.rate-2.ensures.rounds; tables = c.request.ensures.plan } in
-    let streams = p.request.streams in
-    let queue = c.queue.ensures.value ∙ ap (λ (r : RequestValue). r.queue) c.request-2.ensures.value in
-    let output = c.in_ok-output.ensures in
-    let at_first = c.new-4.result in
+    let s = c.args.schedule in
+    let ok : IsMultiplexSchedule s = record { schedule = c.later_plans.ensures.schedule; plans = c.later_plans.ensures.plans } in
+    let r : Run = record { schedule = s; limit = c.args.slots } in
+    let first : c.plan-plan.result.now ≡ s.first = c.plan-plan.ensures in
+    let all = c.streams-streams.ensures in
     let none = c.new-4.ensures in
-    let kept = opening _ _ _ _ _ _ _ _ plan c.requires none
-    (c.in_ok-inputs.ensures ∙ ap (λ n. map (state_of []) (range_with_len 0 n)) (sym (length-map c.inputs.result.now input_value) ∙ ap length c.inputs.ensures))
-    (c.in_ok-queues.ensures ∙ ap (λ (xs : List Stream). map (queue_of c.queue.result []) xs) c.streams.ensures ∙ ap (λ n. map (queue_of n []) streams) queue)
-    (c.in_ok-progress.ensures.buckets ∙ ap (λ (xs : List Stream). map (empty_bucket c.rate-3.result) xs) c.streams-3.ensures ∙ ap (λ n. map (empty_bucket n) streams) c.rate-3.ensures)
-    (c.in_ok-progress.ensures.clock ∙ ap (λ n. clock_at n 0) c.rate-3.ensures) (c.new-turn.ensures ∙ ap (λ (r : RoundsValue). turn_at (record p { rounds = r }) 0) c.rounds-2.ensures) output in
-    let peaks = peaks_none p at_first c.in_ok-peaks.peaks.items none (c.in_ok-peaks.ensures ∙ ap (λ (xs : List Stream). map no_peak xs) c.streams-2.ensures) in
-    let noted = noted_none false _ c.in_ok-inputs.inputs.items c.in_ok-inputs.ensures in
-    (kept, peaks, noted, record { times_are = c.in_ok-heads.ensures.times ∙ ap (map head_time) c.as_slice.ensures.value; pids_are = c.in_ok-heads.ensures.pids ∙ ap (map output_of) c.streams-4.ensures })
+    let inputs = sym (length-map c.inputs.result.now input_value) ∙ ap length c.inputs.ensures ∙ ap (λ (p : PlanValue). length p.request.inputs) first in
+    let queue = c.queue.ensures.value ∙ ap (λ (q : RequestValue). q.queue) c.request-2.ensures.value ∙ ap (λ (p : PlanValue). p.request.queue) first in
+    let rate = c.rate-3.ensures ∙ ap (λ (p : PlanValue). p.request.rate) first in
+    let S : List Event → Type 0 = λ es. IsSpanOf s (in_force es) c.of-span.result in (
+      opening r c.new-4.result c.in_ok-inputs.inputs.items c.in_ok-queues.queues.items c.in_ok-progress.progress.buckets c.in_ok-progress.progress.clock c.new-turn.result c.in_ok-output.output ok c.requires none
+          (c.in_ok-inputs.ensures ∙ ap (λ n. map new_state (range_with_len 0 n)) inputs)
+          (c.in_ok-queues.ensures ∙ ap (λ (xs : List Stream). map (empty_queue c.queue.result) xs) all ∙ ap (λ n. map (empty_queue n) (all_streams s)) queue)
+          (c.in_ok-progress.ensures.buckets ∙ ap (λ (xs : List Stream). map (empty_bucket c.rate-3.result) xs) all ∙ ap (λ n. map (empty_bucket n) (all_streams s)) rate)
+          (c.in_ok-progress.ensures.clock ∙ ap (λ n. clock_at n 0) rate)
+          (c.new-turn.ensures ∙ ap (λ (x : RoundsValue). let t : TurnValue = record { rounds = x; slot = 0 } in t) (c.rounds-2.ensures ∙ ap (λ (p : PlanValue). p.rounds) first))
+          c.in_ok-output.ensures,
+      subst S (sym none) c.of-span.ensures,
+      peaks_none s c.new-4.result c.in_ok-peaks.peaks.items none (c.in_ok-peaks.ensures ∙ ap (λ (xs : List Stream). map no_peak xs) all),
+      noted_none false _ c.in_ok-inputs.inputs.items c.in_ok-inputs.ensures,
+      record { times_are = c.in_ok-heads.ensures.times ∙ ap (map head_time) c.as_slice.ensures.value; pids_are = c.in_ok-heads.ensures.pids ∙ ap (map output_of) all },
+    )

@@ -1,11 +1,12 @@
-use Rattle.std.proofs.Common.{sym, ap, ◌∙◌, subst, List, ◌<◌, arith}
+use Rattle.std.proofs.Common.{refl, sym, ap, ◌∙◌, subst, List, ◌<◌, arith}
 use Rattle.mux.specs.declared.content.Content.TheVariants.{Null}
 use Rattle.mux.specs.History.{History, slots, with_event}
 use Rattle.mux.specs.declared.counts.Counts.{Counts}
 use Rattle.mux.specs.Totals.{is_null}
 use Rattle.mux.proofs.Counting.{count_within}
 use Rattle.mux.specs.Lawful.{MaySend}
-use Rattle.mux.proofs.Steps.{sending_null}
+use Rattle.mux.proofs.Steps.{span_stays}
+use Rattle.mux.proofs.Slots.{sending_null}
 use Rattle.mux.proofs.Noted.{noted_cleared}
 use Rattle.mux.proofs.Peaks.{peaks_null}
 use Rattle.mux.specs.declared.event.Event.{Event}
@@ -23,13 +24,18 @@ overflow_add-self c =
 
 pub invariant_of-self : goal.invariant_of-self
 invariant_of-self c =
-    let R : History → Type 0 = λ h. MaySend h.run.plan h.events Null in
+    let R : History → Type 0 = λ h. MaySend h.run.schedule h.events Null in
     let S : History → Type 0 = λ h. slots h.events < h.run.limit in
-    let kept = sending_null c.self.invariant.0 _ _ _ _ _ _ c.add.ensures c.clear_full.ensures.inputs c.pass.ensures.buckets c.pass.ensures.clock c.advance.ensures
-    c.push_null.ensures (subst S (sym c.self.view_is) c.requires.within) (subst R (sym c.self.view_is) c.requires.may) in
-    (kept, peaks_null c.self.invariant.1 _ c.add.ensures, noted_cleared _ c.self.inside.inputs.items _ c.clear_full.ensures.inputs, c.self.invariant.3)
+    let kept = sending_null c.self.invariant.0 _ _ _ _ _ _ c.add.ensures c.clear_notes.ensures.inputs c.pass.ensures.buckets c.pass.ensures.clock c.advance.ensures
+    c.push_null.ensures (subst S (sym c.self.view_is) c.requires.within) (subst R (sym c.self.view_is) c.requires.may) in (
+      kept,
+      span_stays c.self.invariant.1 (Slot Null) _ c.add.ensures refl,
+      peaks_null c.self.invariant.2 _ c.add.ensures,
+      noted_cleared _ c.self.inside.inputs.items _ c.clear_notes.ensures.inputs,
+      c.self.invariant.4,
+    )
 
 pub returns : goal.returns
 returns c =
-    let opened : List Event → History = λ es. record { run = record { plan = c.self.inside.plan; limit = c.self.inside.limit }; events = es } in
+    let opened : List Event → History = λ es. record { run = record { schedule = c.self.inside.schedule; limit = c.self.inside.limit }; events = es } in
     ap opened c.add.ensures ∙ ap (λ (h : History). with_event h (Slot Null)) c.self.view_is

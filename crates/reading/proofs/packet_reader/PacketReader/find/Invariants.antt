@@ -7,7 +7,7 @@ use Rattle.reading.proofs.packet_reader.PacketReader.find.Given as goal
 
 abbrev pub invariant-loop-number : goal.invariant-loop-number
 invariant-loop-number g l = record {
-  read : ReadsOn g.R.Source.remaining l.plan l.fn.self l.self;
+  read : ReadsOn g.R.Source.remaining l.schedule l.fn.self l.self;
   goes : GoesOn g.R.Source.failures l.fn.self l.self;
   stays : IsSome l.fn.self.held → l.self ≡ l.fn.self;
   unrefused : l.self.report.stopped ≡ Some Memory → l.fn.self.report.stopped ≡ Some Memory;

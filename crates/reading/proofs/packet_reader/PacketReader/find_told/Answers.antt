@@ -29,10 +29,10 @@ returns-then-is_some-clause-read g c = λ bytes given h.
     let item = c.in-Some.item.now in
     let first = sym c.in-Some.ensures.item in
     let passed = c.pass.ensures.passed (stride_at s.origin) bytes s.report.stopped k.0 item first k.1.passed in
-    let P : OriginValue → Type 0 = λ v. HasLooked g.R.Source.remaining c.args.plan.now v c.pass.new.self look.new.held look.new.report bytes given (k.0 ++ item ∷ []) in (
+    let P : OriginValue → Type 0 = λ v. HasLooked g.R.Source.remaining c.args.schedule.now v c.pass.new.self look.new.held look.new.report bytes given (k.0 ++ item ∷ []) in (
       k.0 ++ item ∷ [],
       subst P (sym look.ensures.origin)
-          (looked_on g.R.Source.remaining c.args.plan.now s.origin s.stream c.pass.new.self item s.held look.new.held s.report look.new.report bytes given k.0 c.peek.ensures.within c.loop-item.invariant.held first look.ensures.held look.ensures.counts passed k.1),
+          (looked_on g.R.Source.remaining c.args.schedule.now s.origin s.stream c.pass.new.self item s.held look.new.held s.report look.new.report bytes given k.0 c.peek.ensures.within c.loop-item.invariant.held first look.ensures.held look.ensures.counts passed k.1),
     )
 
 pub loop-item-preserved : goal.loop-item-preserved
@@ -46,10 +46,10 @@ loop-item-preserved g c =
           let item = c.in-Some.item.now in
           let first = sym c.in-Some.ensures.item in
           let passed = c.pass.ensures.passed (stride_at s.origin) bytes s.report.stopped k.0 item first k.1.passed in
-          let P : OriginValue → Type 0 = λ v. HasLooked g.R.Source.remaining c.args.plan.now v c.pass.new.self look.new.held look.new.report bytes given (k.0 ++ item ∷ []) in (
+          let P : OriginValue → Type 0 = λ v. HasLooked g.R.Source.remaining c.args.schedule.now v c.pass.new.self look.new.held look.new.report bytes given (k.0 ++ item ∷ []) in (
             k.0 ++ item ∷ [],
             subst P (sym look.ensures.origin)
-                (looked_on g.R.Source.remaining c.args.plan.now s.origin s.stream c.pass.new.self item s.held look.new.held s.report look.new.report bytes given k.0 c.peek.ensures.within kept.held first look.ensures.held look.ensures.counts passed k.1),
+                (looked_on g.R.Source.remaining c.args.schedule.now s.origin s.stream c.pass.new.self item s.held look.new.held s.report look.new.report bytes given k.0 c.peek.ensures.within kept.held first look.ensures.held look.ensures.counts passed k.1),
           );
       held = none_of look.new.held (sym c.if-is_some.false ∙ c.is_some.ensures ∙ look.ensures.found);
       origin = look.ensures.origin ∙ kept.origin;

@@ -5,7 +5,7 @@ use Rattle.reading.proofs.packet_reader.PacketReader.find_told.Given as goal
 
 abbrev pub invariant-loop-item : goal.invariant-loop-item
 invariant-loop-item g l = record {
-  read : (bytes : List ℕ) (given : List Stamped) → HasRead g.R.Source.remaining l.plan l.fn.self bytes given → HasRead g.R.Source.remaining l.plan l.self bytes given;
+  read : (bytes : List ℕ) (given : List Stamped) → HasRead g.R.Source.remaining l.schedule l.fn.self bytes given → HasRead g.R.Source.remaining l.schedule l.self bytes given;
   held : l.self.held ≡ None;
   origin : l.self.origin ≡ l.fn.self.origin;
   source : l.self.stream.source ≡ l.fn.self.stream.source;

@@ -10,13 +10,13 @@ use Rattle.reading.proofs.PacketLaws.{fresh_looked}
 use Rattle.reading.proofs.packet_reader.PacketReader.new.Goals as goal
 
 pub returns-clause-read : goal.returns-clause-read
-returns-clause-read g c = λ plan.
+returns-clause-read g c = λ schedule.
     let M = g.R.Source.remaining in
     let stream = c.new-2.result in
     let P : OriginValue → Type 0 = λ o. HasPassed M (stride_at o) stream [] None [] in
-    let Q : Option Stamped → Type 0 = λ held. HasLooked M plan c.new.result stream held c.new-3.result [] [] [] in (
+    let Q : Option Stamped → Type 0 = λ held. HasLooked M schedule c.new.result stream held c.new-3.result [] [] [] in (
       [],
-      subst Q (sym c.none.ensures) (fresh_looked M plan c.new.result stream c.new-3.result c.new-3.ensures (subst P (sym c.new.ensures) c.new-2.ensures.passed)),
+      subst Q (sym c.none.ensures) (fresh_looked M schedule c.new.result stream c.new-3.result c.new-3.ensures (subst P (sym c.new.ensures) c.new-2.ensures.passed)),
     )
 
 pub returns-clause-failures : goal.returns-clause-failures

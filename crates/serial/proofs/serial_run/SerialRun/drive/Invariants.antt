@@ -11,8 +11,8 @@ abbrev pub invariant-loop : goal.invariant-loop
 invariant-loop g l = record {
   goes : (run : Run) × (limit : InputLimit) × (starts : List (Option (List ℕ))) × IsRunning g.R.Source.remaining run limit starts l.self;
   runs : (run : Run) (limit : InputLimit) (starts : List (Option (List ℕ))) → IsRunning g.R.Source.remaining run limit starts l.fn.self → IsRunning g.R.Source.remaining run limit starts l.self;
-  written : (before : Option (List ℕ)) → Sends before (g.W.Sink.contents l.fn.sink) (bytes_of (emitted l.fn.self.mux.run.plan l.fn.self.mux.events)) l.fn.self.output.writer
-      → Sends before (g.W.Sink.contents l.sink) (bytes_of (emitted l.fn.self.mux.run.plan l.self.mux.events)) l.self.output.writer;
+  written : (before : Option (List ℕ)) → Sends before (g.W.Sink.contents l.fn.sink) (bytes_of (emitted l.fn.self.mux.run.schedule l.fn.self.mux.events)) l.fn.self.output.writer
+      → Sends before (g.W.Sink.contents l.sink) (bytes_of (emitted l.fn.self.mux.run.schedule l.self.mux.events)) l.self.output.writer;
   run : l.self.mux.run ≡ l.fn.self.mux.run;
   failures_told : (befores : List ℕ) → AllTellFailures g.R.Source.failures befores l.fn.self.inputs.items → AllTellFailures g.R.Source.failures befores l.self.inputs.items;
   failures : g.W.Sink.failures l.sink ≡ g.W.Sink.failures l.fn.sink;

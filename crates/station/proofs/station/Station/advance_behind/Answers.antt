@@ -13,7 +13,7 @@ invariant_of-self c =
     let old : StationValue = record { history = c.self.inside.mux; inputs = c.self.inside.inlets.items } in
     let new : StationValue = record { history = c.advance_behind.new.mux; inputs = c.advance_behind.new.inlets.items } in
     let run = (steps_emit a.count old new out a.steps).run in
-    (c.advance_behind.ensures.lawful, c.self.invariant.1 ∙ ap (λ (r : Run). r.plan.request.ring) (sym run))
+    (c.advance_behind.ensures.lawful, c.self.invariant.1 ∙ ap (λ (r : Run). r.schedule.first.request.ring) (sym run))
 
 pub returns-clause-emitted : goal.returns-clause-emitted
 returns-clause-emitted c packets is =
@@ -23,8 +23,8 @@ returns-clause-emitted c packets is =
     let new : StationValue = record { history = c.advance_behind.new.mux; inputs = c.advance_behind.new.inlets.items } in
     let same : b.packets ≡ packets = append_cancel_left c.args.sent.now.items b.packets packets (sym b.behind ∙ is) in
     (steps_emit a.count old new b.packets a.steps).out
-    ∙ (ap (λ (v : List (List ℕ)). emitted old.history.run.plan old.history.events ++ v) same
-    ∙ ap (λ (s : StationValue). emitted s.history.run.plan s.history.events ++ packets) c.self.view_is)
+    ∙ (ap (λ (v : List (List ℕ)). emitted old.history.run.schedule old.history.events ++ v) same
+    ∙ ap (λ (s : StationValue). emitted s.history.run.schedule s.history.events ++ packets) c.self.view_is)
 
 pub returns-clause-rings : goal.returns-clause-rings
 returns-clause-rings c =

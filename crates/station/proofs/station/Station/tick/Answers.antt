@@ -7,7 +7,7 @@ use Rattle.station.proofs.station.Station.tick.Goals as goal
 pub invariant_of-self : goal.invariant_of-self
 invariant_of-self c = (
   lawful_sent c.move_all.new.mux c.send_next.new.self c.send_next.result c.move_all.new.inlets.items c.send_next.ensures.answer c.move_all.ensures.lawful,
-  c.self.invariant.1 ∙ ap (λ (r : Run). r.plan.request.ring) (sym (c.send_next.ensures.run ∙ c.move_all.ensures.run)),
+  c.self.invariant.1 ∙ ap (λ (r : Run). r.schedule.first.request.ring) (sym (c.send_next.ensures.run ∙ c.move_all.ensures.run)),
 )
 
 pub returns-clause-rings : goal.returns-clause-rings

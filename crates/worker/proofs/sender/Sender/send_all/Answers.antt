@@ -58,7 +58,7 @@ returns-then-is_err-clause-sent g c =
     let found : Sender _ _ = record asked { reader = c.read.new.self } in
     let on = sends_sends M F a l looked c.loop.invariant.sent (sends_looked M F l c.look.new.self c.look.ensures.read c.look.ensures.source c.look.ensures.goes) in
     let ask = sends_sends M F a looked asked on (sends_gate M F looked c.pass.new.self) in
-    sends_sends M F a asked found ask (sends_found M F asked c.read.new.self (c.read.ensures.read l.plan) c.read.ensures.goes)
+    sends_sends M F a asked found ask (sends_found M F asked c.read.new.self (c.read.ensures.read l.schedule) c.read.ensures.goes)
 
 pub loop-preserved : goal.loop-preserved
 loop-preserved g c =
@@ -72,7 +72,7 @@ loop-preserved g c =
     let on = sends_sends M F a l looked c.loop.invariant.sent (sends_looked M F l c.look.new.self c.look.ensures.read c.look.ensures.source c.look.ensures.goes) in
     let ask = sends_sends M F a looked asked on (sends_gate M F looked c.pass.new.self) in
     record {
-      sent = sends_sends M F a asked found ask (sends_found M F asked c.read.new.self (c.read.ensures.read l.plan) c.read.ensures.goes);
+      sent = sends_sends M F a asked found ask (sends_found M F asked c.read.new.self (c.read.ensures.read l.schedule) c.read.ensures.goes);
       stops = search rules;
       held = c.read.ensures.held ∙ (c.look.ensures.more (search rules)).held;
     }

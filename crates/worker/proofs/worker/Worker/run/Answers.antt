@@ -1,7 +1,8 @@
-use Rattle.std.proofs.Common.{◌≡◌, ◌<◌, ℕ, [], length, ap, refl, subst, sym, ◌∙◌, arith}
+use Rattle.std.proofs.Common.{◌≡◌, ◌<◌, ℕ, [], length, ap, refl, sym, ◌∙◌, arith}
 use Rattle.std.proofs.lemmas.Option.{slice_get_read, same_Some}
 use Rattle.std.proofs.lemmas.List.{length-map}
-use Rattle.request.specs.Request.{RequestValue, InputValue, IsRequest, input_value, IsInput}
+use Rattle.request.specs.Request.{InputValue, input_value, IsInput}
+use Rattle.schedule.specs.Schedule.{SpanValue}
 use Rattle.reading.specs.InputLimit.{limit_of_input}
 use Rattle.reading.specs.Takeable.{origin_of}
 use Rattle.reading.specs.declared.report.Report.{Report}
@@ -14,26 +15,28 @@ use Rattle.worker.proofs.worker.Worker.run.Goals as goal
 pub new-reader-requires-clause-input : goal.new-reader-requires-clause-input
 new-reader-requires-clause-input g c =
     let x = c.index-inputs-number.result in
-    let p = c.args.self.plan in
+    let p = c.args.self.schedule in
     let i = c.args.self.number in
     let xs = c.inputs.result.now in
-    let within : i < length xs = omega (arith, c.args.self.known, ap length c.inputs.ensures, length-map xs input_value) in
-    let at = input_at p xs i x c.inputs.ensures (slice_get_read xs (length xs) i x refl within c.index-inputs-number.is) in
-    let R : RequestValue → Type 0 = IsRequest in
-    let request = subst R c.request.ensures.value c.rate.ensures.request in
-    all_at IsInput p.request.inputs i (input_value x) request.inputs at
+    let all = c.inputs.ensures ∙ (λ j. (c.plan.ensures j).request.inputs) in
+    let within : i < length xs = omega (arith, c.args.self.known, ap length all, length-map xs input_value) in
+    let at = input_at p xs i x all (slice_get_read xs (length xs) i x refl within c.index-inputs-number.is) in
+    let first : SpanValue = record { slot = 0; plan = p.first } in
+    let built = c.later_plans.ensures.plans 0 first (omega arith) in
+    all_at IsInput p.first.request.inputs i (input_value x) built.request.inputs at
 
 pub returns-clause-sent : goal.returns-clause-sent
 returns-clause-sent g c input at =
     let x = c.index-inputs-number.result in
-    let p = c.args.self.plan in
+    let p = c.args.self.schedule in
     let i = c.args.self.number in
     let xs = c.inputs.result.now in
-    let within : i < length xs = omega (arith, c.args.self.known, ap length c.inputs.ensures, length-map xs input_value) in
-    let is_at = input_at p xs i x c.inputs.ensures (slice_get_read xs (length xs) i x refl within c.index-inputs-number.is) in
+    let all = c.inputs.ensures ∙ (λ j. (c.plan.ensures j).request.inputs) in
+    let within : i < length xs = omega (arith, c.args.self.known, ap length all, length-map xs input_value) in
+    let is_at = input_at p xs i x all (slice_get_read xs (length xs) i x refl within c.index-inputs-number.is) in
     let same : input_value x ≡ input = same_Some (input_value x) input (sym is_at ∙ at) in
     let unsent : c.args.self.port.sent ≡ [] = empty_of c.args.self.port.sent c.args.self.unsent in
-    let a : Sender _ _ = record { plan = p; reader = c.new-reader.result; gate = c.args.self.gate; port = c.args.self.port } in
+    let a : Sender _ _ = record { schedule = p; reader = c.new-reader.result; gate = c.args.self.gate; port = c.args.self.port } in
     let own : IsOwnStop c.send-stop.result c.send-stop.new.self.reader.report.stopped c.finish.result.1.is_ended = record {
       own = c.send-stop.ensures.causes;
       refused = λ e. ap (λ (v : Sender _ _). v.reader.report.stopped) (c.send-stop.ensures.refused e) ∙ ap (λ (v : Report). v.stopped) c.new-reader.ensures.report;
@@ -47,11 +50,11 @@ returns-clause-sent g c input at =
     c.send-stop.ensures.sent c.finish.ensures.source c.send-stop.ensures.over own c.finish.ensures.counts c.finish.ensures.cause c.finish.ensures.port
 
 pub send-stop-requires : goal.send-stop-requires
-send-stop-requires g c = fresh_unheld g.R.Source.remaining c.args.self.plan c.new-reader.result (c.new-reader.ensures.read c.args.self.plan) c.new-reader.ensures.report
+send-stop-requires g c = fresh_unheld g.R.Source.remaining c.args.self.schedule c.new-reader.result (c.new-reader.ensures.read c.args.self.schedule) c.new-reader.ensures.report
 
 pub returns-clause-unfailed : goal.returns-clause-unfailed
 returns-clause-unfailed g c other =
-    let a : Sender _ _ = record { plan = c.args.self.plan; reader = c.new-reader.result; gate = c.args.self.gate; port = c.args.self.port } in
+    let a : Sender _ _ = record { schedule = c.args.self.schedule; reader = c.new-reader.result; gate = c.args.self.gate; port = c.args.self.port } in
     told_unfailed g.R.Source.remaining g.R.Source.failures a c.send-stop.new.self c.args.self.source c.finish.result.2 c.send-stop.result c.finish.result.1.is_ended c.finish.result.0.stopped
     c.new-reader.ensures.failures c.send-stop.ensures.sent c.finish.ensures.source c.finish.ensures.cause other
 
@@ -63,7 +66,7 @@ returns-clause-left g c e =
 
 pub returns-clause-failed : goal.returns-clause-failed
 returns-clause-failed g c e =
-    let a : Sender _ _ = record { plan = c.args.self.plan; reader = c.new-reader.result; gate = c.args.self.gate; port = c.args.self.port } in
+    let a : Sender _ _ = record { schedule = c.args.self.schedule; reader = c.new-reader.result; gate = c.args.self.gate; port = c.args.self.port } in
     told_failed g.R.Source.remaining g.R.Source.failures a c.send-stop.new.self c.args.self.source c.finish.result.2 c.send-stop.result c.finish.result.1.is_ended c.finish.result.0.stopped
     c.new-reader.ensures.source c.new-reader.ensures.failures c.send-stop.ensures.sent c.finish.ensures.source c.send-stop.ensures.causes c.finish.ensures.cause e
 
