@@ -3,7 +3,6 @@
 
 mod commands;
 mod measuring_inputs;
-mod open_gate;
 mod run_command;
 mod whole_run;
 

@@ -13,6 +13,7 @@ use files::{
 };
 use live::{Reporter, RunBoard, RunFiles, WaitTeller, print_board};
 use measuring::{Metered, is_input_wrong, print_wrong_rates, with_meters};
+use outlet::RunFault;
 use plan::Plan;
 use printing::{
     has_early_end, is_overfull, print_delays, print_early_ends, print_end, print_faults,
@@ -21,7 +22,7 @@ use printing::{
 use rate_meter::Meter;
 use reading::{InputLimit, Stop};
 use schedule::Schedule;
-use serial::{RunFault, Summary};
+use serial::Summary;
 use std::alloc::{AllocError, Global};
 use std::io::Write;
 use std::sync::{Arc, Wait};

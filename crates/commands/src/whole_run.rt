@@ -9,15 +9,16 @@ ghost use Rattle.serial.specs.Outcome.{HasRun as HasRunInOneThread, HasBegun as 
 ghost use Rattle.serial.specs.Running.{TakesAsNeeded};
 ghost use Rattle.threaded.specs.Outcome.{HasRun as HasRunInThreads, HasBegun as HasBegunInThreads};
 
-use crate::open_gate::OpenGate;
+use outlet::{RunFault, Sink};
 use reading::{InputLimit, Source};
 use schedule::Schedule;
-use serial::{RunFault, Sink, Summary, run_serial_within};
+use serial::{Summary, run_serial_within};
 use std::alloc::{AllocError, Global};
 use std::sync::Wait;
 use std::thread::Threads;
 use std::time::Clock;
 use threaded::run_threads;
+use worker::OpenGate;
 
 /// Runs a schedule, in one thread alone if `is_serial`, and else with a thread for each input and one for the output: reads one reader an
 /// input, at most as many bytes of each as `limit` says at the input's format (up to 140,737,488,355,328), and writes the packet of

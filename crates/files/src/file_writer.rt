@@ -2,7 +2,7 @@
 
 use crate::FileCause;
 use crate::output_file::OutputFile;
-use serial::Sink;
+use outlet::Sink;
 use std::io;
 use std::io::{ErrorKind, Write};
 

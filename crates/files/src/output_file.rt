@@ -1,7 +1,7 @@
 //! A file that is written.
 
 use crate::FileCause;
-use serial::Sink;
+use outlet::Sink;
 
 /// A sink that is a file: it says why it failed.
 pub trait OutputFile: Sink {

@@ -11,7 +11,6 @@ mod made_input;
 mod made_reader;
 mod multiplex;
 mod off_air;
-mod open_gate;
 mod outcome;
 mod packet_maker;
 mod pids;

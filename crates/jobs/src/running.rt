@@ -6,20 +6,21 @@ use crate::digest::Digest;
 use crate::made_input::MadeInput;
 use crate::made_reader::MadeReader;
 use crate::multiplex::Multiplex;
-use crate::open_gate::OpenGate;
 use crate::outcome::{Outcome, check};
 use crate::planned::plan_of;
 use crate::stream_maker::StreamMaker;
 use anyhow::{Result, bail};
+use outlet::{RunFault, WriteSink};
 use plan::Plan;
 use reading::{InputLimit, ReadSource};
 use schedule::Schedule;
-use serial::{RunFault, Summary, WriteSink, run_serial_within};
+use serial::{Summary, run_serial_within};
 use std::alloc::Global;
 use std::sync::Wait;
 use std::thread::Threads;
 use std::time::Clock;
 use threaded::run_threads;
+use worker::OpenGate;
 
 /// The most slots and the most bytes of an input that a run may have.
 const SLOTS: u64 = 1 << 40;

@@ -2,7 +2,7 @@
 
 use crate::output_watch::OutputWatch;
 use files::{FileCause, OutputFile};
-use serial::Sink;
+use outlet::Sink;
 use std::io;
 
 /// A sink, and where its writing is noted, if it is.

@@ -2,6 +2,5 @@ pub mod Arrivals
 pub mod Rings
 pub mod Receiving
 pub mod Advancing
-pub mod Stops
 pub mod Chunks
 pub mod Carried

@@ -2,9 +2,9 @@
 use Rattle.std.proofs.Common.{◌≡◌, ℕ, true, false, List, [], ◌∷◌, ◌++◌, Option, refl, ap, sym, ◌∙◌, append_assoc}
 use Rattle.std.specs.Prelude.{Bool, Result, Ok, Err, OnErr, is_err}
 use Rattle.std.specs.Io.KnownBytes.{Appends}
-use Rattle.serial.specs.Sending.{bytes_of}
-use Rattle.serial.specs.Written.{SendsBeginning}
-use Rattle.serial.proofs.KnownLaws.{appends_on}
+use Rattle.outlet.specs.Sending.{bytes_of}
+use Rattle.outlet.specs.Written.{SendsBeginning}
+use Rattle.outlet.proofs.KnownLaws.{appends_on}
 use Rattle.recorder.specs.Recording.{HasWritten}
 
 pub bytes_append : (xs ys : List (List ℕ)) → bytes_of (xs ++ ys) ≡ bytes_of xs ++ bytes_of ys

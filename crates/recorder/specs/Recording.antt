@@ -6,8 +6,8 @@ use Rattle.emission.specs.Emission.{IsEmission}
 use Rattle.plan.specs.Build.{PlanValue}
 use Rattle.marks.specs.Marks.{MarkValue, Begins}
 use Rattle.feed.specs.Readers.{FeedReaderValue}
-use Rattle.serial.specs.Sending.{bytes_of}
-use Rattle.serial.specs.Written.{SendsBeginning}
+use Rattle.outlet.specs.Sending.{bytes_of}
+use Rattle.outlet.specs.Written.{SendsBeginning}
 
 -- the reader, the sink as it was given and as it is, and whether a write failed
 pub record RecorderValue (W : Type 0) : Type 0 where

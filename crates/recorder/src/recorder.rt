@@ -9,7 +9,7 @@ use crate::record_fault::RecordFault;
 use crate::writing::{gather, write_all};
 use feed::{FeedReader, ReaderEnd, ReadingEnd};
 use marks::Mark;
-use serial::Sink;
+use outlet::Sink;
 use std::alloc::{AllocError, Global};
 use std::marker::Model;
 use std::snapshot::Snapshot;

@@ -3,10 +3,10 @@
 ghost use Rattle.std.specs.Prelude.{◌≡◌, ◌≤◌, ◌*◌, length, vec_capacity, OnOk, OnErr};
 ghost use Rattle.std.specs.Io.KnownBytes.{Appends};
 ghost use Rattle.reading.specs.Failures.{FailsOnce};
-ghost use Rattle.serial.specs.Sending.{bytes_of};
-ghost use Rattle.serial.specs.Written.{SendsBeginning};
+ghost use Rattle.outlet.specs.Sending.{bytes_of};
+ghost use Rattle.outlet.specs.Written.{SendsBeginning};
 
-use serial::Sink;
+use outlet::Sink;
 use std::io;
 use tspkt::Packet;
 

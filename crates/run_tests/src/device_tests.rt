@@ -3,8 +3,8 @@
 mod device;
 
 use crate::device_tests::device::Device;
+use outlet::{Sink, WriteSink};
 use reading::{ReadSource, Source};
-use serial::{Sink, WriteSink};
 
 /// The byte that a read gives; none where it fails.
 fn byte_of(source: &mut ReadSource<Device>) -> Option<u8> {

@@ -1,9 +1,7 @@
-pub mod KnownLaws
 pub mod FailureLaws
 pub mod OrderLaws
 pub mod FeedingLaws
 pub mod GivingLaws
-pub mod SendingLaws
 pub mod RunningLaws
 pub mod WaitingLaws
 pub mod OpeningLaws

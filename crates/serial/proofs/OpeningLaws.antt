@@ -23,7 +23,7 @@ use Rattle.mux.specs.declared.event.Event.{Event}
 use Rattle.mux.specs.History.{History, opened, emitted}
 use Rattle.serial.specs.Feeding.{AreLimited, AllTellFailures}
 use Rattle.serial.specs.Giving.{TakesInOrder}
-use Rattle.serial.specs.Sending.{HasAnalysed}
+use Rattle.outlet.specs.Sending.{HasAnalysed}
 use Rattle.serial.specs.Opening.{IsOpened, AreOpened}
 use Rattle.serial.specs.Running.{AreFed, IsRunning, TakesAsNeeded}
 use Rattle.serial.specs.declared.serial_run.SerialRun.{SerialRun}

@@ -35,13 +35,13 @@ use Rattle.reading.specs.PacketReading.{BeginsTakeable, CountsTold}
 use Rattle.reading.specs.StreamReading.{BeginsFramed}
 use Rattle.serial.specs.Feeding.{Feeds, AreUnrefused, AreLimited, AllTellFailures, packet_lists}
 use Rattle.serial.specs.Giving.{TakesWhatIsGiven}
-use Rattle.serial.specs.Written.{Sends, SendsBeginning}
-use Rattle.serial.specs.Sending.{bytes_of, fault_count}
+use Rattle.outlet.specs.Written.{Sends, SendsBeginning}
+use Rattle.outlet.specs.Sending.{bytes_of, fault_count}
 use Rattle.serial.specs.Running.{AreFed, AreBegun, IsRunning, IsOver, IsHalted, AreHalted}
 use Rattle.serial.specs.Ending.{IsLast, AreReported, ArePeaks}
 use Rattle.serial.specs.Outcome.{HasEnded, IsCounted, IsInputSummary, IsReadOn, AreReadOn, stops_of, IsFailureTold, FailuresAreTold, HasRun, HasBegun}
-use Rattle.serial.specs.declared.run_fault.RunFault.{RunFault}
-use Rattle.serial.specs.declared.run_fault.RunFault.TheVariants as run_faults
+use Rattle.outlet.specs.declared.run_fault.RunFault.{RunFault}
+use Rattle.outlet.specs.declared.run_fault.RunFault.TheVariants as run_faults
 use Rattle.reading.specs.declared.input_limit.InputLimit.{InputLimit}
 use Rattle.reading.specs.declared.report.Report.{Report}
 use Rattle.reading.specs.declared.stop.Stop.{Stop}

@@ -25,7 +25,7 @@ use Rattle.serial.specs.Outcome.{AreUnfailed, stops_of}
 use Rattle.serial.proofs.OpeningLaws.{from_map}
 use Rattle.serial.proofs.GivingLaws.{faithful_same}
 use Rattle.serial.specs.Feeding.{packet_lists}
-use Rattle.serial.specs.Sending.{bytes_of}
+use Rattle.outlet.specs.Sending.{bytes_of}
 use Rattle.serial.specs.OutputFaults.{AnalyserTellsOnlyWhatWasTaken, packets_taken_for}
 use Rattle.serial.specs.EqualOutput.{HasRunUnfailed, HasBegunUnfailed, BegunBytesBeginTheOutput, EqualInputsGiveEqualBytes, BytesAreOfEveryHistory}
 

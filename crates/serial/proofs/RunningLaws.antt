@@ -23,16 +23,16 @@ use Rattle.tspkt.specs.declared.stamped.Stamped.{Stamped}
 use Rattle.serial.specs.Feeding.{HasGiven, Feeds, AreLimited, IsOfInput, turns_left}
 use Rattle.serial.specs.Giving.{TakesInOrder, KeepOrder}
 use Rattle.serial.specs.Running.{AreFed, AreBegun, IsRunning, WaitsFor, IsNeeded, TakesAsNeeded, steps_left}
-use Rattle.serial.specs.Sending.{bytes_of, HasAnalysed}
-use Rattle.serial.specs.Written.{Sends, SendsBeginning}
+use Rattle.outlet.specs.Sending.{bytes_of, HasAnalysed}
+use Rattle.outlet.specs.Written.{Sends, SendsBeginning}
 use Rattle.reading.specs.Takeable.{framed_at, takeable, origin_of, EndsAtTaken}
 use Rattle.reading.specs.declared.input_limit.InputLimit.{InputLimit}
 use Rattle.reading.proofs.PacketLaws.{given_begins}
 use Rattle.tspkt.specs.declared.framer.TheConstants.{MAX_LIMIT}
 use Rattle.std.proofs.Common.{false}
-use Rattle.serial.specs.declared.slot_writer.SlotWriter.{SlotWriter}
+use Rattle.outlet.specs.declared.slot_writer.SlotWriter.{SlotWriter}
 use Rattle.serial.specs.declared.serial_run.SerialRun.{SerialRun}
-use Rattle.serial.proofs.KnownLaws.{appends_on}
+use Rattle.outlet.proofs.KnownLaws.{appends_on}
 use Rattle.serial.specs.declared.serial_input.SerialInput.{SerialInput}
 use Rattle.serial.proofs.FeedingLaws.{taken_other, closed_other}
 

@@ -10,11 +10,11 @@ use Rattle.reading.specs.declared.packet_reader.PacketReader.{PacketReader}
 use Rattle.reading.proofs.KnownLaws.{consumes_nothing}
 use Rattle.serial.specs.Feeding.{IsGivenOrHeld}
 use Rattle.serial.specs.Sending.{WritesWaiting, ReadsWritten}
-use Rattle.serial.specs.declared.run_fault.RunFault.{RunFault}
-use Rattle.serial.specs.declared.run_fault.RunFault.TheVariants.{Memory, Write}
+use Rattle.outlet.specs.declared.run_fault.RunFault.{RunFault}
+use Rattle.outlet.specs.declared.run_fault.RunFault.TheVariants.{Memory, Write}
 use Rattle.serial.specs.declared.serial_input.SerialInput.{SerialInput}
-use Rattle.serial.specs.declared.slot_writer.SlotWriter.{SlotWriter}
-use Rattle.serial.proofs.KnownLaws.{appends_nothing}
+use Rattle.outlet.specs.declared.slot_writer.SlotWriter.{SlotWriter}
+use Rattle.outlet.proofs.KnownLaws.{appends_nothing}
 
 -- a look and what was read behind it
 pub looks_on : {R : Type 0} (remaining : R → Option (List ℕ)) (schedule : ScheduleValue) (old new : PacketReader R)

@@ -7,8 +7,8 @@ use Rattle.mux.specs.Headline.{IsSound}
 use Rattle.mux.specs.Faithful.{IsRunOf, IsFinished, IsFaithful}
 use Rattle.reading.specs.declared.input_limit.InputLimit.{InputLimit}
 use Rattle.serial.specs.Feeding.{AreKnown, packet_lists}
-use Rattle.serial.specs.Written.{SendsBeginning}
-use Rattle.serial.specs.Sending.{bytes_of}
+use Rattle.outlet.specs.Written.{SendsBeginning}
+use Rattle.outlet.specs.Sending.{bytes_of}
 use Rattle.serial.specs.Outcome.{HasRun, AreUnfailed}
 use Rattle.serial.specs.declared.summary.Summary.{Summary}
 

@@ -1,5 +1,3 @@
-pub mod Devices
-pub mod Written
 pub mod Order
 pub mod Feeding
 pub mod Giving

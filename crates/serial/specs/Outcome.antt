@@ -22,13 +22,13 @@ use Rattle.serial.specs.Feeding.{AreKnown}
 use Rattle.serial.specs.Giving.{TakesWhatIsGiven}
 use Rattle.serial.specs.Running.{AreBegun, IsHalted}
 use Rattle.serial.specs.Ending.{ArePeaks}
-use Rattle.serial.specs.Written.{SendsBeginning}
-use Rattle.serial.specs.Sending.{bytes_of}
+use Rattle.outlet.specs.Written.{SendsBeginning}
+use Rattle.outlet.specs.Sending.{bytes_of}
 use Rattle.reading.specs.declared.input_limit.InputLimit.{InputLimit}
 use Rattle.reading.specs.declared.stop.Stop.{Stop}
 use Rattle.reading.specs.declared.stop.Stop.TheVariants.{Gate, Memory, ReadFailed, TooMuch}
-use Rattle.serial.specs.declared.run_fault.RunFault.{RunFault}
-use Rattle.serial.specs.declared.run_fault.RunFault.TheVariants as run_faults
+use Rattle.outlet.specs.declared.run_fault.RunFault.{RunFault}
+use Rattle.outlet.specs.declared.run_fault.RunFault.TheVariants as run_faults
 use Rattle.serial.specs.declared.summary.InputSummary.{InputSummary}
 use Rattle.serial.specs.declared.summary.Summary.{Summary}
 

@@ -16,7 +16,7 @@ use Rattle.reading.specs.declared.stop.Stop.{Stop}
 use Rattle.reading.specs.declared.stop.Stop.TheVariants.{Gate, Memory, TooMuch}
 use Rattle.serial.specs.Feeding.{Feeds, HasFed, AreLimited, turns_left}
 use Rattle.serial.specs.Giving.{TakesInOrder}
-use Rattle.serial.specs.Sending.{HasAnalysed}
+use Rattle.outlet.specs.Sending.{HasAnalysed}
 use Rattle.serial.specs.declared.serial_input.SerialInput.{SerialInput}
 use Rattle.serial.specs.declared.serial_run.SerialRun.{SerialRun}
 

@@ -1,31 +1,11 @@
--- What went out of a run (profile).
-use Rattle.std.specs.Prelude.{◌≡◌, ◌⊎◌, ℕ, min, List, [], length, Option, Result, Err, OnOk}
-use Rattle.std.specs.List.{flat_map}
-use Rattle.analyse.specs.Faults.{faults}
-use Rattle.analyse.specs.Analysed.{HasAccepted}
-use Rattle.analyse.specs.FaultReport.{IsReportOf}
+-- What waits to go out is written before an input is read (profile).
+use Rattle.std.specs.Prelude.{◌≡◌, ◌⊎◌, ℕ, List, [], Option, Result, Err, OnOk}
 use Rattle.reading.specs.Failures.{FailsOnce}
 use Rattle.reading.specs.declared.packet_reader.PacketReader.{PacketReader}
-use Rattle.serial.specs.Written.{Sends, SendsBeginning}
-use Rattle.serial.specs.declared.run_fault.RunFault.{RunFault}
-use Rattle.serial.specs.declared.run_fault.RunFault.TheVariants.{Memory, Write}
-use Rattle.serial.specs.declared.slot_writer.SlotWriter.{SlotWriter}
-
--- packets as bytes, one behind the other
-abbrev pub bytes_of : List (List ℕ) → List ℕ
-bytes_of packets = flat_map (λ packet. packet) packets
-
--- how many faults an analyser tells of these slots, as far as a number of 64 bits counts them
-abbrev pub fault_count : ℕ → ℕ → List (List ℕ) → ℕ
-fault_count rate period slots = min (length (faults rate period slots)) 18446744073709551615
-
--- these packets were analysed, and their faults are counted and reported
-pub record HasAnalysed (s : SlotWriter) (rate period : ℕ) (slots : List (List ℕ)) : Type 0 where
-  pub seen : HasAccepted s.analyser slots
-  pub rate_is : s.analyser.rate ≡ rate
-  pub period_is : s.analyser.period ≡ period
-  pub faults_are : s.faults ≡ fault_count rate period slots
-  pub reported : IsReportOf s.report (faults rate period slots)
+use Rattle.outlet.specs.Written.{Sends, SendsBeginning}
+use Rattle.outlet.specs.declared.run_fault.RunFault.{RunFault}
+use Rattle.outlet.specs.declared.run_fault.RunFault.TheVariants.{Memory, Write}
+use Rattle.outlet.specs.declared.slot_writer.SlotWriter.{SlotWriter}
 
 -- Nothing more was analysed. What waited was written but for what waits now; where a write failed, a beginning of it was.
 pub record WritesWaiting {W T : Type 0} (contents : W → Option (List ℕ)) (failures : W → ℕ) (a : SlotWriter) (old : W) (b : SlotWriter) (new : W) (result : Result T RunFault) : Type 0 where

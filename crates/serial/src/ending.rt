@@ -6,9 +6,9 @@ ghost use Rattle.mux.specs.Totals.{IsCounts};
 ghost use Rattle.serial.specs.Ending.{AreReported, ArePeaks};
 
 use crate::serial_input::SerialInput;
-use crate::slot_writer::SlotWriter;
 use crate::summary::{InputSummary, Summary};
 use mux::{Mux, Peak};
+use outlet::SlotWriter;
 use reading::Source;
 use std::alloc::{AllocError, Global};
 

@@ -16,11 +16,9 @@ ghost use Rattle.reading.specs.PacketReading.{TellsFailures};
 ghost use Rattle.reading.specs.declared.input_limit.InputLimit.{InputLimit};
 
 use crate::finding::find_next;
-use crate::run_fault::RunFault;
 use crate::serial_input::SerialInput;
-use crate::sink::Sink;
-use crate::slot_writer::SlotWriter;
 use mux::{Mux, Offered};
+use outlet::{RunFault, Sink, SlotWriter};
 use reading::Source;
 
 /// Gives the multiplex the next packet of an input that it waits for, or closes the input where there is none. A packet

@@ -6,9 +6,7 @@ ghost use Rattle.reading.specs.Takeable.{stream_number};
 ghost use Rattle.reading.specs.declared.stop.Stop.TheVariants as stops;
 ghost use Rattle.serial.specs.Sending.{WritesWaiting, ReadsWritten};
 
-use crate::run_fault::RunFault;
-use crate::sink::Sink;
-use crate::slot_writer::SlotWriter;
+use outlet::{RunFault, Sink, SlotWriter};
 use reading::{Look, PacketReader, Source};
 use schedule::Schedule;
 

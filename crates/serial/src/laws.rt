@@ -1,14 +1,14 @@
 //! What holds of each input, of what a run writes, and of what it answers.
 
 ghost use Rattle.std.specs.Prelude.{◌≡◌, ◌↔◌, true};
-ghost use Rattle.serial.specs.declared.run_fault.RunFault.{RunFault as FaultOfRun};
+ghost use Rattle.outlet.specs.declared.run_fault.RunFault.{RunFault as FaultOfRun};
 ghost use Rattle.serial.specs.declared.summary.InputSummary.{InputSummary as SummaryOfInput};
 ghost use Rattle.serial.specs.Order.{PacketsComeInOrder, PacketsAreFew};
 ghost use Rattle.serial.specs.OutputFaults.{AnalyserTellsOnlyWhatWasTaken};
 ghost use Rattle.serial.specs.EqualOutput.{EqualInputsGiveEqualBytes, BytesAreOfEveryHistory, BegunBytesBeginTheOutput};
 
-use crate::run_fault::RunFault;
 use crate::summary::InputSummary;
+use outlet::RunFault;
 
 /// The packets that a run may take of an input come in the order of their times.
 pub fn packets_come_in_order()

@@ -9,10 +9,9 @@ ghost use Rattle.reading.specs.declared.input_limit.InputLimit.TheVariants.{OfFo
 ghost use Rattle.serial.specs.Outcome.{HasRun, HasBegun, FailuresAreTold};
 ghost use Rattle.serial.specs.Running.{TakesAsNeeded};
 
-use crate::run_fault::RunFault;
 use crate::serial_run::SerialRun;
-use crate::sink::Sink;
 use crate::summary::Summary;
+use outlet::{RunFault, Sink};
 use reading::{InputLimit, Source};
 use schedule::Schedule;
 use std::alloc::Global;

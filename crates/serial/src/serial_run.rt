@@ -3,12 +3,10 @@
 use crate::ending::end_run;
 use crate::feeding::pull_at;
 use crate::opening::open_inputs;
-use crate::run_fault::RunFault;
 use crate::serial_input::SerialInput;
-use crate::sink::Sink;
-use crate::slot_writer::SlotWriter;
 use crate::summary::Summary;
 use mux::{Mux, Sending};
+use outlet::{RunFault, Sink, SlotWriter};
 use reading::{InputLimit, Source};
 use schedule::Schedule;
 use std::alloc::{AllocError, Global};
@@ -30,8 +28,8 @@ impl<R: Source + Drop> SerialRun<R> {
     ghost use Rattle.mux.specs.History.{Run, slots, emitted};
     ghost use Rattle.std.specs.Io.KnownBytes.{Appends};
     ghost use Rattle.reading.specs.Failures.{FailsOnce};
-    ghost use Rattle.serial.specs.Written.{Sends, SendsBeginning};
-    ghost use Rattle.serial.specs.Sending.{bytes_of};
+    ghost use Rattle.outlet.specs.Written.{Sends, SendsBeginning};
+    ghost use Rattle.outlet.specs.Sending.{bytes_of};
     ghost use Rattle.mux.specs.Headline.{IsSound};
     ghost use Rattle.mux.specs.Totals.{IsCounts};
     ghost use Rattle.serial.specs.Feeding.{AreUnrefused, AllTellFailures};

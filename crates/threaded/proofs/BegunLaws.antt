@@ -20,9 +20,9 @@ use Rattle.reading.specs.declared.stop.Stop.{Stop}
 use Rattle.reading.specs.declared.stop.Stop.TheVariants.{ReadFailed, TooMuch, Memory}
 use Rattle.serial.specs.Feeding.{AreKnown}
 use Rattle.serial.specs.Outcome.{IsFailureTold, FailuresAreTold}
-use Rattle.serial.specs.Sending.{bytes_of}
-use Rattle.serial.specs.declared.run_fault.RunFault.{RunFault}
-use Rattle.serial.specs.declared.run_fault.RunFault.TheVariants as run_faults
+use Rattle.outlet.specs.Sending.{bytes_of}
+use Rattle.outlet.specs.declared.run_fault.RunFault.{RunFault}
+use Rattle.outlet.specs.declared.run_fault.RunFault.TheVariants as run_faults
 use Rattle.serial.specs.declared.summary.InputSummary.{InputSummary}
 use Rattle.serial.specs.declared.summary.Summary.{Summary}
 use Rattle.serial.proofs.OpeningLaws.{from_map}

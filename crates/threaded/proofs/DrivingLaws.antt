@@ -8,7 +8,7 @@ use Rattle.mux.specs.History.{History, with_event, full_noted, early_noted}
 use Rattle.mux.specs.Answers.{NotesFull, NotesEarly}
 use Rattle.serial.specs.Feeding.{IsOfInput}
 use Rattle.serial.specs.Running.{WaitsFor, TakesAsNeeded}
-use Rattle.serial.specs.declared.slot_writer.SlotWriter.{SlotWriter}
+use Rattle.outlet.specs.declared.slot_writer.SlotWriter.{SlotWriter}
 use Rattle.serial.proofs.RunningLaws.{needed_of}
 use Rattle.serial.proofs.OutcomeLaws.{all_begun}
 use Rattle.station.specs.declared.inlet.Inlet.{Inlet}

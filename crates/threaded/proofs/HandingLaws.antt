@@ -8,17 +8,17 @@ use Rattle.mux.specs.History.{Run}
 use Rattle.relay.specs.Relays.{RelayId, SenderValue, ReceiverValue, FinishedValue}
 use Rattle.relay.specs.Receiving.{IsLeft}
 use Rattle.serial.specs.Running.{IsOver}
-use Rattle.serial.specs.Sending.{bytes_of, HasAnalysed}
-use Rattle.serial.specs.Written.{Sends, SendsBeginning}
-use Rattle.serial.specs.declared.run_fault.RunFault.{RunFault}
-use Rattle.serial.proofs.KnownLaws.{beginning_on}
+use Rattle.outlet.specs.Sending.{bytes_of, HasAnalysed}
+use Rattle.outlet.specs.Written.{Sends, SendsBeginning}
+use Rattle.outlet.specs.declared.run_fault.RunFault.{RunFault}
+use Rattle.outlet.proofs.KnownLaws.{beginning_on}
 use Rattle.serial.proofs.RunningLaws.{sends_on}
 use Rattle.serial.proofs.OutcomeLaws.{all_begun}
 use Rattle.station.specs.Stations.{StationValue}
 use Rattle.threaded.specs.Driving.{output_of, IsSameRun, BreaksOff, IsDriven}
 use Rattle.threaded.specs.Handing.{sent_of, HandsAll, HandsSome, HandsAllBut, IsHandedOn}
 use Rattle.threaded.specs.Outputs.{packets_in, IsWritten}
-use Rattle.threaded.specs.declared.outlet.Outlet.{Outlet}
+use Rattle.outlet.specs.declared.outlet.Outlet.{Outlet}
 use Rattle.threaded.proofs.DrivingLaws.{same_same}
 use Rattle.threaded.proofs.WritingLaws.{bytes_behind}
 

@@ -32,11 +32,11 @@ use Rattle.threaded.specs.Crews.{AreUnsent, AreSeated, AreStarted, AreEnded, Hav
 use Rattle.mux.specs.Totals.{IsCounts}
 use Rattle.mux.specs.Headline.{IsSound}
 use Rattle.serial.specs.Ending.{ArePeaks}
-use Rattle.serial.specs.Sending.{bytes_of, fault_count, HasAnalysed}
-use Rattle.serial.specs.Written.{Sends, SendsBeginning}
-use Rattle.serial.specs.declared.run_fault.RunFault.{RunFault}
-use Rattle.serial.specs.declared.run_fault.RunFault.TheVariants as run_faults
-use Rattle.serial.specs.declared.slot_writer.SlotWriter.{SlotWriter}
+use Rattle.outlet.specs.Sending.{bytes_of, fault_count, HasAnalysed}
+use Rattle.outlet.specs.Written.{Sends, SendsBeginning}
+use Rattle.outlet.specs.declared.run_fault.RunFault.{RunFault}
+use Rattle.outlet.specs.declared.run_fault.RunFault.TheVariants as run_faults
+use Rattle.outlet.specs.declared.slot_writer.SlotWriter.{SlotWriter}
 use Rattle.serial.specs.declared.summary.Summary.{Summary}
 use Rattle.threaded.specs.Opening.{IsReady}
 use Rattle.threaded.specs.Driving.{output_of, HasAnalysedAll, IsSameRun, BreaksOff, IsDriven}

@@ -18,8 +18,8 @@ use Rattle.reading.specs.declared.stop.Stop.{Stop}
 use Rattle.reading.specs.declared.stop.Stop.TheVariants.{Gate, ReadFailed, TooMuch, Memory}
 use Rattle.serial.specs.EqualOutput.{HasRunUnfailed as HasRunInOneThread}
 use Rattle.serial.specs.Feeding.{packet_lists}
-use Rattle.serial.specs.Sending.{bytes_of}
-use Rattle.serial.specs.Written.{SendsBeginning}
+use Rattle.outlet.specs.Sending.{bytes_of}
+use Rattle.outlet.specs.Written.{SendsBeginning}
 use Rattle.serial.specs.declared.summary.Summary.{Summary}
 use Rattle.serial.proofs.GivingLaws.{faithful_same}
 use Rattle.serial.proofs.OutputLaws.{untold, of_every_history as one_thread_of_every_history}

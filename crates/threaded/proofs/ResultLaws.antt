@@ -1,8 +1,8 @@
 -- What is said of a result.
 use Rattle.std.proofs.Common.{◌≡◌, ◌⊎◌, sym, inl, inr, refl, subst}
 use Rattle.std.specs.Prelude.{Result, Ok, Err, OnOk, OnErr}
-use Rattle.serial.specs.declared.run_fault.RunFault.{RunFault}
-use Rattle.serial.specs.declared.run_fault.RunFault.TheVariants.{Memory, Write}
+use Rattle.outlet.specs.declared.run_fault.RunFault.{RunFault}
+use Rattle.outlet.specs.declared.run_fault.RunFault.TheVariants.{Memory, Write}
 
 pub ok_no_err : {T E : Type 0} (x : T) (y : E) → Ok x ≡ Err y → ⊥
 ok_no_err x y e = cc

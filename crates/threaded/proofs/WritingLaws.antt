@@ -7,16 +7,16 @@ use Rattle.std.specs.Prelude.{Result, Ok, Err, OnOk, OnErr, MatchResult}
 use Rattle.std.specs.Io.KnownBytes.{Appends}
 use Rattle.reading.specs.Failures.{FailsOnce}
 use Rattle.relay.specs.Relays.{ReceiverValue}
-use Rattle.serial.specs.Sending.{bytes_of, HasAnalysed}
-use Rattle.serial.specs.Written.{Sends, SendsBeginning}
-use Rattle.serial.specs.declared.run_fault.RunFault.{RunFault}
-use Rattle.serial.specs.declared.run_fault.RunFault.TheVariants.{Memory, Write}
-use Rattle.serial.specs.declared.slot_writer.SlotWriter.{SlotWriter}
-use Rattle.serial.proofs.KnownLaws.{appends_nothing, beginning_on}
+use Rattle.outlet.specs.Sending.{bytes_of, HasAnalysed}
+use Rattle.outlet.specs.Written.{Sends, SendsBeginning}
+use Rattle.outlet.specs.declared.run_fault.RunFault.{RunFault}
+use Rattle.outlet.specs.declared.run_fault.RunFault.TheVariants.{Memory, Write}
+use Rattle.outlet.specs.declared.slot_writer.SlotWriter.{SlotWriter}
+use Rattle.outlet.proofs.KnownLaws.{appends_nothing, beginning_on}
 use Rattle.serial.proofs.RunningLaws.{sends_on, all_sent, part_sent}
-use Rattle.serial.proofs.SendingLaws.{on_ok_always, on_err_weaker, same_err}
+use Rattle.outlet.proofs.SendingLaws.{on_ok_always, on_err_weaker, same_err}
 use Rattle.threaded.specs.Outputs.{packets_in, IsPut, IsWritten}
-use Rattle.threaded.specs.declared.outlet.Outlet.{Outlet}
+use Rattle.outlet.specs.declared.outlet.Outlet.{Outlet}
 use Rattle.threaded.proofs.ResultLaws.{ok_no_err, not_write, not_ok, is_failed, is_fine}
 
 pub bytes_behind : (xs ys : List (List ℕ)) → bytes_of (xs ++ ys) ≡ bytes_of xs ++ bytes_of ys

@@ -3,9 +3,9 @@ use Rattle.std.specs.Prelude.{◌≡◌, ℕ, List, Option}
 use Rattle.std.specs.Io.KnownBytes.{Appends}
 use Rattle.mux.specs.History.{History, emitted}
 use Rattle.serial.specs.Running.{IsOver, TakesAsNeeded}
-use Rattle.serial.specs.Written.{Sends, SendsBeginning}
-use Rattle.serial.specs.Sending.{bytes_of, HasAnalysed}
-use Rattle.serial.specs.declared.slot_writer.SlotWriter.{SlotWriter}
+use Rattle.outlet.specs.Written.{Sends, SendsBeginning}
+use Rattle.outlet.specs.Sending.{bytes_of, HasAnalysed}
+use Rattle.outlet.specs.declared.slot_writer.SlotWriter.{SlotWriter}
 use Rattle.station.specs.Stations.{StationValue, rings_of}
 
 -- the bytes of what the history sent

@@ -11,8 +11,8 @@ use Rattle.reading.specs.declared.stop.Stop.{Stop}
 use Rattle.reading.specs.declared.stop.Stop.TheVariants.{Gate}
 use Rattle.serial.specs.Feeding.{AreKnown, packet_lists}
 use Rattle.serial.specs.Outcome.{AreUnfailed}
-use Rattle.serial.specs.Written.{SendsBeginning}
-use Rattle.serial.specs.Sending.{bytes_of}
+use Rattle.outlet.specs.Written.{SendsBeginning}
+use Rattle.outlet.specs.Sending.{bytes_of}
 use Rattle.serial.specs.EqualOutput.{HasRunUnfailed as HasRunInOneThread, GotTheSame}
 use Rattle.serial.specs.declared.summary.Summary.{Summary}
 use Rattle.threaded.specs.Giving.{TakesWhatCame}

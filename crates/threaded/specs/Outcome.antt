@@ -24,11 +24,11 @@ use Rattle.serial.specs.Giving.{TakesWhatIsGiven}
 use Rattle.serial.specs.Running.{AreBegun, TakesAsNeeded}
 use Rattle.serial.specs.Outcome.{HasEnded, AreReadOn, IsFailureTold, stops_of}
 use Rattle.serial.specs.Ending.{ArePeaks}
-use Rattle.serial.specs.Written.{SendsBeginning}
-use Rattle.serial.specs.Sending.{bytes_of}
-use Rattle.serial.specs.declared.run_fault.RunFault.{RunFault}
-use Rattle.serial.specs.declared.run_fault.RunFault.TheVariants as run_faults
-use Rattle.serial.specs.declared.slot_writer.SlotWriter.{SlotWriter}
+use Rattle.outlet.specs.Written.{SendsBeginning}
+use Rattle.outlet.specs.Sending.{bytes_of}
+use Rattle.outlet.specs.declared.run_fault.RunFault.{RunFault}
+use Rattle.outlet.specs.declared.run_fault.RunFault.TheVariants as run_faults
+use Rattle.outlet.specs.declared.slot_writer.SlotWriter.{SlotWriter}
 use Rattle.serial.specs.declared.summary.InputSummary.{InputSummary}
 use Rattle.serial.specs.declared.summary.Summary.{Summary}
 use Rattle.port.specs.Rings.{PortValue}

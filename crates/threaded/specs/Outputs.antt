@@ -4,11 +4,11 @@ use Rattle.std.specs.List.{flat_map}
 use Rattle.std.specs.Io.KnownBytes.{Appends}
 use Rattle.reading.specs.Failures.{FailsOnce}
 use Rattle.relay.specs.Relays.{ReceiverValue}
-use Rattle.serial.specs.Sending.{bytes_of, HasAnalysed}
-use Rattle.serial.specs.Written.{Sends, SendsBeginning}
-use Rattle.serial.specs.declared.run_fault.RunFault.{RunFault}
-use Rattle.serial.specs.declared.run_fault.RunFault.TheVariants.{Memory, Write}
-use Rattle.threaded.specs.declared.outlet.Outlet.{Outlet}
+use Rattle.outlet.specs.Sending.{bytes_of, HasAnalysed}
+use Rattle.outlet.specs.Written.{Sends, SendsBeginning}
+use Rattle.outlet.specs.declared.run_fault.RunFault.{RunFault}
+use Rattle.outlet.specs.declared.run_fault.RunFault.TheVariants.{Memory, Write}
+use Rattle.outlet.specs.declared.outlet.Outlet.{Outlet}
 use Rattle.threaded.specs.declared.output_worker.OutputWorker.{OutputWorker}
 use Rattle.threaded.specs.declared.written.Written.{Written}
 

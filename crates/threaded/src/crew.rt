@@ -7,7 +7,7 @@ ghost use Rattle.threaded.specs.Crews.{AreUnsent, AreStarted, AreOfStation, AreE
 use crate::ended::Ended;
 use crate::run_gate::RunGate;
 use crate::work::{WorkHandle, start};
-use port::{Gate, Port};
+use port::Port;
 use reading::{InputLimit, Source};
 use schedule::Schedule;
 use station::Station;
@@ -16,7 +16,7 @@ use std::sync::atomic::AtomicBool;
 use std::sync::{Arc, Wait};
 use std::thread::Threads;
 use std::time::Clock;
-use worker::Worker;
+use worker::{Gate, Worker};
 
 /// Starts a worker for each input of a schedule, in their order, each of which may have as many bytes as `limit` says at its format.
 /// `Err` is want of memory, or that no thread can be made; the threads that were started then run.

@@ -9,8 +9,9 @@ ghost use Rattle.threaded.specs.Ending.{AreReported, wants_memory};
 
 use crate::ended::Ended;
 use mux::Peak;
+use outlet::SlotWriter;
 use reading::{Report, Stop};
-use serial::{InputSummary, SlotWriter, Summary};
+use serial::{InputSummary, Summary};
 use station::Station;
 use std::alloc::{AllocError, Global};
 

@@ -12,7 +12,6 @@ mod ended;
 mod ending;
 pub mod laws;
 mod opening;
-mod outlet;
 mod output_thread;
 mod output_worker;
 mod passage;

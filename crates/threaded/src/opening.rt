@@ -1,19 +1,20 @@
 //! A run before its workers are started.
 
 ghost use Rattle.std.specs.Prelude.{◌≡◌, ◌^◌, ◌≤◌, [], IfOk};
-ghost use Rattle.serial.specs.Sending.{HasAnalysed};
+ghost use Rattle.outlet.specs.Sending.{HasAnalysed};
 ghost use Rattle.station.specs.Opening.{IsOpened};
 ghost use Rattle.threaded.specs.Opening.{IsReady};
 
 use crate::seats::seats;
-use port::{Gate, Port};
+use outlet::SlotWriter;
+use port::Port;
 use reading::Source;
 use schedule::Schedule;
-use serial::SlotWriter;
 use station::Station;
 use std::alloc::{AllocError, Global};
 use std::sync::Arc;
 use std::sync::atomic::AtomicBool;
+use worker::Gate;
 
 /// A run before its workers are started: the station, what each worker is made of, what the output goes through, and whether the
 /// run is over.

@@ -8,12 +8,11 @@ ghost use Rattle.threaded.specs.Driving.{IsDriven, BreaksOff};
 ghost use Rattle.threaded.specs.Outputs.{HasWritten};
 
 use crate::driving::drive;
-use crate::outlet::Outlet;
 use crate::output_worker::OutputWorker;
 use crate::passage::Passage;
 use crate::written::Written;
+use outlet::{Outlet, RunFault, Sink};
 use relay::{BlockSender, FinishedSender};
-use serial::{RunFault, Sink};
 use station::Station;
 use std::alloc::Global;
 use std::snapshot::Snapshot;

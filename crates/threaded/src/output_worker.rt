@@ -3,10 +3,9 @@
 ghost use Rattle.std.specs.Prelude.{◌≡◌, [], true, false};
 ghost use Rattle.threaded.specs.Outputs.{IsPut, IsWritten};
 
-use crate::outlet::Outlet;
 use crate::written::Written;
+use outlet::{Outlet, RunFault, Sink};
 use relay::{BlockReceiver, Message};
-use serial::{RunFault, Sink};
 use std::alloc::Global;
 use std::sync::atomic::{AtomicBool, Ordering};
 use std::sync::{Arc, Wait};

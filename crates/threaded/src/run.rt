@@ -11,16 +11,16 @@ ghost use Rattle.threaded.specs.Outcome.{HasRun, HasBegun, RunsThrough, IsCutSho
 
 use crate::ending::end_run;
 use crate::opening::{Opening, open};
-use crate::outlet::Outlet;
 use crate::working::work_through;
-use port::Gate;
+use outlet::{Outlet, RunFault, Sink};
 use reading::{InputLimit, Source};
 use schedule::Schedule;
-use serial::{RunFault, Sink, Summary};
+use serial::Summary;
 use std::alloc::Global;
 use std::sync::Wait;
 use std::thread::Threads;
 use std::time::Clock;
+use worker::Gate;
 
 /// Runs a schedule in threads: reads one reader an input, each in a thread of its own and at most as many bytes of each as `limit` says
 /// at the input's format (up to 140,737,488,355,328), and analyses and writes the packet of each slot in one thread more, at most so

@@ -2,10 +2,10 @@
 
 ghost use Rattle.std.specs.Prelude.{◌≡◌};
 
-use port::{Gate, Point};
 use std::alloc::Global;
 use std::sync::Arc;
 use std::sync::atomic::{AtomicBool, Ordering};
+use worker::{Gate, Point};
 
 /// The gate that a worker was given, which is asked first, and whether the run is over. It says no where either does.
 #[derive(Drop)]

@@ -4,7 +4,7 @@ ghost use Rattle.std.specs.Prelude.{◌≡◌, IfOk};
 ghost use Rattle.threaded.specs.Working.{IsWorkOf};
 
 use crate::run_gate::RunGate;
-use port::{FinishedPort, Gate};
+use port::FinishedPort;
 use reading::{Report, Source};
 use std::alloc::AllocError;
 use std::snapshot::Snapshot;
@@ -12,7 +12,7 @@ use std::sync::Wait;
 use std::thread;
 use std::thread::{Promise, PromisedHandle, Threads};
 use std::time::Clock;
-use worker::Worker;
+use worker::{Gate, Worker};
 
 /// What the thread of a worker promises of what it hands back: the contract of the worker.
 #[derive(Drop)]

@@ -10,20 +10,20 @@ ghost use Rattle.threaded.specs.declared.ended.Ended.{Ended as EndedInput};
 use crate::crew::{join_all, start_all};
 use crate::ended::Ended;
 use crate::ending::wanted_memory;
-use crate::outlet::Outlet;
 use crate::output_thread::send_out;
 use crate::passage::Passage;
 use crate::work::WorkHandle;
-use port::{Gate, Port};
+use outlet::{Outlet, RunFault, Sink};
+use port::Port;
 use reading::{InputLimit, Source};
 use schedule::Schedule;
-use serial::{RunFault, Sink};
 use station::Station;
 use std::alloc::Global;
 use std::sync::atomic::{AtomicBool, Ordering};
 use std::sync::{Arc, Wait};
 use std::thread::Threads;
 use std::time::Clock;
+use worker::Gate;
 
 /// Starts a worker for each input, ticks to the end of the run, and then stops and joins the workers. What the packets go out by
 /// comes back, and what each worker leaves is answered. Where a worker wanted memory `Memory` is answered, whatever the writer did.

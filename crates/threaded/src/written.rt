@@ -1,8 +1,7 @@
 //! What the thread of the output leaves.
 
-use crate::outlet::Outlet;
+use outlet::{Outlet, RunFault};
 use relay::BlockReceiver;
-use serial::RunFault;
 
 /// What the thread of the output leaves: the end of its relay, what the packets went out by, and how it ended.
 #[derive(Drop)]

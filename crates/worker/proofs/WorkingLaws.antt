@@ -16,7 +16,7 @@ use Rattle.reading.specs.declared.stop.Stop.TheVariants.{Gate, ReadFailed, Memor
 use Rattle.reading.specs.declared.packet_reader.PacketReader.{PacketReader}
 use Rattle.reading.proofs.PacketLaws.{given_begins, looked_framed, whole_read, failed_read, counts_told, too_much, within_read, counted_stopped}
 use Rattle.port.specs.Rings.{FinishedValue}
-use Rattle.port.specs.Stops.{StopsOnce}
+use Rattle.worker.specs.Stops.{StopsOnce}
 use Rattle.worker.specs.declared.sender.Sender.{Sender}
 use Rattle.worker.specs.Sending.{HasSent, SendsOn, first_cause}
 use Rattle.worker.specs.Working.{HasSentOf, HasWorked}

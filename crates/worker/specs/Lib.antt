@@ -1,2 +1,3 @@
+pub mod Stops
 pub mod Sending
 pub mod Working

@@ -4,9 +4,15 @@
 //! knows of the multiplex, of files or of what is written.
 #![tactic(auto)]
 
+mod gate;
+mod open_gate;
+mod point;
 mod sender;
 mod waiting;
 mod worker;
 
+pub use gate::Gate;
+pub use open_gate::OpenGate;
+pub use point::Point;
 pub use waiting::pause;
 pub use worker::Worker;

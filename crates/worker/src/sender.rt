@@ -1,11 +1,13 @@
 //! An input on its way into its ring.
 
 ghost use Rattle.std.specs.Prelude.{◌≡◌, MatchBool};
-ghost use Rattle.port.specs.Stops.{StopsOnce};
+ghost use Rattle.worker.specs.Stops.{StopsOnce};
 ghost use Rattle.worker.specs.Sending.{first_cause};
 
+use crate::gate::Gate;
+use crate::point::Point;
 use crate::waiting::pause;
-use port::{FinishedPort, Gate, Point, Port};
+use port::{FinishedPort, Port};
 use reading::{Look, PacketReader, Report, Source, Stop};
 use schedule::Schedule;
 use std::alloc::Global;
@@ -28,7 +30,7 @@ impl<R: Source + Drop, G: Gate + Drop> Sender<R, G> {
     ghost use Rattle.std.specs.Prelude.{◌≡◌, ◌<◌, ◌⊎◌, ℕ, List, Option, length, true, false, None, Some, IfSome, IsSome, MatchBool};
     ghost use Rattle.reading.specs.PacketReading.{IsSpent};
     ghost use Rattle.reading.specs.declared.stop.Stop.TheVariants.{Gate, Memory, ReadFailed};
-    ghost use Rattle.port.specs.Stops.{StopsOnce};
+    ghost use Rattle.worker.specs.Stops.{StopsOnce};
     ghost use Rattle.worker.specs.Sending.{HasSent, SendsOn, first_cause};
 
     /// Sends all packets of the input that a plan names, and answers what stopped it, if anything did beside the input: the

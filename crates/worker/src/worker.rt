@@ -5,8 +5,9 @@ ghost use Rattle.tspkt.specs.declared.framer.TheConstants.{MAX_LIMIT};
 ghost use Rattle.tspkt.specs.declared.packet_format.PacketFormat.{PacketFormat};
 ghost use Rattle.reading.specs.InputLimit.{limit_of_input};
 
+use crate::gate::Gate;
 use crate::sender::Sender;
-use port::{FinishedPort, Gate, Port};
+use port::{FinishedPort, Port};
 use reading::{InputLimit, PacketReader, Report, Source, Stop};
 use schedule::Schedule;
 use std::alloc::Global;
@@ -35,7 +36,7 @@ impl<R: Source + Drop, G: Gate + Drop> Worker<R, G> {
     ghost use Rattle.reading.specs.Failures.{FailsOnce};
     ghost use Rattle.reading.specs.InputLimit.{IsAllowed, limit_of_input};
     ghost use Rattle.reading.specs.Takeable.{origin_of};
-    ghost use Rattle.port.specs.Stops.{StopsOnce};
+    ghost use Rattle.worker.specs.Stops.{StopsOnce};
     ghost use Rattle.worker.specs.Working.{HasWorked};
 
     /// The worker of the schedule's input with this number, which may have as many bytes as `limit` says (up to 140,737,488,355,328),

@@ -2,10 +2,11 @@
 
 ghost use Rattle.std.specs.Prelude.{◌≡◌, ◌≤◌, ◌^◌, length};
 
+use outlet::WriteSink;
 use plan::Plan;
 use reading::ReadSource;
 use schedule::Schedule;
-use serial::{WriteSink, run_serial};
+use serial::run_serial;
 use std::alloc::Global;
 use std::process::Abort;
 

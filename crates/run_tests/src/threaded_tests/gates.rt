@@ -1,6 +1,6 @@
 //! Gates that a test watches.
 
-use port::{Gate, Point};
+use worker::{Gate, Point};
 
 /// A gate that says no once so many packets went into the ring.
 #[derive(Drop)]

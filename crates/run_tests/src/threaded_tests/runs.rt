@@ -5,16 +5,17 @@ ghost use Rattle.std.specs.Prelude.{◌^◌, ◌≤◌};
 use crate::threaded_tests::devices::{GivenBytes, KeptBytes};
 use anyhow::{Result, bail};
 use example::packets;
+use outlet::WriteSink;
 use plan::Plan;
-use port::Gate;
 use reading::{InputLimit, ReadSource};
 use schedule::Schedule;
-use serial::{Summary, WriteSink, run_serial};
+use serial::{Summary, run_serial};
 use std::alloc::Global;
 use std::sync::Wait;
 use std::thread::Threads;
 use std::time::Clock;
 use threaded::run_threads;
+use worker::Gate;
 
 /// The readers of the two inputs.
 fn readers(alloc: Global) -> Result<Vec<ReadSource<GivenBytes>>> {

@@ -1,9 +1,9 @@
 //! Gates that hold their inputs back, so that the threads of a run come in other turns.
 
-use port::{Gate, Point};
 use rand_core::utils::NextWord;
 use rand_pcg::Pcg32;
 use std::thread;
+use worker::{Gate, Point};
 
 /// Lets other threads go first, so often.
 fn yield_often(turns: u32) {

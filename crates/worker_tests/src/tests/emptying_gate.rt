@@ -1,6 +1,7 @@
 //! A gate that makes room in the ring of its worker.
 
-use port::{Arrival, Gate, Point, RingEnd};
+use port::{Arrival, RingEnd};
+use worker::{Gate, Point};
 
 /// A gate that takes a packet out of the ring each time that its worker found it full so many times. It never says no.
 #[derive(Drop)]

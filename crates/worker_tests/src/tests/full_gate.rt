@@ -1,6 +1,6 @@
 //! A gate that stops a worker at a full ring.
 
-use port::{Gate, Point};
+use worker::{Gate, Point};
 
 /// A gate that lets its worker wait so many times at a full ring, and then says no.
 #[derive(Drop)]

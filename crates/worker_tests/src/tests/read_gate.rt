@@ -1,6 +1,6 @@
 //! A gate that stops a worker before a read.
 
-use port::{Gate, Point};
+use worker::{Gate, Point};
 
 /// A gate that lets its worker read so many times, and then says no.
 #[derive(Drop)]

@@ -5,14 +5,14 @@ ghost use Rattle.std.specs.Prelude.{◌≡◌, [], IfOk};
 use crate::tests::given_bytes::GivenBytes;
 use anyhow::{Result, bail};
 use example::{packets, plan_of};
-use port::{FinishedPort, Gate, Port, RingEnd, ports};
+use port::{FinishedPort, Port, RingEnd, ports};
 use reading::{InputLimit, ReadSource, Report};
 use schedule::Schedule;
 use std::alloc::Global;
 use std::io::Read;
 use std::sync::Wait;
 use std::time::Clock;
-use worker::Worker;
+use worker::{Gate, Worker};
 
 /// The two ends of a ring with room for so many packets, through which nothing went.
 pub fn ring(alloc: Global, capacity: usize) -> Result<(Port, RingEnd)>

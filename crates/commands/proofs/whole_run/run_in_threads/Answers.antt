@@ -2,7 +2,7 @@ use Rattle.std.proofs.Common.{rules, [], map, ap, ◌∙◌}
 use Rattle.std.proofs.lemmas.Simd.{map-map}
 use Rattle.std.proofs.lemmas.Result.{IfOk-at_ok}
 use Rattle.mux.specs.History.{Run}
-use Rattle.serial.specs.declared.run_fault.RunFault.TheVariants as run_faults
+use Rattle.outlet.specs.declared.run_fault.RunFault.TheVariants as run_faults
 use Rattle.threaded.proofs.OutcomeLaws.{begun_nothing}
 use Rattle.threaded.proofs.BegunLaws.{begun_of_run}
 use Rattle.commands.proofs.whole_run.run_in_threads.Goals as goal

@@ -1,5 +1,5 @@
 use Rattle.std.proofs.Common.{◌≡◌, ◌*◌, ◌≤◌, take, vec_len, vec_capacity}
-use Rattle.serial.specs.Sending.{bytes_of}
+use Rattle.outlet.specs.Sending.{bytes_of}
 use Rattle.recorder.proofs.writing.gather.Given as goal
 
 abbrev pub invariant-loop-packet : goal.invariant-loop-packet

@@ -1,5 +1,5 @@
 use Rattle.std.proofs.Common.{rules}
-use Rattle.serial.proofs.KnownLaws.{front_sent, appends_part}
+use Rattle.outlet.proofs.KnownLaws.{front_sent, appends_part}
 use Rattle.recorder.proofs.writing.write_all.Goals as goal
 
 pub returns-in-Err-clause-err : goal.returns-in-Err-clause-err

@@ -1,7 +1,7 @@
 use Rattle.std.proofs.Common.{◌∙◌, ◌≡◌, ℕ, List, refl, ap, sym, subst, Ok, Some, None}
 use Rattle.std.specs.Prelude.{Option, IfSome}
 use Rattle.std.proofs.lemmas.Bool.{false≢true}
-use Rattle.serial.proofs.SendingLaws.{on_err_always}
+use Rattle.outlet.proofs.SendingLaws.{on_err_always}
 use Rattle.tspkt.specs.declared.stamped.Stamped.{Stamped}
 use Rattle.schedule.specs.Schedule.{ScheduleValue}
 use Rattle.mux.specs.History.{History, taken}

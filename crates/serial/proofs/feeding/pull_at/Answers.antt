@@ -7,7 +7,7 @@ use Rattle.serial.specs.Running.{AreFed}
 use Rattle.serial.proofs.FailureLaws.{all_tell}
 use Rattle.serial.proofs.HaltedLaws.{halted_looked, unrefused_looked, all_limited}
 use Rattle.reading.specs.declared.stop.Stop.TheVariants.{Memory}
-use Rattle.serial.proofs.SendingLaws.{on_err_three}
+use Rattle.outlet.proofs.SendingLaws.{on_err_three}
 use Rattle.serial.proofs.WaitingLaws.{on_fault}
 use Rattle.serial.proofs.FeedingLaws.{on_ok_two}
 use Rattle.serial.proofs.RunningLaws.{fed_input}

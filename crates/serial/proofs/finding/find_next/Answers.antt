@@ -1,7 +1,7 @@
 use Rattle.std.proofs.Common.{ℕ, ◌≡◌, Some, None, Ok, refl, subst, ap, ◌∙◌, inl, inr}
 use Rattle.std.specs.Prelude.{IfSome}
 use Rattle.reading.specs.Takeable.{stream_number}
-use Rattle.serial.specs.declared.slot_writer.SlotWriter.{SlotWriter}
+use Rattle.outlet.specs.declared.slot_writer.SlotWriter.{SlotWriter}
 use Rattle.serial.proofs.WaitingLaws.{looks_on, reads_behind, writes_none}
 use Rattle.serial.proofs.finding.find_next.Goals as goal
 

@@ -4,11 +4,11 @@ use Rattle.std.proofs.lemmas.Result.{err_from_is_err_and}
 use Rattle.std.specs.Io.KnownBytes.{Appends}
 use Rattle.schedule.specs.Schedule.{ScheduleValue}
 use Rattle.mux.specs.History.{Run, emitted}
-use Rattle.serial.specs.Written.{SendsBeginning}
-use Rattle.serial.specs.Sending.{bytes_of}
+use Rattle.outlet.specs.Written.{SendsBeginning}
+use Rattle.outlet.specs.Sending.{bytes_of}
 use Rattle.serial.specs.Running.{IsOver}
 use Rattle.serial.specs.declared.serial_input.SerialInput.{SerialInput}
-use Rattle.serial.proofs.SendingLaws.{if_err_always, if_err_is, same_err}
+use Rattle.outlet.proofs.SendingLaws.{if_err_always, if_err_is, same_err}
 use Rattle.serial.proofs.HaltedLaws.{halted_running, unrefused_running}
 use Rattle.serial.proofs.OutcomeLaws.{has_run, has_begun_nothing, has_begun, all_begun, nothing_sent, failures_told}
 use Rattle.serial.proofs.run.run_to.Goals as goal

@@ -1,7 +1,7 @@
 use Rattle.std.proofs.Common.{ℕ, [], ap, ◌∙◌, subst}
 use Rattle.std.specs.Prelude.{IfOk}
 use Rattle.request.specs.Request.{RequestValue}
-use Rattle.serial.specs.Sending.{HasAnalysed}
+use Rattle.outlet.specs.Sending.{HasAnalysed}
 use Rattle.threaded.proofs.opening.open_output.Goals as goal
 
 pub returns-clause-analysed : goal.returns-clause-analysed

@@ -1,6 +1,6 @@
 use Rattle.std.proofs.Common.{ap, sym, subst, ◌∙◌}
 use Rattle.relay.specs.Relays.{SenderValue}
-use Rattle.serial.proofs.SendingLaws.{on_err_always}
+use Rattle.outlet.proofs.SendingLaws.{on_err_always}
 use Rattle.threaded.specs.Outputs.{HasWritten}
 use Rattle.threaded.specs.declared.output_worker.OutputWorker.{OutputWorker}
 use Rattle.threaded.proofs.HandingLaws.{all_some, received_some, received_all, received_none, one_relay, is_driven, is_broken}

@@ -1,7 +1,7 @@
 use Rattle.std.proofs.Common.{◌<◌, ◌≤◌, ◌+◌, ℕ, List, length, take, drop, Err, sym, subst, ◌∙◌, ap, arith}
 use Rattle.std.proofs.lemmas.List.{take_all}
 use Rattle.std.proofs.lemmas.Result.{err_from_is_err_and}
-use Rattle.threaded.specs.declared.outlet.Outlet.{Outlet}
+use Rattle.outlet.specs.declared.outlet.Outlet.{Outlet}
 use Rattle.threaded.specs.Outputs.{IsPut}
 use Rattle.threaded.proofs.WritingLaws.{Puts, puts_nothing, puts_packet, puts_all, fails_packet, one_taken, parted}
 use Rattle.threaded.proofs.output_worker.put_all.Goals as goal

@@ -3,7 +3,7 @@ use Rattle.std.proofs.lemmas.Result.{err_from_is_err_and}
 use Rattle.relay.specs.declared.message.Message.{Message}
 use Rattle.relay.specs.Receiving.{IsReceived}
 use Rattle.threaded.specs.Outputs.{IsPut}
-use Rattle.threaded.specs.declared.outlet.Outlet.{Outlet}
+use Rattle.outlet.specs.declared.outlet.Outlet.{Outlet}
 use Rattle.threaded.proofs.WritingLaws.{comes, gave_back, writes_nothing, writes_block, fails_block, writes_flushed, writes_waiting, fails_waiting}
 use Rattle.threaded.proofs.output_worker.write_all.Goals as goal
 

@@ -1,4 +1,4 @@
-use Rattle.threaded.specs.declared.outlet.Outlet.{Outlet}
+use Rattle.outlet.specs.declared.outlet.Outlet.{Outlet}
 use Rattle.threaded.proofs.WritingLaws.{put_none, puts_flushed}
 use Rattle.threaded.proofs.output_worker.write_waiting.Goals as goal
 

@@ -3,8 +3,8 @@ use Rattle.std.proofs.lemmas.Result.{IfOk-at_ok}
 use Rattle.mux.specs.History.{Run}
 use Rattle.schedule.specs.Schedule.{ScheduleValue}
 use Rattle.schedule.specs.Streams.{all_streams}
-use Rattle.serial.specs.declared.run_fault.RunFault.TheVariants as run_faults
-use Rattle.serial.proofs.SendingLaws.{same_err}
+use Rattle.outlet.specs.declared.run_fault.RunFault.TheVariants as run_faults
+use Rattle.outlet.proofs.SendingLaws.{same_err}
 use Rattle.threaded.proofs.ResultLaws.{ok_no_err, not_write, is_fine, is_failed}
 use Rattle.threaded.proofs.DrivingLaws.{breaks_driven}
 use Rattle.threaded.proofs.OutcomeLaws.{told_count}

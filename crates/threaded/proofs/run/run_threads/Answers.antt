@@ -1,8 +1,8 @@
 use Rattle.std.proofs.Common.{[], ap, inl, refl}
 use Rattle.mux.specs.History.{Run, History}
 use Rattle.std.proofs.lemmas.Result.{IfOk-weaker, IfErr-weaker}
-use Rattle.serial.specs.declared.run_fault.RunFault.TheVariants as run_faults
-use Rattle.serial.proofs.SendingLaws.{same_err}
+use Rattle.outlet.specs.declared.run_fault.RunFault.TheVariants as run_faults
+use Rattle.outlet.proofs.SendingLaws.{same_err}
 use Rattle.threaded.proofs.ResultLaws.{not_write}
 use Rattle.threaded.proofs.OutcomeLaws.{ready_count, ready_unsent, ready_seated, begun_nothing, run_failed, run_ended, lent_count, failures_told}
 use Rattle.threaded.proofs.run.run_threads.Goals as goal

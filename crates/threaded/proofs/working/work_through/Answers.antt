@@ -5,8 +5,8 @@ use Rattle.station.specs.Stations.{StationValue}
 use Rattle.threaded.specs.Ending.{wants_memory}
 use Rattle.threaded.specs.declared.ended.Ended.{Ended}
 use Rattle.threaded.specs.Driving.{BreaksOff}
-use Rattle.serial.specs.declared.run_fault.RunFault.TheVariants as run_faults
-use Rattle.serial.proofs.SendingLaws.{same_err}
+use Rattle.outlet.specs.declared.run_fault.RunFault.TheVariants as run_faults
+use Rattle.outlet.proofs.SendingLaws.{same_err}
 use Rattle.threaded.proofs.CrewLaws.{seated_workers, have_worked}
 use Rattle.threaded.proofs.DrivingLaws.{breaks_either, same_either}
 use Rattle.threaded.proofs.ReportLaws.{all_had_memory, one_wanted_memory}

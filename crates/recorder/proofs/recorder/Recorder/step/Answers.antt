@@ -1,7 +1,7 @@
 use Rattle.std.proofs.Common.{◌≡◌, List, ℕ, true, ap, sym, subst, ◌∙◌}
 use Rattle.std.specs.Prelude.{is_err}
-use Rattle.serial.specs.Sending.{bytes_of}
-use Rattle.serial.specs.Written.{SendsBeginning}
+use Rattle.outlet.specs.Sending.{bytes_of}
+use Rattle.outlet.specs.Written.{SendsBeginning}
 use Rattle.recorder.proofs.RecordingLaws.{begun_more, erred, written_whole}
 use Rattle.recorder.proofs.recorder.Recorder.step.Goals as goal
 

@@ -2,9 +2,9 @@ use Rattle.std.proofs.Common.{◌∙◌, ap, sym, subst}
 use Rattle.std.proofs.lemmas.Result.{on_ok_weaker}
 use Rattle.schedule.specs.Schedule.{ScheduleValue}
 use Rattle.mux.specs.History.{Run, emitted}
-use Rattle.serial.specs.Written.{Sends, SendsBeginning}
-use Rattle.serial.specs.Sending.{bytes_of}
-use Rattle.serial.proofs.SendingLaws.{on_err_always, on_ok_always, on_err_weaker}
+use Rattle.outlet.specs.Written.{Sends, SendsBeginning}
+use Rattle.outlet.specs.Sending.{bytes_of}
+use Rattle.outlet.proofs.SendingLaws.{on_err_always, on_ok_always, on_err_weaker}
 use Rattle.serial.proofs.HaltedLaws.{halted_running, unrefused_running}
 use Rattle.serial.proofs.RunningLaws.{runs_flushed, all_sent, part_sent}
 use Rattle.serial.proofs.serial_run.SerialRun.drive.Goals as goal

@@ -1,9 +1,9 @@
 use Rattle.std.proofs.Common.{◌≡◌, ℕ, List, Option}
 use Rattle.mux.specs.History.{Run, emitted}
 use Rattle.reading.specs.declared.input_limit.InputLimit.{InputLimit}
-use Rattle.serial.specs.Written.{Sends}
+use Rattle.outlet.specs.Written.{Sends}
 use Rattle.serial.specs.Feeding.{AllTellFailures}
-use Rattle.serial.specs.Sending.{bytes_of}
+use Rattle.outlet.specs.Sending.{bytes_of}
 use Rattle.serial.specs.Running.{IsRunning, steps_left}
 use Rattle.serial.proofs.serial_run.SerialRun.drive.Given as goal
 

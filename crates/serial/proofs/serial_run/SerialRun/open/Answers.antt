@@ -1,7 +1,7 @@
 use Rattle.std.proofs.Common.{ℕ, [], ◌<◌, length, ap, ◌∙◌, subst, arith}
 use Rattle.mux.specs.History.{History}
 use Rattle.request.specs.Request.{RequestValue}
-use Rattle.serial.specs.Sending.{HasAnalysed}
+use Rattle.outlet.specs.Sending.{HasAnalysed}
 use Rattle.serial.proofs.OpeningLaws.{runs_opened, told_of_opened}
 use Rattle.serial.proofs.serial_run.SerialRun.open.Goals as goal
 

@@ -9,8 +9,8 @@ use Rattle.serial.specs.Feeding.{AreLimited}
 use Rattle.serial.specs.Giving.{TakesInOrder}
 use Rattle.serial.specs.Running.{TakesAsNeeded, IsRunning, AreFed, AreHalted}
 use Rattle.serial.proofs.HaltedLaws.{halted_fed, halted_running, unrefused_running}
-use Rattle.serial.proofs.SendingLaws.{on_err_always, same_err}
-use Rattle.serial.specs.declared.run_fault.RunFault.TheVariants.{Write}
+use Rattle.outlet.proofs.SendingLaws.{on_err_always, same_err}
+use Rattle.outlet.specs.declared.run_fault.RunFault.TheVariants.{Write}
 use Rattle.std.proofs.lemmas.Result.{err_from_is_err_and}
 use Rattle.serial.proofs.RunningLaws.{runs_sent, runs_switched, fewer_switched, written_switched, fewer_sent, written_sent, unsent_stays, runs_pulled, fewer_pulled, written_pulled, begun_pulled, fed_sent, order_sent, needed_sent, sent_begun}
 use Rattle.serial.proofs.serial_run.SerialRun.step.Goals as goal

@@ -33,7 +33,7 @@ impl PacketWriter {
     ghost use Rattle.std.specs.Prelude.{◌≡◌, ◌≤◌, ◌+◌, ◌++◌, ◌↔◌, List, ℕ, [], length, IsTrue, OnOk, OnErr, IfOk};
     ghost use Rattle.std.specs.Io.KnownBytes.{Appends};
     ghost use Rattle.reading.specs.Failures.{FailsOnce};
-    ghost use Rattle.serial.specs.Written.{Sends, SendsBeginning};
+    ghost use Rattle.outlet.specs.Written.{Sends, SendsBeginning};
 
     /// One with nothing in its buffer.
     pub fn new(alloc: Global) -> Result<PacketWriter, AllocError>
@@ -105,7 +105,7 @@ impl PacketWriter {
 ghost use Rattle.std.specs.Prelude.{◌≡◌, OnOk, OnErr};
 ghost use Rattle.std.specs.Io.KnownBytes.{Appends};
 ghost use Rattle.reading.specs.Failures.{FailsOnce};
-ghost use Rattle.serial.specs.Written.{SendsBeginning};
+ghost use Rattle.outlet.specs.Written.{SendsBeginning};
 
 /// Writes all of these bytes, in as many writes as it takes.
 fn write_all<W: Sink>(sink: &mut W, bytes: &[u8]) -> io::Result<()>

@@ -1,8 +1,9 @@
-//! The gates of the measured runs.
+//! A gate that never says no.
 
-use port::{Gate, Point};
+use crate::gate::Gate;
+use crate::point::Point;
 
-/// A gate that never says no.
+/// A gate that never says no: an input is read to its end, unless the run ends before.
 #[derive(Clone, Copy)]
 pub struct OpenGate;
 

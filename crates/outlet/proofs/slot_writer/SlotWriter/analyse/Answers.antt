@@ -3,8 +3,8 @@ use Rattle.analyse.specs.declared.fault.Fault.{Fault}
 use Rattle.analyse.specs.Faults.{faults, faults_at}
 use Rattle.analyse.proofs.FaultsLaws.{faults_more}
 use Rattle.analyse.specs.FaultReport.{IsReportOf}
-use Rattle.serial.proofs.SendingLaws.{counted_more}
-use Rattle.serial.proofs.slot_writer.SlotWriter.analyse.Goals as goal
+use Rattle.outlet.proofs.SendingLaws.{counted_more}
+use Rattle.outlet.proofs.slot_writer.SlotWriter.analyse.Goals as goal
 
 pub returns-clause-analysed : goal.returns-clause-analysed
 returns-clause-analysed c rate period slots has =

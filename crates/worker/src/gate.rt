@@ -5,7 +5,7 @@ use crate::point::Point;
 /// Says whether a worker may go on. It counts how often it said no, so that a stop is told only where there was one.
 pub trait Gate {
     ghost use Rattle.std.specs.Prelude.{ℕ, ◌≡◌, MatchBool};
-    ghost use Rattle.port.specs.Stops.{StopsOnce};
+    ghost use Rattle.worker.specs.Stops.{StopsOnce};
 
     // How often it said no, up to the largest number of 64 bits.
     ghost stops: { Self → ℕ };

@@ -1,7 +1,7 @@
 use Rattle.std.proofs.Common.{◌++◌}
-use Rattle.serial.proofs.KnownLaws.{sends_nothing}
-use Rattle.serial.proofs.SendingLaws.{on_err_always}
-use Rattle.serial.proofs.slot_writer.SlotWriter.put.Goals as goal
+use Rattle.outlet.proofs.KnownLaws.{sends_nothing}
+use Rattle.outlet.proofs.SendingLaws.{on_err_always}
+use Rattle.outlet.proofs.slot_writer.SlotWriter.put.Goals as goal
 
 pub returns-in_err-analyse-clause-begun : goal.returns-in_err-analyse-clause-begun
 returns-in_err-analyse-clause-begun g c =

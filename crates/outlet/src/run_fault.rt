@@ -16,7 +16,7 @@ pub enum RunFault {
 
 impl From<AllocError> for RunFault {
     ghost use Rattle.std.specs.Prelude.{◌≡◌};
-    ghost use Rattle.serial.specs.declared.run_fault.RunFault.TheVariants.{Memory};
+    ghost use Rattle.outlet.specs.declared.run_fault.RunFault.TheVariants.{Memory};
 
     ghost from_gives = { λ _ e. e ≡ Memory };
 
@@ -27,7 +27,7 @@ impl From<AllocError> for RunFault {
 
 impl<T: Drop> From<AllocFailed<T>> for RunFault {
     ghost use Rattle.std.specs.Prelude.{◌≡◌};
-    ghost use Rattle.serial.specs.declared.run_fault.RunFault.TheVariants.{Memory};
+    ghost use Rattle.outlet.specs.declared.run_fault.RunFault.TheVariants.{Memory};
 
     ghost from_gives = { λ _ e. e ≡ Memory };
 

@@ -4,7 +4,7 @@ use Rattle.std.specs.Prelude.{Result, Ok, Err, IfErr, OnOk, OnErr}
 use Rattle.analyse.specs.declared.fault.Fault.{Fault}
 use Rattle.analyse.specs.Faults.{faults, faults_at}
 use Rattle.analyse.proofs.FaultsLaws.{faults_more}
-use Rattle.serial.specs.Sending.{fault_count}
+use Rattle.outlet.specs.Sending.{fault_count}
 
 -- the faults of one packet more
 pub counted_more : (rate period : ℕ) (slots : List (List ℕ)) (q : List ℕ) (old new : ℕ) (told : List Fault) → old ≡ fault_count rate period slots

@@ -4,7 +4,7 @@ use Rattle.std.specs.Prelude.{Option, Some, None}
 use Rattle.std.proofs.lemmas.List.{append-nil, take-append-drop, take_rest}
 use Rattle.std.proofs.Math.Seq.{take-add}
 use Rattle.std.specs.Io.KnownBytes.{Appends, Keeps}
-use Rattle.serial.specs.Written.{Sends, SendsBeginning}
+use Rattle.outlet.specs.Written.{Sends, SendsBeginning}
 
 pub appends_nothing : (old : Option (List ℕ)) → Appends old old []
 appends_nothing None = tt

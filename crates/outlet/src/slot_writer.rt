@@ -23,8 +23,8 @@ impl SlotWriter {
     ghost use Rattle.std.specs.Prelude.{◌≡◌, ◌∷◌, ◌++◌, ℕ, List, [], Err, true, IsErr, IfOk, OnOk, OnErr};
     ghost use Rattle.std.specs.Io.KnownBytes.{Appends};
     ghost use Rattle.reading.specs.Failures.{FailsOnce};
-    ghost use Rattle.serial.specs.Written.{Sends, SendsBeginning};
-    ghost use Rattle.serial.specs.Sending.{HasAnalysed};
+    ghost use Rattle.outlet.specs.Written.{Sends, SendsBeginning};
+    ghost use Rattle.outlet.specs.Sending.{HasAnalysed};
 
     /// One that has sent nothing, for a multiplex of this rate (bits a second). Each PID that a PMT refers to has to come
     /// within `period` slots.

@@ -1,6 +1,6 @@
 -- Writers of `std` that count their failures (profile).
 use Rattle.std.specs.Prelude.{ℕ, List, Option}
-use Rattle.serial.specs.declared.sink.WriteSink.{WriteSink}
+use Rattle.outlet.specs.declared.write_sink.WriteSink.{WriteSink}
 
 -- the bytes that the writer holds, where they are known
 abbrev pub sink_contents : {W : Type 0} → (W → Option (List ℕ)) → WriteSink W → Option (List ℕ)
