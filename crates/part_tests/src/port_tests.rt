@@ -25,6 +25,15 @@ fn lent_stamp(end: &mut RingEnd) -> Option<u64> {
     }
 }
 
+fn shown_stamp(end: &mut RingEnd) -> Option<u64> {
+    let _ = end.peek();
+    if end.is_showing() {
+        Some(end.head().stamp)
+    } else {
+        None
+    }
+}
+
 #[test]
 fn what_is_offered_comes_out_in_order_and_the_rest_is_left(rt: HostRuntime) -> Result<(), Fail> {
     let (mut port, mut end) = ring(rt.alloc(), 0, 2)?;
@@ -93,5 +102,24 @@ fn what_is_sent_is_lent_in_order_beside_what_comes_by_value(rt: HostRuntime) -> 
     assert_eq!(rt; end.advance(), Some(ArrivalKind::End));
     assert!(rt; end.is_ended());
     assert!(rt; end.advance().is_none());
+    Ok(())
+}
+
+#[test]
+fn what_is_shown_is_shown_until_it_is_released(rt: HostRuntime) -> Result<(), Fail> {
+    let (mut port, mut end) = ring(rt.alloc(), 0, 3)?;
+    assert!(rt; end.peek().is_none());
+    assert!(rt; port.send(&stamped(1)));
+    assert!(rt; port.send(&stamped(2)));
+    assert!(rt; port.end().is_ok());
+    assert_eq!(rt; shown_stamp(&mut end), Some(1));
+    assert_eq!(rt; shown_stamp(&mut end), Some(1));
+    end.release();
+    assert!(rt; !end.is_showing());
+    assert_eq!(rt; shown_stamp(&mut end), Some(2));
+    end.release();
+    assert_eq!(rt; end.peek(), Some(ArrivalKind::End));
+    assert!(rt; end.is_ended());
+    assert_eq!(rt; shown_stamp(&mut end), None);
     Ok(())
 }

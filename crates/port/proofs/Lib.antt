@@ -2,4 +2,4 @@ pub mod ArrivalLaws
 pub mod RingLaws
 pub mod NewRingLaws
 pub mod ChunkLaws
-pub mod LastLaws
+pub mod ShowingLaws

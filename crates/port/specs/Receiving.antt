@@ -5,12 +5,12 @@ use Rattle.port.specs.declared.arrival.Arrival.{Arrival}
 use Rattle.port.specs.declared.arrival.Arrival.TheVariants.{Packet, End}
 use Rattle.port.specs.Rings.{RingEndValue, FinishedValue}
 
--- A packet came out behind the others, or the end mark came, neither behind an end mark; or nothing did.
+-- A packet came out behind the others, or the end mark came, neither behind an end mark; or nothing did. No packet is shown then.
 abbrev pub IsReceived : RingEndValue → Option Arrival → RingEndValue → Type 0
 IsReceived old (Some (Packet item)) new =
-    (old.is_ended ≡ false) × (new ≡ record old { received = old.received ++ item ∷ [] })
-IsReceived old (Some End) new = (old.is_ended ≡ false) × (new ≡ record old { is_ended = true })
-IsReceived old None new = new ≡ old
+    (old.is_ended ≡ false) × (new ≡ record old { received = old.received ++ item ∷ []; head = None })
+IsReceived old (Some End) new = (old.is_ended ≡ false) × (new ≡ record old { head = None; is_ended = true })
+IsReceived old None new = new ≡ record old { head = None }
 
 -- The finished port of the end's ring sent what came out of it, and then so many packets that are still in it: none where the end
 -- mark came out of it, which the port then sent.

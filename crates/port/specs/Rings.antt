@@ -1,6 +1,5 @@
 -- Rings, and what contracts see of their two ends (profile).
-use Rattle.std.specs.Prelude.{◌≡◌, ℕ, List, [], length, Bool, false, Some}
-use Rattle.std.specs.List.{slice_get}
+use Rattle.std.specs.Prelude.{◌≡◌, ℕ, ◌-◌, List, [], length, Bool, true, false, Option, Some, None, slice_get}
 use Rattle.std.specs.declared.alloc.Global.{Global}
 use denote.RawPtr.{Ptr}
 use Rattle.rtrb.specs.Shared.{Names}
@@ -25,11 +24,18 @@ pub record PortValue : Type 0 where
   pub ring : RingId
   pub sent : List Stamped
 
--- the other end: its ring, the packets that came out of it, oldest first, and whether the end mark came
+-- the other end: its ring, the packets that came out of it, oldest first, the last of them where it is shown still, and whether the
+-- end mark came
 pub record RingEndValue : Type 0 where
   pub ring : RingId
   pub received : List Stamped
+  pub head : Option Stamped
   pub is_ended : Bool
+
+-- the packet that came last, where one is shown
+abbrev pub head_of : Bool → List Stamped → Option Stamped
+head_of true received = slice_get received (length received - 1)
+head_of false received = None
 
 -- a port that sends no more: what it was, and whether the end mark was sent
 pub record FinishedValue : Type 0 where
@@ -42,6 +48,7 @@ pub record IsNewRing (input : ℕ) (port : PortValue) (end : RingEndValue) : Typ
   pub number : port.ring.input ≡ input
   pub unsent : port.sent ≡ []
   pub unreceived : end.received ≡ []
+  pub unshown : end.head ≡ None
   pub unmarked : end.is_ended ≡ false
 
 -- so many of each: the port and the end at each place are those of one new ring, of the input with this number

@@ -21,6 +21,7 @@ pub fn ring(alloc: Global, input: usize, capacity: usize) -> Result<(Port, RingE
         Port { input, producer },
         RingEnd {
             reader: RingReader::new(input, consumer),
+            is_shown: false,
             is_ended: false,
         },
     ))

@@ -32,10 +32,10 @@ waits_open h new i x is old = old.closed ∙ unready_open h.run.schedule i h.eve
 
 -- Nothing came of an input.
 
-pub nothing_came : (i : ℕ) (a : History) (x : Inlet) (b : History) (y : Inlet) → EndsTaking i a x b y → y.is_closed ≡ false → y.held ≡ None → (b ≡ a) × (y ≡ x) × (x.held ≡ None)
+pub nothing_came : (i : ℕ) (a : History) (x : Inlet) (b : History) (y : Inlet) → EndsTaking i a x b y → y.is_closed ≡ false → y.end.head ≡ None → (b ≡ a) × (y ≡ x) × (x.end.head ≡ None)
 nothing_came i a x b y (Nothing, is) opened none = (is.1, is.2, is.0)
 nothing_came i a x b y (Mark, is) opened none = absurd (let closed : y.is_closed ≡ true = ap (λ (v : Inlet). v.is_closed) is.2 in cc)
-nothing_came i a x b y (HeldBack item came, is) opened none = absurd (let held : y.held ≡ Some item = ap (λ (v : Inlet). v.held) is.2 in cc)
+nothing_came i a x b y (HeldBack item came, is) opened none = absurd (let held : y.end.head ≡ Some item = ap (λ (v : Inlet). v.end.head) is.2 in cc)
 
 mark_came : Mark ≡ Nothing → ⊥
 mark_came e = cc
@@ -46,10 +46,10 @@ item_came item came e = cc
 -- Something came of an open input that is closed now, or of which a packet is held.
 
 pub something_came : (i : ℕ) (a : History) (x : Inlet) (b : History) (y : Inlet) → EndsTaking i a x b y → x.is_closed ≡ false
-    → ((y.is_closed ≡ true) ⊎ IsSome y.held) → ComesUntaken i a x b y
+    → ((y.is_closed ≡ true) ⊎ IsSome y.end.head) → ComesUntaken i a x b y
 something_came i a x b y (Nothing, is) opened (inl closed) = absurd (let same : y.is_closed ≡ x.is_closed = ap (λ (v : Inlet). v.is_closed) is.2 in cc)
 something_came i a x b y (Nothing, is) opened (inr held) =
-    let none : y.held ≡ None = ap (λ (v : Inlet). v.held) is.2 ∙ is.0 in
+    let none : y.end.head ≡ None = ap (λ (v : Inlet). v.end.head) is.2 ∙ is.0 in
     let bad : false ≡ true = subst IsSome none held in
     cc
 something_came i a x b y (Mark, is) opened some = (Mark, (λ e. mark_came e), is)
@@ -75,7 +75,7 @@ stuck_other h new xs answer is same other =
     let P : History → Type 0 = λ v. SendAnswers v answer new in
     record { answers = subst P (sym same) is; unheld = λ i x e at. absurd (other i e) }
 
-pub stuck_waiting : (h between new : History) (xs : List Inlet) (i : ℕ) (x : Inlet) → SendAnswers h (sending.NotReady i) between → new ≡ between → slice_get xs i ≡ Some x → x.held ≡ None
+pub stuck_waiting : (h between new : History) (xs : List Inlet) (i : ℕ) (x : Inlet) → SendAnswers h (sending.NotReady i) between → new ≡ between → slice_get xs i ≡ Some x → x.end.head ≡ None
     → IsStuck (sending.NotReady i) (record { history = new; inputs = xs })
 stuck_waiting h between new xs i x is same at none =
     let P : History → Type 0 = λ v. SendAnswers v (sending.NotReady i) v in
@@ -87,7 +87,7 @@ stuck_waiting h between new xs i x is same at none =
           let Q : ℕ → Type 0 = λ k. slice_get xs k ≡ Some y in
           let there : slice_get xs i ≡ Some y = subst Q (sym n) at' in
           let both : x ≡ y = cc in
-          ap (λ (v : Inlet). v.held) (sym both) ∙ none);
+          ap (λ (v : Inlet). v.end.head) (sym both) ∙ none);
     }
 
 -- Rings, run and packets over many steps.

@@ -22,7 +22,7 @@ taken_of : (lists : PacketLists) (s : StationValue) (i : ℕ) (x : Inlet) → Is
 taken_of lists s i x given at kept =
     let h = s.history.events in
     record {
-      begins = prefix_on (taken i h) x.end.received (lists i) (option_to_list x.held, kept.received) (given.begins i x at);
+      begins = prefix_on (taken i h) x.end.received (lists i) (option_to_list x.end.head, kept.received) (given.begins i x at);
       notes = notes_of_list s.history.run.schedule i x.end.received (lists i) h (given.begins i x at) kept.notes;
       closed = λ shut. elim (kept.closes (kept.closed ∙ shut)) [
         | inl e ↦

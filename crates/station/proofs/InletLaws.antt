@@ -58,7 +58,7 @@ is_shut s h i item e = closed (is_closed i h) (is_mapped s i item) (ltb item.sta
 
 pub spared : (h : History) (e : Event) (j : ℕ) (x : Inlet) → Spares j h.events e → IsLawfulInlet h j x → IsLawfulInlet (with_event h e) j x
 spared h e j x s old = record {
-  received = old.received ∙ ap (λ (xs : List Stamped). xs ++ option_to_list x.held) (sym s.taken_is);
+  received = old.received ∙ ap (λ (xs : List Stamped). xs ++ option_to_list x.end.head) (sym s.taken_is);
   notes = notes_on h.run.schedule j x.end.received h.events e s.unnoted old.notes;
   closed = old.closed ∙ sym s.closed_is;
   closes = λ is.
@@ -104,8 +104,8 @@ others_others i a b c u v j x ne old = v j x ne (u j x ne old)
 -- events of the input itself
 
 -- a packet came out of the ring
-pub came : (h : History) (i : ℕ) (x : Inlet) (item : Stamped) → x.held ≡ None → x.is_closed ≡ false → IsLawfulInlet h i x
-    → IsLawfulInlet h i (record { end = record x.end { received = x.end.received ++ item ∷ [] }; held = Some item; is_closed = x.is_closed })
+pub came : (h : History) (i : ℕ) (x : Inlet) (item : Stamped) → x.end.head ≡ None → x.is_closed ≡ false → IsLawfulInlet h i x
+    → IsLawfulInlet h i (record { end = record x.end { received = x.end.received ++ item ∷ []; head = Some item }; is_closed = x.is_closed })
 came h i x item none opened old =
     let all : x.end.received ≡ taken i h.events = old.received ∙ (ap (λ (o : Option Stamped). taken i h.events ++ option_to_list o) none ∙ append-nil (taken i h.events)) in
     record {
@@ -115,9 +115,9 @@ came h i x item none opened old =
       closes = λ is. absurd (false≢true (sym opened ∙ is));
     }
 
--- the packet that is held is taken
-pub took : (h : History) (i : ℕ) (x : Inlet) (item : Stamped) → x.held ≡ Some item → x.is_closed ≡ false → IsLawfulInlet h i x
-    → IsLawfulInlet (with_event h (Took i item)) i (record x { held = None })
+-- the packet that is shown is taken
+pub took : (h : History) (i : ℕ) (x : Inlet) (item : Stamped) → x.end.head ≡ Some item → x.is_closed ≡ false → IsLawfulInlet h i x
+    → IsLawfulInlet (with_event h (Took i item)) i (record x { end = record x.end { head = None } })
 took h i x item held opened old = record {
   received = old.received ∙ (ap (λ (o : Option Stamped). taken i h.events ++ option_to_list o) held ∙ (sym (took_own i h.events item) ∙ sym (append-nil (taken i (Took i item ∷ h.events)))));
   notes = notes_on h.run.schedule i x.end.received h.events (Took i item) refl old.notes;
@@ -130,8 +130,8 @@ record Spared (i : ℕ) (h : List Event) (e : Event) : Type 0 where
   taken_is : taken i (e ∷ h) ≡ taken i h
   closed_is : is_closed i (e ∷ h) ≡ is_closed i h
 
--- what is noted of the packet that is held is noted of the next one
-note_next : (h : History) (i : ℕ) (x : Inlet) (item : Stamped) (e : Event) → x.held ≡ Some item → IsNoted h.run.schedule i e h.events item → IsLawfulInlet h i x
+-- what is noted of the packet that is shown is noted of the next one
+note_next : (h : History) (i : ℕ) (x : Inlet) (item : Stamped) (e : Event) → x.end.head ≡ Some item → IsNoted h.run.schedule i e h.events item → IsLawfulInlet h i x
     → NotesAreOfNext h.run.schedule i x.end.received (e ∷ h.events)
 note_next h i x item e held tells old [] before note is noted =
     let all : x.end.received ≡ taken i h.events ++ item ∷ [] = old.received ∙ ap (λ (o : Option Stamped). taken i h.events ++ option_to_list o) held in
@@ -147,41 +147,41 @@ note_next h i x item e held tells old [] before note is noted =
 note_next h i x item e held tells old (a ∷ after) before note is noted = (let same : h.events ≡ after ++ note ∷ before = cc in old.notes after before note same noted)
 
 -- such a note leaves all else of the input
-noted_one : (h : History) (i : ℕ) (x : Inlet) (item : Stamped) (e : Event) → Spared i h.events e → x.held ≡ Some item → x.is_closed ≡ false → IsNoted h.run.schedule i e h.events item → IsLawfulInlet h i x
+noted_one : (h : History) (i : ℕ) (x : Inlet) (item : Stamped) (e : Event) → Spared i h.events e → x.end.head ≡ Some item → x.is_closed ≡ false → IsNoted h.run.schedule i e h.events item → IsLawfulInlet h i x
     → IsLawfulInlet (with_event h e) i x
 noted_one h i x item e stays held opened tells old = record {
-  received = old.received ∙ ap (λ (xs : List Stamped). xs ++ option_to_list x.held) (sym stays.taken_is);
+  received = old.received ∙ ap (λ (xs : List Stamped). xs ++ option_to_list x.end.head) (sym stays.taken_is);
   notes = note_next h i x item e held tells old;
   closed = old.closed ∙ sym stays.closed_is;
   closes = λ is. absurd (false≢true (sym opened ∙ is));
 }
 
-noted_so : (h : History) (i : ℕ) (x : Inlet) (item : Stamped) (st : Stream) (b : Bool) → x.held ≡ Some item → x.is_closed ≡ false → is_mapped_to h.run.schedule st i item ≡ true → IsLawfulInlet h i x
+noted_so : (h : History) (i : ℕ) (x : Inlet) (item : Stamped) (st : Stream) (b : Bool) → x.end.head ≡ Some item → x.is_closed ≡ false → is_mapped_to h.run.schedule st i item ≡ true → IsLawfulInlet h i x
     → IsLawfulInlet (cond b h (with_event h (Full i st))) i x
 noted_so h i x item st true held opened mapped old = old
 noted_so h i x item st false held opened mapped old = noted_one h i x item (Full i st) (record { taken_is = refl; closed_is = refl }) held opened mapped old
 
 -- its queue is full
-pub noted : (h : History) (i : ℕ) (x : Inlet) (item : Stamped) (new : History) → x.held ≡ Some item → x.is_closed ≡ false → NotesFull h i item new → IsLawfulInlet h i x → IsLawfulInlet new i x
+pub noted : (h : History) (i : ℕ) (x : Inlet) (item : Stamped) (new : History) → x.end.head ≡ Some item → x.is_closed ≡ false → NotesFull h i item new → IsLawfulInlet h i x → IsLawfulInlet new i x
 noted h i x item new held opened note old =
     let P : History → Type 0 = λ v. IsLawfulInlet v i x in
     subst P (sym note.3) (noted_so h i x item note.0 (full_noted i h.events) held opened note.2 old)
 
-early_so : (h : History) (i : ℕ) (x : Inlet) (item : Stamped) (b : Bool) → x.held ≡ Some item → x.is_closed ≡ false → is_early h.run.schedule h.events item ≡ true → IsLawfulInlet h i x
+early_so : (h : History) (i : ℕ) (x : Inlet) (item : Stamped) (b : Bool) → x.end.head ≡ Some item → x.is_closed ≡ false → is_early h.run.schedule h.events item ≡ true → IsLawfulInlet h i x
     → IsLawfulInlet (cond b h (with_event h (Early i))) i x
 early_so h i x item true held opened early old = old
 early_so h i x item false held opened early old = noted_one h i x item (Early i) (record { taken_is = refl; closed_is = refl }) held opened early old
 
 -- it belongs to a later plan
-pub noted_early : (h : History) (i : ℕ) (x : Inlet) (item : Stamped) (new : History) → x.held ≡ Some item → x.is_closed ≡ false → refusal_of h.run.schedule h.events i item ≡ Some refusals.Early
+pub noted_early : (h : History) (i : ℕ) (x : Inlet) (item : Stamped) (new : History) → x.end.head ≡ Some item → x.is_closed ≡ false → refusal_of h.run.schedule h.events i item ≡ Some refusals.Early
     → NotesEarly h i new → IsLawfulInlet h i x → IsLawfulInlet new i x
 noted_early h i x item new held opened why note old =
     let P : History → Type 0 = λ v. IsLawfulInlet v i x in
     subst P (sym note) (early_so h i x item (early_noted i h.events) held opened (early_of h.run.schedule h.events i item why) old)
 
 -- the end mark came
-pub ended : (h : History) (i : ℕ) (x : Inlet) → x.held ≡ None → IsLawfulInlet h i x
-    → IsLawfulInlet (with_event h (Close i)) i (record { end = record x.end { is_ended = true }; held = x.held; is_closed = true })
+pub ended : (h : History) (i : ℕ) (x : Inlet) → x.end.head ≡ None → IsLawfulInlet h i x
+    → IsLawfulInlet (with_event h (Close i)) i (record { end = record x.end { is_ended = true }; is_closed = true })
 ended h i x none old = record {
   received = old.received;
   notes = notes_on h.run.schedule i x.end.received h.events (Close i) refl old.notes;
@@ -189,8 +189,8 @@ ended h i x none old = record {
   closes = λ is. inl (refl, none);
 }
 
--- the packet that is held can never be taken
-pub refused : (h : History) (i : ℕ) (x : Inlet) (item : Stamped) → x.held ≡ Some item → IsRefusedForGood h i item → IsLawfulInlet h i x
+-- the packet that is shown can never be taken
+pub refused : (h : History) (i : ℕ) (x : Inlet) (item : Stamped) → x.end.head ≡ Some item → IsRefusedForGood h i item → IsLawfulInlet h i x
     → IsLawfulInlet (with_event h (Close i)) i (record x { is_closed = true })
 refused h i x item held bad old = record {
   received = old.received;

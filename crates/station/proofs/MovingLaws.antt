@@ -20,8 +20,8 @@ takes_none i h x opened = (
     items = [];
     came = [];
     history = refl;
-    end = ap (λ (xs : List Stamped). let e : RingEndValue = record { ring = x.end.ring; received = xs; is_ended = x.end.is_ended } in e) (sym (append-nil x.end.received));
-    in_order = append-nil (option_to_list x.held);
+    end = ap (λ (xs : List Stamped). let e : RingEndValue = record x.end { received = xs } in e) (sym (append-nil x.end.received));
+    in_order = append-nil (option_to_list x.end.head);
     open_ = opened;
   },
   refl,
@@ -31,21 +31,20 @@ takes_none i h x opened = (
 pub takes_on : (i : ℕ) (a : History) (x : Inlet) (b : History) (y : Inlet) (c : History) (z : Inlet) (t : TakesSome i a x b y) → TakesNext i b y c z
     → (u : TakesSome i a x c z) × (length u.items ≡ length t.items + 1)
 takes_on i a x b y c z t n =
-    let end_of : List Stamped → RingEndValue = λ xs. record { ring = x.end.ring; received = xs; is_ended = x.end.is_ended } in
-    let held_none : z.held ≡ None = ap (λ (v : Inlet). v.held) n.inlet in (
+    let none : z.end.head ≡ None = ap (λ (v : Inlet). v.end.head) n.inlet in (
       record {
         items = t.items ++ n.item ∷ [];
         came = t.came ++ n.came;
         history = n.history ∙ (ap (λ v. with_event v (Took i n.item)) t.history ∙ sym (with_taken_behind i t.items n.item a));
         end = ap (λ (v : Inlet). v.end) n.inlet
-            ∙ (ap (λ (e : RingEndValue). let f : RingEndValue = record e { received = e.received ++ n.came } in f) t.end
-            ∙ ap end_of (append_assoc x.end.received t.came n.came));
-        in_order = sym (append_assoc (option_to_list x.held) t.came n.came)
+            ∙ (ap (λ (e : RingEndValue). let f : RingEndValue = record e { received = e.received ++ n.came; head = None } in f) t.end
+            ∙ (λ k. record { ring = x.end.ring; received = append_assoc x.end.received t.came n.came k; head = sym none k; is_ended = x.end.is_ended }));
+        in_order = sym (append_assoc (option_to_list x.end.head) t.came n.came)
             ∙ (ap (λ xs. xs ++ n.came) t.in_order
-            ∙ (append_assoc t.items (option_to_list y.held) n.came
+            ∙ (append_assoc t.items (option_to_list y.end.head) n.came
             ∙ (ap (λ xs. t.items ++ xs) n.next
             ∙ (sym (append-nil (t.items ++ n.item ∷ []))
-            ∙ ap (λ (o : Option Stamped). (t.items ++ n.item ∷ []) ++ option_to_list o) (sym held_none)))));
+            ∙ ap (λ (o : Option Stamped). (t.items ++ n.item ∷ []) ++ option_to_list o) (sym none)))));
         open_ = ap (λ (v : Inlet). v.is_closed) n.inlet;
       },
       length-append t.items (n.item ∷ []),

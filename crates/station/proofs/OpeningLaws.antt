@@ -1,7 +1,8 @@
 -- A station of which nothing was taken or sent.
-use Rattle.std.proofs.Common.{ℕ, zero, suc, ◌≡◌, List, [], ◌∷◌, length, map, slice_get, Some, refl, ap, subst, ◌∙◌, arith, inl, inr}
+use Rattle.std.proofs.Common.{ℕ, zero, suc, ◌≡◌, List, [], ◌∷◌, length, map, slice_get, Some, refl, ap, sym, subst, ◌∙◌, arith, inl, inr}
 use Rattle.std.proofs.lemmas.List.{length-map}
 use Rattle.std.proofs.lemmas.Option.{slice_get_within, slice_get_cases}
+use Rattle.std.specs.Option.{option_to_list}
 use Rattle.tspkt.specs.declared.stamped.Stamped.{Stamped}
 use Rattle.schedule.specs.Schedule.{ScheduleValue}
 use Rattle.mux.specs.Lawful.{input_count}
@@ -22,7 +23,7 @@ inlet_of (e ∷ ends) (suc i) x at = inlet_of ends i x at
 
 new_lawful : (schedule : ScheduleValue) (limit i : ℕ) (port : PortValue) (end : RingEndValue) → IsNewRing i port end → IsLawfulInlet (opened schedule limit) i (new_inlet end)
 new_lawful schedule limit i port end new = record {
-  received = new.unreceived;
+  received = new.unreceived ∙ sym (ap option_to_list new.unshown);
   notes = no_notes schedule i end.received;
   closed = refl;
   closes = λ is. cc;
@@ -51,5 +52,5 @@ is_opened schedule limit n ports ends inlets h new count are is = record {
       let from = inlet_of ends i x (subst A are at') in
       let ring = new.each i port from.0 at from.1 in
       let P : Inlet → Type 0 = IsFresh i port in
-      subst P from.2 (record { ring = ring.ring; number = ring.number; unsent = ring.unsent; unreceived = ring.unreceived; unheld = refl; open_ = refl });
+      subst P from.2 (record { ring = ring.ring; number = ring.number; unsent = ring.unsent; unreceived = ring.unreceived; unheld = ring.unshown; open_ = refl });
 }

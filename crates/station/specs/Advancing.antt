@@ -46,10 +46,10 @@ Steps (suc n) old new packets =
     × Steps n old between earlier × IsStep between new last × (packets ≡ earlier ++ last)
 
 -- No step can be done: nothing is left to send, or the run has all its slots, or the multiplex waits for an input of which no
--- packet is held, and nothing is seen in its ring.
+-- packet is shown, and nothing is seen in its ring.
 pub record IsStuck (answer : Sending) (s : StationValue) : Type 0 where
   pub answers : SendAnswers s.history answer s.history
-  pub unheld : (i : ℕ) (x : Inlet) → answer ≡ sending.NotReady i → slice_get s.inputs i ≡ Some x → x.held ≡ None
+  pub unheld : (i : ℕ) (x : Inlet) → answer ≡ sending.NotReady i → slice_get s.inputs i ≡ Some x → x.end.head ≡ None
 
 -- A station went on by at most so many steps: by all of them, which is answered as `Sent`, or until no step can be done.
 pub record Advances (most : ℕ) (old : StationValue) (answer : Sending) (new : StationValue) (packets : List (List ℕ)) : Type 0 where

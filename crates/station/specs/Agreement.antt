@@ -21,7 +21,7 @@ pub record IsGiven (lists : PacketLists) (s : StationValue) : Type 0 where
   pub begins : (i : ℕ) (x : Inlet) → slice_get s.inputs i ≡ Some x → IsPrefix x.end.received (lists i)
   pub whole : (i : ℕ) (x : Inlet) → slice_get s.inputs i ≡ Some x → x.end.is_ended ≡ true → lists i ≡ x.end.received
   pub takeable : (i : ℕ) (x : Inlet) (item : Stamped)
-      → slice_get s.inputs i ≡ Some x → x.held ≡ Some item → IsRefusedForGood s.history i item → ⊥
+      → slice_get s.inputs i ≡ Some x → x.end.head ≡ Some item → IsRefusedForGood s.history i item → ⊥
 
 -- Of two stations of one schedule that are given the same packets, what one sent begins what the other sent.
 abbrev pub StationsAgree : Type 0

@@ -14,26 +14,26 @@ abbrev pub with_taken : ℕ → List Stamped → History → History
 with_taken i [] h = h
 with_taken i (item ∷ items) h = with_taken i items (with_event h (Took i item))
 
--- Packets of an open input were taken: first the one that was held, then those that came out of the ring, in order. What came out
--- and wasn't taken is held.
+-- Packets of an open input were taken: first the one that was shown, then those that came out of the ring, in order. What came out
+-- and wasn't taken is shown.
 pub record TakesSome (i : ℕ) (old : History) (x : Inlet) (new : History) (y : Inlet) : Type 0 where
   pub items : List Stamped
   pub came : List Stamped
   pub history : new ≡ with_taken i items old
-  pub end : y.end ≡ record x.end { received = x.end.received ++ came }
-  pub in_order : option_to_list x.held ++ came ≡ items ++ option_to_list y.held
+  pub end : y.end ≡ record x.end { received = x.end.received ++ came; head = y.end.head }
+  pub in_order : option_to_list x.end.head ++ came ≡ items ++ option_to_list y.end.head
   pub open_ : y.is_closed ≡ false
 
--- the next packet was taken: the one that was held, or one that came out of the ring
+-- the next packet was taken: the one that was shown, or one that came out of the ring
 pub record TakesNext (i : ℕ) (old : History) (x : Inlet) (new : History) (y : Inlet) : Type 0 where
   pub item : Stamped
   pub came : List Stamped
   pub history : new ≡ with_event old (Took i item)
-  pub next : option_to_list x.held ++ came ≡ item ∷ []
-  pub inlet : y ≡ record { end = record x.end { received = x.end.received ++ came }; held = None; is_closed = false }
+  pub next : option_to_list x.end.head ++ came ≡ item ∷ []
+  pub inlet : y ≡ record { end = record x.end { received = x.end.received ++ came; head = None }; is_closed = false }
 
 -- The packet that came next isn't taken: the queue of its stream is full, or it belongs to a later plan, which is noted, or it can never
--- be taken, and the input is closed. It is held.
+-- be taken, and the input is closed. It is shown still.
 abbrev pub IsHeldBack : ℕ → History → Stamped → History → Bool → Type 0
 IsHeldBack i old item new false =
     ((refusal_of old.run.schedule old.events i item ≡ Some Full) × NotesFull old i item new)
@@ -48,13 +48,13 @@ pub data Ending : Type 0 where
   HeldBack : Stamped → List Stamped → Ending
 
 abbrev pub EndsBy : ℕ → History → Inlet → History → Inlet → Ending → Type 0
-EndsBy i old x new y Nothing = (x.held ≡ None) × (new ≡ old) × (y ≡ x)
+EndsBy i old x new y Nothing = (x.end.head ≡ None) × (new ≡ old) × (y ≡ x)
 EndsBy i old x new y Mark =
-    (x.held ≡ None) × (new ≡ with_event old (Close i))
-    × (y ≡ record { end = record x.end { is_ended = true }; held = None; is_closed = true })
+    (x.end.head ≡ None) × (new ≡ with_event old (Close i))
+    × (y ≡ record { end = record x.end { is_ended = true }; is_closed = true })
 EndsBy i old x new y (HeldBack item came) =
-    (option_to_list x.held ++ came ≡ item ∷ []) × IsHeldBack i old item new y.is_closed
-    × (y ≡ record { end = record x.end { received = x.end.received ++ came }; held = Some item; is_closed = y.is_closed })
+    (option_to_list x.end.head ++ came ≡ item ∷ []) × IsHeldBack i old item new y.is_closed
+    × (y ≡ record { end = record x.end { received = x.end.received ++ came; head = Some item }; is_closed = y.is_closed })
 
 abbrev pub EndsTaking : ℕ → History → Inlet → History → Inlet → Type 0
 EndsTaking i old x new y = (ending : Ending) × EndsBy i old x new y ending

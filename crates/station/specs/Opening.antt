@@ -10,7 +10,7 @@ use Rattle.station.specs.Stations.{StationValue}
 
 -- an input of which nothing came
 abbrev pub new_inlet : RingEndValue → Inlet
-new_inlet end = record { end = end; held = None; is_closed = false }
+new_inlet end = record { end = end; is_closed = false }
 
 -- The port of the input with this number, which sent nothing, and the input, of which nothing came, are of one ring.
 pub record IsFresh (i : ℕ) (port : PortValue) (x : Inlet) : Type 0 where
@@ -18,7 +18,7 @@ pub record IsFresh (i : ℕ) (port : PortValue) (x : Inlet) : Type 0 where
   pub number : port.ring.input ≡ i
   pub unsent : port.sent ≡ []
   pub unreceived : x.end.received ≡ []
-  pub unheld : x.held ≡ None
+  pub unheld : x.end.head ≡ None
   pub open_ : x.is_closed ≡ false
 
 -- the station of a schedule, and the port of each input, in its order

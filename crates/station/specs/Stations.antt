@@ -46,14 +46,14 @@ NotesAreOfNext s i received events =
 
 -- What a station keeps of an input.
 pub record IsLawfulInlet (h : History) (i : ℕ) (x : Inlet) : Type 0 where
-  -- the packets that came out of the ring are those that were taken, and then the one that is held
-  pub received : x.end.received ≡ taken i h.events ++ option_to_list x.held
+  -- the packets that came out of the ring are those that were taken, and then the one that is shown
+  pub received : x.end.received ≡ taken i h.events ++ option_to_list x.end.head
   pub notes : NotesAreOfNext h.run.schedule i x.end.received h.events
   -- it is closed where the multiplex was told so
   pub closed : x.is_closed ≡ is_closed i h.events
-  -- which is where the end mark came and no packet is held, or where the packet that is held can never be taken
+  -- which is where the end mark came and no packet is shown, or where the packet that is shown can never be taken
   pub closes : x.is_closed ≡ true
-      → ((x.end.is_ended ≡ true) × (x.held ≡ None)) ⊎ ((item : Stamped) × (x.held ≡ Some item) × IsRefusedForGood h i item)
+      → ((x.end.is_ended ≡ true) × (x.end.head ≡ None)) ⊎ ((item : Stamped) × (x.end.head ≡ Some item) × IsRefusedForGood h i item)
 
 -- there is one an input of the schedule, in its order
 pub record IsLawfulStation (h : History) (inputs : List Inlet) : Type 0 where

@@ -13,23 +13,23 @@ use mux::{Mux, Sending};
 use std::slice;
 use tspkt::Packet;
 
-/// Whether an input is closed, or a packet of it is held.
+/// Whether an input is closed, or a packet of it is shown.
 fn is_stopped(inlet: &Inlet) -> bool
-    ensures stopped { result ≡ true → (inlet.now.is_closed ≡ true) ⊎ IsSome inlet.now.held }
-    ensures going { result ≡ false → (inlet.now.is_closed ≡ false) × (inlet.now.held ≡ None) }
+    ensures stopped { result ≡ true → (inlet.now.is_closed ≡ true) ⊎ IsSome inlet.now.end.head }
+    ensures going { result ≡ false → (inlet.now.is_closed ≡ false) × (inlet.now.end.head ≡ None) }
 {
-    inlet.is_closed || inlet.held.is_some()
+    inlet.is_closed || inlet.end.is_showing()
 }
 
 /// Takes the packet of an open input that comes next, or holds it back, or closes the input at its end mark. False is answered
-/// where no packet is held and nothing is seen in the ring.
+/// where no packet is shown and nothing is seen in the ring.
 fn pull(mux: &mut Mux, number: usize, inlet: &mut Inlet) -> bool
     requires number { number < input_count mux.old.run.schedule }
     requires open { inlet.old.is_closed ≡ false }
     requires lawful { IsLawfulInlet mux.old number inlet.old }
     ensures pulled { result ≡ true → TakesNext number mux.old inlet.old mux.new inlet.new
         ⊎ ComesUntaken number mux.old inlet.old mux.new inlet.new }
-    ensures nothing { result ≡ false → (mux.new ≡ mux.old) × (inlet.new ≡ inlet.old) × (inlet.old.held ≡ None) }
+    ensures nothing { result ≡ false → (mux.new ≡ mux.old) × (inlet.new ≡ inlet.old) × (inlet.old.end.head ≡ None) }
     ensures lawful { IsLawfulInlet mux.new number inlet.new }
     ensures others { LeavesOthers number mux.old mux.new }
     ensures run { mux.new.run ≡ mux.old.run }

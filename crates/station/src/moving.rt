@@ -1,11 +1,10 @@
 //! How the packets of a ring come into the multiplex.
 
-ghost use Rattle.std.specs.Prelude.{◌≡◌, ◌<◌, ◌≤◌, ℕ, true, false, None, Some, IsSome, MatchBool, length};
+ghost use Rattle.std.specs.Prelude.{◌≡◌, ◌<◌, true, false, None, Some, IsSome};
 ghost use Rattle.tspkt.specs.declared.stamped.Stamped.{Stamped as GivenPacket};
 ghost use Rattle.mux.specs.declared.event.Event.{Event};
 ghost use Rattle.mux.specs.History.{with_event, is_closed};
 ghost use Rattle.mux.specs.Lawful.{input_count};
-ghost use Rattle.port.specs.Advancing.{IsLast};
 ghost use Rattle.station.specs.Stations.{IsLawfulInlet, LeavesOthers};
 ghost use Rattle.station.specs.Moving.{EndsTaking, TakesNext, IsHeldBack};
 ghost use Rattle.station.specs.Ticking.{Moves};
@@ -15,7 +14,7 @@ use mux::{Mux, Offered};
 use port::ArrivalKind;
 
 /// Moves what a ring shows into the multiplex, at most so many packets: each packet is offered in its turn, until one isn't
-/// taken, which is then held. An input is closed at its end mark, and where the packet that comes next can never be taken. Of
+/// taken, which is then shown. An input is closed at its end mark, and where the packet that comes next can never be taken. Of
 /// a closed input nothing is moved.
 pub(crate) fn move_in(mux: &mut Mux, number: usize, inlet: &mut Inlet, most: usize)
     requires number { number < input_count mux.old.run.schedule }
@@ -47,11 +46,8 @@ pub(crate) fn take_next(mux: &mut Mux, number: usize, inlet: &mut Inlet) -> bool
     ensures others { LeavesOthers number mux.old mux.new }
     ensures run { mux.new.run ≡ mux.old.run }
 {
-    if inlet.held.is_some() {
-        return give(mux, number, inlet);
-    }
-    match inlet.end.advance() {
-        Some(ArrivalKind::Packet) => give_last(mux, number, inlet),
+    match inlet.end.peek() {
+        Some(ArrivalKind::Packet) => give(mux, number, inlet),
         Some(ArrivalKind::End) => {
             close(mux, number, inlet);
             false
@@ -60,65 +56,30 @@ pub(crate) fn take_next(mux: &mut Mux, number: usize, inlet: &mut Inlet) -> bool
     }
 }
 
-/// Offers the packet that is held to the multiplex. False is answered where it isn't taken, and is held still.
+/// Offers the packet that is shown to the multiplex. False is answered where it isn't taken, and is shown still.
 fn give(mux: &mut Mux, number: usize, inlet: &mut Inlet) -> bool
     requires number { number < input_count mux.old.run.schedule }
     requires open { inlet.old.is_closed ≡ false }
-    requires held { IsSome inlet.old.held }
+    requires shown { IsSome inlet.old.end.head }
     requires lawful { IsLawfulInlet mux.old number inlet.old }
-    ensures taken { result ≡ true → (item : GivenPacket) × (inlet.old.held ≡ Some item)
+    ensures taken { result ≡ true → (item : GivenPacket) × (inlet.old.end.head ≡ Some item)
         × (mux.new ≡ with_event mux.old (Event.Took number item))
-        × (inlet.new ≡ record inlet.old { held = None }) }
-    ensures kept { result ≡ false → (item : GivenPacket) × (inlet.old.held ≡ Some item)
+        × (inlet.new ≡ record inlet.old { end = record inlet.old.end { head = None } }) }
+    ensures kept { result ≡ false → (item : GivenPacket) × (inlet.old.end.head ≡ Some item)
         × IsHeldBack number mux.old item mux.new inlet.new.is_closed
         × (inlet.new ≡ record inlet.old { is_closed = inlet.new.is_closed }) }
     ensures lawful { IsLawfulInlet mux.new number inlet.new }
     ensures others { LeavesOthers number mux.old mux.new }
     ensures run { mux.new.run ≡ mux.old.run }
 {
-    let item = inlet.held.as_ref().unwrap();
+    let item = inlet.end.head();
     match mux.offer(number, item) {
         Offered::Taken => {
-            inlet.held = None;
+            inlet.end.release();
             true
         }
         Offered::Full | Offered::Early => false,
         Offered::Stranger | Offered::Backward => {
-            close(mux, number, inlet);
-            false
-        }
-        Offered::Closed | Offered::Memory => unreachable!(),
-    }
-}
-
-/// Offers the packet that came out of the ring last to the multiplex, where none is held. False is answered where it isn't taken,
-/// and is held from then on. One that is taken goes from the ring's end into the multiplex, and isn't held between.
-fn give_last(mux: &mut Mux, number: usize, inlet: &mut Inlet) -> bool
-    requires number { number < input_count mux.old.run.schedule }
-    requires open { inlet.old.is_closed ≡ false }
-    requires came { 0 < length inlet.old.end.received }
-    requires unmarked { inlet.old.end.is_ended ≡ false }
-    requires empty { inlet.old.held ≡ None }
-    requires lawful { (item : GivenPacket) → IsLast inlet.old.end item
-        → IsLawfulInlet mux.old number (record inlet.old { held = Some item }) }
-    ensures taken { result ≡ true → (item : GivenPacket) × IsLast inlet.old.end item
-        × (mux.new ≡ with_event mux.old (Event.Took number item)) × (inlet.new ≡ inlet.old) }
-    ensures kept { result ≡ false → (item : GivenPacket) × IsLast inlet.old.end item
-        × IsHeldBack number mux.old item mux.new inlet.new.is_closed
-        × (inlet.new ≡ record inlet.old { held = Some item; is_closed = inlet.new.is_closed }) }
-    ensures lawful { IsLawfulInlet mux.new number inlet.new }
-    ensures others { LeavesOthers number mux.old mux.new }
-    ensures run { mux.new.run ≡ mux.old.run }
-{
-    let item = inlet.end.last();
-    match mux.offer(number, item) {
-        Offered::Taken => true,
-        Offered::Full | Offered::Early => {
-            inlet.held = Some(*item);
-            false
-        }
-        Offered::Stranger | Offered::Backward => {
-            inlet.held = Some(*item);
             close(mux, number, inlet);
             false
         }

@@ -27,10 +27,10 @@ use std::marker::Model;
 use tspkt::Packet;
 
 /// A multiplex, and the rings that its inputs' packets come through. Contracts see the history of the multiplex, and of each
-/// input what came out of its ring and the packet that is held.
+/// input what came out of its ring and the packet that is shown.
 ///
 /// Whenever a station is seen its history is lawful, and of each input the packets that came out of the ring are those that
-/// were taken, and then the one that is held.
+/// were taken, and then the one that is shown: it was refused, and is offered again.
 #[derive(Drop)]
 pub struct Station {
     mux: Mux,
@@ -59,7 +59,6 @@ fn new_inlets(alloc: Global, ends: Vec<RingEnd>) -> Result<Vec<Inlet>, AllocErro
     for end in ends {
         inlets.push(Inlet {
             end,
-            held: None,
             is_closed: false,
         })?;
     }
@@ -206,7 +205,7 @@ impl Station {
         let input = port.input();
         let inlet = &mut self.inlets[input];
         let left = inlet.end.left(&mut port);
-        let held = if inlet.held.is_some() { 1 } else { 0 };
+        let held = if inlet.end.is_showing() { 1 } else { 0 };
         Settled {
             taken: self.mux.totals(input).taken,
             held,

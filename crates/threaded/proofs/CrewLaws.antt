@@ -117,7 +117,7 @@ pub record IsServed {R : Type 0} (remaining : R → Option (List ℕ)) (limit : 
   pub inlet : Inlet
   pub inlet_is : slice_get station.inputs i ≡ Some inlet
   pub rest : List Stamped
-  pub sent_is : sent ≡ (taken i station.history.events ++ option_to_list inlet.held) ++ rest
+  pub sent_is : sent ≡ (taken i station.history.events ++ option_to_list inlet.end.head) ++ rest
   pub marked : inlet.end.is_ended ≡ true → (is_ended ≡ true) × (rest ≡ [])
 
 pub served : {R G : Type 0} (remaining : R → Option (List ℕ)) (failures : R → ℕ) (limit : InputLimit) (p : ScheduleValue) (station : StationValue) (i : ℕ) (input : InputValue) (reader : R) (port : PortValue) (w : Worker R (RunGate G)) (e : Ended R G)
@@ -137,7 +137,7 @@ served {R} {G} remaining failures limit p station i input reader port w e starte
       inlet_is = ap (λ n. slice_get station.inputs n) (sym number) ∙ ended.settles.input_is;
       rest = ended.settles.left;
       marked = ended.settles.marked;
-      sent_is = sym (ap (λ (v : PortValue). v.sent) worked.2) ∙ (ended.settles.sent ∙ ap (λ n. (taken n events ++ option_to_list ended.settles.input.held) ++ ended.settles.left) number);
+      sent_is = sym (ap (λ (v : PortValue). v.sent) worked.2) ∙ (ended.settles.sent ∙ ap (λ n. (taken n events ++ option_to_list ended.settles.input.end.head) ++ ended.settles.left) number);
     }
 
 pub consumed : (start rest : Option (List ℕ)) (bytes all : List ℕ) → start ≡ Some all → Consumes start rest bytes → (more : List ℕ) × (all ≡ bytes ++ more)
@@ -153,7 +153,7 @@ served_begins remaining limit p station i input reader left report all s start =
     let more = consumed (remaining reader) (remaining left) s.has.bytes all start s.has.read in
     let later = s.has.begins more.0 in
     let took = taken i station.history.events in
-    let held = option_to_list s.inlet.held in (
+    let held = option_to_list s.inlet.end.head in (
       (held ++ s.rest) ++ later.0,
       sym (append_assoc took (held ++ s.rest) later.0)
           ∙ (ap (λ v. v ++ later.0) (sym (append_assoc took held s.rest) ∙ sym s.sent_is)

@@ -38,7 +38,7 @@ pub record IsServedInput {R : Type 0} (remaining : R → Option (List ℕ)) (lim
 
 -- no packet that a worker sent is refused for good
 unrefused : {R : Type 0} (remaining : R → Option (List ℕ)) (limit : ℕ) (p : ScheduleValue) (station : StationValue) (i : ℕ) (input : InputValue) (reader left : R) (report : Report) (item : Stamped)
-    → (x : IsServedInput remaining limit p station i input reader left report) → x.served.inlet.held ≡ Some item → IsRefusedForGood station.history i item → ⊥
+    → (x : IsServedInput remaining limit p station i input reader left report) → x.served.inlet.end.head ≡ Some item → IsRefusedForGood station.history i item → ⊥
 unrefused remaining limit p station i input reader left report item x held refused =
     let s = x.served in
     let h = station.history.events in
@@ -59,7 +59,7 @@ unrefused remaining limit p station i input reader left report item x held refus
 -- Of a closed input the end mark came, and nothing is held or left.
 pub record IsBehindMark {R : Type 0} (remaining : R → Option (List ℕ)) (limit : ℕ) (p : ScheduleValue) (station : StationValue) (i : ℕ) (input : InputValue) (reader left : R) (report : Report) (s : IsServed remaining limit p station i input reader left report) : Type 0 where
   pub is_ended : s.is_ended ≡ true
-  pub unheld : s.inlet.held ≡ None
+  pub unheld : s.inlet.end.head ≡ None
   pub none_left : s.rest ≡ []
 
 pub behind_mark : {R : Type 0} (remaining : R → Option (List ℕ)) (limit : ℕ) (p : ScheduleValue) (station : StationValue) (i : ℕ) (input : InputValue) (reader left : R) (report : Report)
@@ -187,7 +187,7 @@ pub taken_of : {R : Type 0} (remaining : R → Option (List ℕ)) (limit : ℕ) 
 taken_of remaining limit p station i input reader left report starts all x from start =
     let s = x.served in
     let h = station.history.events in
-    let held = option_to_list s.inlet.held in
+    let held = option_to_list s.inlet.end.head in
     let list = packet_lists p starts i in
     let is = list_is p starts i input all x.input_is from in
     let P : List Stamped → Type 0 = IsPrefix s.sent in

@@ -16,7 +16,7 @@ returns-clause-left c =
     let value : length rest ≡ c.left-items.result = c.left-items.ensures.left.2 in
     let same : ring_id c.finished.inside.producer.end c.finished.inside.input ≡ c.self.inside.reader.ring = search rules in
     let sent_marks : marks_of all ≡ mark_count c.finished.inside.is_ended = marks_are c.finished.inside.is_ended all c.finished.invariant in
-    let got_marks : marks_of got ≡ mark_count c.self.inside.is_ended = c.self.invariant in
+    let got_marks : marks_of got ≡ mark_count c.self.inside.is_ended = c.self.invariant.0 in
     let counted = marks_left got rest all fifo in
     let most = length_arrivals rest in
     let packets = packets_left got rest all fifo in
@@ -56,7 +56,7 @@ overflow_sub-result c =
     let fifo : got ++ rest ≡ all = sym c.left-items.ensures.left.1 in
     let value : length rest ≡ c.left-items.result = c.left-items.ensures.left.2 in
     let sent_marks : marks_of all ≡ mark_count c.finished.inside.is_ended = marks_are c.finished.inside.is_ended all c.finished.invariant in
-    let got_marks : marks_of got ≡ mark_count c.self.inside.is_ended = c.self.invariant in
+    let got_marks : marks_of got ≡ mark_count c.self.inside.is_ended = c.self.invariant.0 in
     let counted = marks_left got rest all fifo in
     elim c.if-is_ended.branch [
       | then-is_ended+then-not-self w ↦
