@@ -5,7 +5,7 @@ use denote.RawPtr.{Ptr}
 use Rattle.rtrb.specs.Shared.{Names}
 use Rattle.rtrb.specs.declared.end.End.{End}
 use Rattle.tspkt.specs.declared.stamped.Stamped.{Stamped}
-use Rattle.port.specs.declared.arrival.Arrival.{Arrival}
+use Rattle.port.specs.Arrivals.{CarriedValue}
 use Rattle.port.specs.declared.nothing_after_end.NothingAfterEnd.{NothingAfterEnd}
 
 -- which ring it is, and of which input: two ends with one of these are the two ends of one ring
@@ -16,7 +16,7 @@ pub record RingId : Type 0 where
   pub heap : Global
   pub input : ℕ
 
-abbrev pub ring_id : End Arrival Global NothingAfterEnd → ℕ → RingId
+abbrev pub ring_id : End CarriedValue Global NothingAfterEnd → ℕ → RingId
 ring_id e input = record { words = e.words; slots = e.slots; names = e.names; heap = e.heap; input = input }
 
 -- a port: its ring, and the packets that it sent, oldest first

@@ -1,46 +1,52 @@
-//! An arrival as it lies in a ring.
+//! What lies in a ring.
 
-ghost use Rattle.std.specs.Prelude.{◌≡◌, MatchOption};
-ghost use Rattle.port.specs.declared.arrival.Arrival.TheVariants.{Packet, End};
+ghost use Rattle.std.specs.Prelude.{◌≡◌, ℕ, MatchOption};
+ghost use Rattle.port.specs.Arrivals.{Packet, End};
 
 use std::marker::Model;
 use tspkt::Stamped;
 
-/// An arrival as it lies in a ring. The mark stands beside the packet, and not as an enum's tag: so a packet's bytes are copied
-/// once on their way out. Contracts see the arrival.
+/// A packet or the end mark as it lies in a ring. The mark stands beside the packet, and not as an enum's tag: so a packet's bytes are
+/// copied once on their way out.
 #[derive(Clone, Copy)]
 pub(crate) struct Carried {
     /// The packet; beside an end mark a null packet of time 0.
     item: Stamped,
+    /// The place of its stream, as the port was told; beside an end mark 0. In four bytes it makes a place of a ring no longer.
+    place: u32,
     is_end: bool,
 }
 
 impl Model for Carried {
-    ghost use Rattle.port.specs.declared.arrival.Arrival.{Arrival as AnyArrival};
-    ghost use Rattle.port.specs.Carried.{arrival_of, IsCarried, item_of, is_mark, same_item, same_mark};
+    ghost use Rattle.port.specs.Arrivals.{CarriedValue};
+    ghost use Rattle.port.specs.Carried.{carried_of, IsCarried, item_of, place_of, is_mark, same_item, same_place, same_mark};
 
-    ghost Value = { AnyArrival };
+    ghost Value = { CarriedValue };
 
-    ghost view = { λ c. arrival_of c.item c.is_end };
+    ghost view = { λ c. carried_of c.item c.place c.is_end };
 
-    ghost invariant = { λ c. IsCarried c.item c.is_end };
+    ghost invariant = { λ c. IsCarried c.item c.place c.is_end };
 
-    ghost inverse = { λ a. record { item = item_of a; is_end = is_mark a } };
+    ghost inverse = { λ a. record { item = item_of a; place = place_of a; is_end = is_mark a } };
 
     ghost inverse_ok = { λ c h i. record {
-      item = same_item c.item c.is_end h i;
-      is_end = same_mark c.item c.is_end i;
+      item = same_item c.item c.place c.is_end h i;
+      place = same_place c.item c.place c.is_end h i;
+      is_end = same_mark c.item c.place c.is_end i;
     } };
 }
 
 impl Carried {
-    /// A packet with its time, copied.
+    ghost use Rattle.port.specs.Carried.{place_of};
+
+    /// A packet with its time, copied, and the place of its stream.
     #[inline(always)]
-    pub fn packet(item: &Stamped) -> Carried
-        ensures { result ≡ Packet item.now }
+    pub fn packet(item: &Stamped, place: u32) -> Carried
+        ensures { result ≡ Packet item.now place }
     {
         Carried {
             item: *item,
+            place,
             is_end: false,
         }
     }
@@ -53,14 +59,26 @@ impl Carried {
             packet: tspkt::null(),
             stamp: 0,
         };
-        Carried { item, is_end: true }
+        Carried {
+            item,
+            place: 0,
+            is_end: true,
+        }
     }
 
     /// The packet with its time; none where it is the end mark.
     #[inline(always)]
     pub fn as_packet(&self) -> Option<&Stamped>
-        ensures { MatchOption result (self.now ≡ End) (λ item. self.now ≡ Packet item.now) }
+        ensures { MatchOption result (self.now ≡ End) (λ item. (place : ℕ) × (self.now ≡ Packet item.now place)) }
     {
         if self.is_end { None } else { Some(&self.item) }
+    }
+
+    /// The place of the packet's stream.
+    #[inline(always)]
+    pub fn place(&self) -> u32
+        ensures { result ≡ place_of self.now }
+    {
+        self.place
     }
 }

@@ -47,8 +47,19 @@ impl Port {
 
     /// Sends a copy of a packet of the input. False is answered where no free place is seen in the ring, and then nothing
     /// changed.
-    #[tactic(auto, using(crate::proofs::RingLaws::same_id, crate::proofs::ArrivalLaws::packets_of_snoc, crate::proofs::ArrivalLaws::marks_of_snoc))]
     pub fn send(&mut self, item: &Stamped) -> bool
+        ensures ring { self.new.ring ≡ self.old.ring }
+        ensures sent { MatchBool result
+            (self.new ≡ record self.old { sent = self.old.sent ++ item.now ∷ [] })
+            (self.new ≡ self.old) }
+    {
+        self.send_for(usize::MAX, item)
+    }
+
+    /// Sends it as `send` does, and beside it what its sender takes to be the place in the schedule of the packet's stream. The ring's
+    /// end hands this on, as `place`, for whoever takes the packet to test: nothing is promised of it.
+    #[tactic(auto, using(crate::proofs::RingLaws::same_id, crate::proofs::ArrivalLaws::packets_of_snoc, crate::proofs::ArrivalLaws::marks_of_snoc))]
+    pub fn send_for(&mut self, place: usize, item: &Stamped) -> bool
         ensures ring { self.new.ring ≡ self.old.ring }
         ensures sent { MatchBool result
             (self.new ≡ record self.old { sent = self.old.sent ++ item.now ∷ [] })
@@ -58,7 +69,8 @@ impl Port {
         if producer.is_full() {
             return false;
         }
-        producer.push_reserved(Carried::packet(item));
+        let place = u32::try_from(place).unwrap_or(u32::MAX);
+        producer.push_reserved(Carried::packet(item, place));
         true
     }
 

@@ -111,6 +111,14 @@ impl RingEnd {
         last_packet(&self.reader)
     }
 
+    /// What the packet that is shown was sent with, as the place of its stream: its sender's word, which nothing here tests.
+    #[inline(always)]
+    pub fn place(&self) -> usize
+        requires { IsSome self.now.head }
+    {
+        self.reader.last().place() as usize
+    }
+
     /// Shows the packet no more that is shown, which counts as one that came out of the ring. Where none is shown nothing changes.
     pub fn release(&mut self)
         ensures { self.new ≡ record self.old { head = None } }

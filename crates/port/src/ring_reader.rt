@@ -10,7 +10,7 @@ use rtrb::{Consumer, Producer};
 use std::alloc::Global;
 use std::marker::Model;
 
-/// How many arrivals come out of a ring at once, at most.
+/// How many packets come out of a ring at once, at most, the end mark counted as one.
 const CHUNK: usize = 16;
 
 /// The receiving end of a ring, which takes what is seen in it out of it in one go, and hands it on one by one. Contracts see
@@ -21,9 +21,9 @@ pub(crate) struct RingReader {
     consumer: Consumer<Carried, Global, NothingAfterEnd>,
     /// What came out of the ring last.
     chunk: [Carried; CHUNK],
-    /// How many arrivals that is.
+    /// How much that is.
     count: usize,
-    /// How many of these were handed on.
+    /// How much of it was handed on.
     passed: usize,
 }
 
@@ -48,8 +48,7 @@ impl Model for RingReader {
 impl RingReader {
     ghost use Rattle.std.specs.Prelude.{◌≡◌, ◌++◌, ◌∷◌, ◌<◌, [], List, length, MatchBool};
     ghost use Rattle.rtrb.specs.Ring.{received, sent};
-    ghost use Rattle.port.specs.declared.arrival.Arrival.{Arrival as AnyArrival};
-    ghost use Rattle.port.specs.Arrivals.{marks_of};
+    ghost use Rattle.port.specs.Arrivals.{CarriedValue, marks_of};
     ghost use Rattle.port.specs.Rings.{ring_id};
 
     /// The end of an input's ring, out of which nothing came.
@@ -70,7 +69,7 @@ impl RingReader {
     /// behind an end mark.
     pub fn advance(&mut self) -> bool
         ensures { MatchBool result
-            ((x : AnyArrival) × (self.new ≡ record self.old { handed = self.old.handed ++ x ∷ [] })
+            ((x : CarriedValue) × (self.new ≡ record self.old { handed = self.old.handed ++ x ∷ [] })
             × (marks_of self.old.handed ≡ 0))
             (self.new ≡ self.old) }
     {
@@ -91,18 +90,18 @@ impl RingReader {
     /// What was handed on last.
     pub fn last(&self) -> &Carried
         requires { 0 < length self.now.handed }
-        ensures { (before : List AnyArrival) × (self.now.handed ≡ before ++ result.now ∷ []) }
+        ensures { (before : List CarriedValue) × (self.now.handed ≡ before ++ result.now ∷ []) }
     {
         &self.chunk[self.passed - 1]
     }
 
-    /// How many arrivals of those that were sent weren't handed on, beside the end that sends.
+    /// How many of those that were sent weren't handed on, beside the end that sends.
     pub fn left(&mut self, producer: &mut Producer<Carried, Global, NothingAfterEnd>) -> usize
         requires { ring_id producer.old.end self.old.ring.input ≡ self.old.ring }
         ensures reader { self.new ≡ self.old }
         ensures ring { ring_id producer.new.end self.old.ring.input ≡ self.old.ring }
         ensures sent { sent producer.new ≡ sent producer.old }
-        ensures left { (rest : List AnyArrival) × (sent producer.old ≡ self.old.handed ++ rest) × (length rest ≡ result) }
+        ensures left { (rest : List CarriedValue) × (sent producer.old ≡ self.old.handed ++ rest) × (length rest ≡ result) }
     {
         self.count - self.passed + self.consumer.slots_beside(producer)
     }

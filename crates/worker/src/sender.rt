@@ -72,8 +72,8 @@ impl<R: Source + Drop, G: Gate + Drop> Sender<R, G> {
     {
         for _ in rt.forever() {
             match self.reader.look(&self.schedule) {
-                Look::Packet(_) => {
-                    if !self.send_held(rt) {
+                Look::Packet(place) => {
+                    if !self.send_held(rt, place) {
                         return false;
                     }
                 }
@@ -91,8 +91,9 @@ impl<R: Source + Drop, G: Gate + Drop> Sender<R, G> {
         unreachable!()
     }
 
-    /// Sends the packet that the reader holds. False is answered where the gate said no, before or after it was sent.
-    fn send_held<T: Wait + Clock>(&mut self, rt: &T) -> bool
+    /// Sends the packet that the reader holds, with the place of its stream. False is answered where the gate said no, before or after
+    /// it was sent.
+    fn send_held<T: Wait + Clock>(&mut self, rt: &T, place: usize) -> bool
         requires { IsSome self.old.reader.held }
         ensures sent { SendsOn R.remaining R.failures self.old self.new }
         ensures stopped { self.new.reader.report.stopped ≡ self.old.reader.report.stopped }
@@ -102,7 +103,7 @@ impl<R: Source + Drop, G: Gate + Drop> Sender<R, G> {
     {
         for _ in rt.forever() {
             let item = self.reader.held().unwrap();
-            if self.port.send(item) {
+            if self.port.send_for(place, item) {
                 self.reader.release();
                 return self.gate.pass(Point::Offered);
             }

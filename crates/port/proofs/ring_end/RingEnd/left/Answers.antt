@@ -1,17 +1,16 @@
 use Rattle.std.proofs.Common.{rules, ◌≡◌, List, ◌++◌, length, true, arith, ap, ◌∙◌, sym}
 use Rattle.rtrb.specs.Ring.{sent}
-use Rattle.port.specs.Arrivals.{marks_of, mark_count, packets_of}
+use Rattle.port.specs.Arrivals.{CarriedValue, marks_of, mark_count, packets_of}
 use Rattle.port.specs.Rings.{ring_id, PortValue, RingEndValue, FinishedValue}
-use Rattle.port.specs.declared.arrival.Arrival.{Arrival}
 use Rattle.port.proofs.ArrivalLaws.{packets_left, marks_left, length_arrivals, mark_came, marks_are}
 use Rattle.port.proofs.ring_end.RingEnd.left.Goals as goal
 use Rattle.port.proofs.ring_end.RingEnd.left.Goals.{then-is_ended+then-not-self, else-is_ended, else-is_ended-via-then-is_ended+else-not-self, else-is_ended-via-else-is_ended}
 
 pub returns-clause-left : goal.returns-clause-left
 returns-clause-left c =
-    let got : List Arrival = c.self.inside.reader.handed in
-    let rest : List Arrival = c.left-items.ensures.left.0 in
-    let all : List Arrival = sent c.finished.inside.producer in
+    let got : List CarriedValue = c.self.inside.reader.handed in
+    let rest : List CarriedValue = c.left-items.ensures.left.0 in
+    let all : List CarriedValue = sent c.finished.inside.producer in
     let fifo : got ++ rest ≡ all = sym c.left-items.ensures.left.1 in
     let value : length rest ≡ c.left-items.result = c.left-items.ensures.left.2 in
     let same : ring_id c.finished.inside.producer.end c.finished.inside.input ≡ c.self.inside.reader.ring = search rules in
@@ -50,9 +49,9 @@ returns-clause-left c =
 
 pub overflow_sub-result : goal.overflow_sub-result
 overflow_sub-result c =
-    let got : List Arrival = c.self.inside.reader.handed in
-    let rest : List Arrival = c.left-items.ensures.left.0 in
-    let all : List Arrival = sent c.finished.inside.producer in
+    let got : List CarriedValue = c.self.inside.reader.handed in
+    let rest : List CarriedValue = c.left-items.ensures.left.0 in
+    let all : List CarriedValue = sent c.finished.inside.producer in
     let fifo : got ++ rest ≡ all = sym c.left-items.ensures.left.1 in
     let value : length rest ≡ c.left-items.result = c.left-items.ensures.left.2 in
     let sent_marks : marks_of all ≡ mark_count c.finished.inside.is_ended = marks_are c.finished.inside.is_ended all c.finished.invariant in

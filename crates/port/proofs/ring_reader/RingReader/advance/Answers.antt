@@ -1,8 +1,7 @@
 use Rattle.std.proofs.Common.{rules, ◌≡◌, ◌<◌, ◌≤◌, ◌++◌, ◌∷◌, [], length, get_or, ap, ◌∙◌, sym, arith}
 use Rattle.rtrb.specs.Ring.{received}
-use Rattle.port.specs.Arrivals.{marks_of}
+use Rattle.port.specs.Arrivals.{End, marks_of}
 use Rattle.port.specs.Chunks.{ReaderValue}
-use Rattle.port.specs.declared.arrival.Arrival.TheVariants.{End}
 use Rattle.port.proofs.ChunkLaws.{hands_one, hands_first, all_handed}
 use Rattle.port.proofs.RingLaws.{same_id}
 use Rattle.port.proofs.ring_reader.RingReader.advance.Goals as goal
