@@ -6,7 +6,7 @@ use Rattle.feed.specs.declared.publishing_end.PublishingEnd.{Ghosts}
 use Rattle.feed.specs.contracts.feed_writer.FeedWriter as Writer
 use Rattle.feed.proofs.feed_writer.FeedWriter.TheSendSync as WriterCrosses
 use Rattle.station.specs.contracts.station.Station as Station
-use Rattle.station.specs.contracts.inlet.Inlet as Inlet
+use Rattle.inlets.specs.contracts.entry.Entry as Entry
 use Rattle.buffers.specs.contracts.pid_queue.PidQueue as Queue
 use Rattle.buffers.proofs.pid_queue.PidQueue.TheSendSync as QueueCrosses
 use Rattle.plan.specs.contracts.multiplex_plan.Plan as Plan
@@ -18,8 +18,8 @@ use Rattle.port.specs.contracts.ring_end.RingEnd as Ring
 use Rattle.port.proofs.ring_end.RingEnd.TheSendSync as RingCrosses
 use Rattle.broadcast.specs.contracts.broadcast.Broadcast as Broadcast
 
-inlet_of : IsSend Ring.the_row → IsSend Inlet.the_row
-inlet_of ring = search (sendable, crosses) depth 60 fits 1000000
+entry_of : IsSend Ring.the_row → IsSend (Entry.the_row Ring.the_row)
+entry_of ring = search (sendable, crosses) depth 60 fits 1000000
 
 plan_send : IsSend Plan.the_row
 plan_send = search (sendable, crosses) depth 60 fits 1000000
@@ -39,11 +39,11 @@ mux_of plan output input progress queue = search (sendable, crosses) depth 60 fi
 mux_send : IsSend Mux.the_row
 mux_send = mux_of plan_send output_send input_send progress_send QueueCrosses.the_send
 
-station_of : IsSend Mux.the_row → IsSend Inlet.the_row → IsSend Station.the_row
-station_of mux inlet = search (sendable, crosses) depth 60 fits 1000000
+station_of : IsSend Mux.the_row → IsSend (Entry.the_row Ring.the_row) → IsSend Station.the_row
+station_of mux entry = search (sendable, crosses) depth 60 fits 1000000
 
 broadcast_of : (E : RattleType) (g : Ghosts E.Denot) → IsSend Station.the_row → IsSend (Writer.the_row E g) → IsSend (Broadcast.the_row E g)
 broadcast_of E g station writer = search (sendable, crosses) depth 60 fits 1000000
 
 pub broadcast_send : (E : RattleType) (g : Ghosts E.Denot) → IsSend E → IsSend (Broadcast.the_row E g)
-broadcast_send E g end = broadcast_of E g (station_of mux_send (inlet_of RingCrosses.the_send)) (WriterCrosses.the_send E g end)
+broadcast_send E g end = broadcast_of E g (station_of mux_send (entry_of RingCrosses.the_send)) (WriterCrosses.the_send E g end)

@@ -10,8 +10,7 @@ use Rattle.mux.specs.History.{History, with_event, in_force, emitted, slots, pac
 use Rattle.mux.specs.Answers.{SendAnswers}
 use Rattle.emission.proofs.RecurrenceLaws.{last_behind}
 use Rattle.mux.proofs.Emitted.{length-emitted}
-use Rattle.station.specs.declared.inlet.Inlet.{Inlet}
-use Rattle.station.specs.Stations.{StationValue}
+use Rattle.station.specs.Stations.{Input, StationValue}
 use Rattle.station.specs.Moving.{with_taken, MovesIn}
 use Rattle.station.specs.Ticking.{MovesAll, Ticks}
 use Rattle.station.proofs.AdvancingLaws.{Emits, silent, unsent, ends_emits}
@@ -29,7 +28,7 @@ taken_emits i (item ∷ items) a =
     let b = with_event a (Took i item) in
     emits_on a b (with_taken i items b) [] [] (unsent a b (Took i item) refl refl) (taken_emits i items b)
 
-moves_emit : (i most : ℕ) (a : History) (x : Inlet) (b : History) (y : Inlet) (closed : Bool) → MatchBool closed ((b ≡ a) × (y ≡ x)) (MovesIn i most a x b y) → Emits a b []
+moves_emit : (i most : ℕ) (a : History) (x : Input) (b : History) (y : Input) (closed : Bool) → MatchBool closed ((b ≡ a) × (y ≡ x)) (MovesIn i most a x b y) → Emits a b []
 moves_emit i most a x b y true is = silent a b is.0
 moves_emit i most a x b y false m =
     let P : History → Type 0 = λ v. Emits a v [] in
@@ -39,7 +38,7 @@ moves_emit i most a x b y false m =
       | inr most_taken ↦ emits_on a m.between b [] [] took (silent m.between b most_taken.1)
     ]
 
-all_emit : (i most : ℕ) (a : History) (xs : List Inlet) (b : History) (ys : List Inlet) → MovesAll i most a xs b ys → Emits a b []
+all_emit : (i most : ℕ) (a : History) (xs : List Input) (b : History) (ys : List Input) → MovesAll i most a xs b ys → Emits a b []
 all_emit i most a [] b ys is = silent a b is.0
 all_emit i most a (x ∷ xs) b ys is = emits_on a is.0 b [] [] (moves_emit i most a x is.0 is.1 x.is_closed is.4) (all_emit (suc i) most is.0 xs b is.2 is.5)
 

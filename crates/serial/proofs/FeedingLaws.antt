@@ -1,10 +1,8 @@
 -- What an input gives is what the multiplex may take.
-use Rattle.std.proofs.lemmas.Bool.Decides.{nat_tests}
-use Rattle.std.proofs.Common.{ℕ, ◌<◌, ◌≤◌, ◌≡◌, Bool, true, false, nat_eq, nat_lt, ltb, eq-eqb, List, [], ◌∷◌, ◌++◌, length, Option, Some, None, is_some, if◌then◌else◌, ◌||◌, length-append, refl, ap, ◌∙◌, sym, subst, arith, inl, inr, append_assoc}
-use Rattle.std.specs.Option.{option_to_list, unwrap_or}
+use Rattle.std.proofs.Common.{ℕ, ◌<◌, ◌≤◌, ◌≡◌, Bool, true, false, nat_eq, nat_lt, eq-eqb, List, [], ◌∷◌, ◌++◌, length, Option, Some, None, is_some, if◌then◌else◌, ◌||◌, length-append, refl, ap, ◌∙◌, sym, subst, arith, inl, inr, append_assoc}
+use Rattle.std.specs.Option.{option_to_list}
 use Rattle.std.specs.Prelude.{IsSome, Result, Ok, Err, OnOk}
 use Rattle.std.proofs.lemmas.Bool.{cases_Bool, ne_eqb, false≢true}
-use Rattle.std.proofs.lemmas.Option.{same_Some}
 use Rattle.tspkt.specs.Packet.{pid_of}
 use Rattle.tspkt.specs.declared.framer.TheConstants.{MAX_LIMIT}
 use Rattle.tspkt.specs.declared.item.Item.{Item}
@@ -12,19 +10,21 @@ use Rattle.tspkt.specs.declared.item.Item.TheVariants.{Packet, Bad, SyncLoss, Lo
 use Rattle.tspkt.specs.declared.stamped.Stamped.{Stamped}
 use Rattle.request.specs.declared.stream.Stream.{Stream}
 use Rattle.schedule.specs.Schedule.{ScheduleValue, number_for, slot_time}
-use Rattle.schedule.specs.Streams.{all_streams, scheduled_place}
+use Rattle.schedule.specs.Streams.{scheduled_place}
 use Rattle.mux.specs.declared.event.Event.{Event}
 use Rattle.mux.specs.declared.event.Event.TheVariants.{Took, Full, Early, Close, Slot, Switch}
-use Rattle.mux.specs.History.{History, with_event, slots, taken, last_stamp, is_closed, full_noted, early_noted}
+use Rattle.mux.specs.History.{History, with_event, slots, taken, last_stamp, is_closed, full_noted, early_noted, is_mapped_to}
 use Rattle.mux.specs.Plans.{IsMultiplexSchedule}
-use Rattle.mux.specs.Lawful.{is_mapped, is_early, is_queue_full, is_ready}
+use Rattle.mux.specs.Lawful.{is_mapped, is_early, is_ready}
 use Rattle.mux.proofs.Plans.{places_of, of_plan}
-use Rattle.mux.proofs.Refusals.{goes_from, goes_both, unmapped, mapped_at, is_refused_early, is_refused_full, is_unrefused}
-use Rattle.reading.specs.Takeable.{OriginValue, framed_at, takeable, is_well_formed, is_named, place_of_item, stream_number, EndsAtTaken}
+use Rattle.mux.proofs.Refusals.{goes_from, mapped_at}
+use Rattle.reading.specs.Takeable.{OriginValue, framed_at, takeable, is_well_formed, is_named, place_of_item, EndsAtTaken}
 use Rattle.serial.specs.Order.{ComeFrom}
 use Rattle.reading.specs.PacketReading.{HasLooked, ReadsOn, IsSpent, TellsFailures}
-use Rattle.serial.specs.declared.serial_input.SerialInput.{SerialInput}
-use Rattle.serial.specs.Feeding.{IsOrigin, HasGiven, IsOwnStop, Feeds, MayBeTaken, GoesTo, IsUnnoted, IsOfInput, IsGivenOrHeld, turns_left}
+use Rattle.inlets.specs.Notes.{IsOfInput, IsNoted, NotesAreOfNext, NotesAreOfShown}
+use Rattle.inlets.proofs.EventLaws.{of_input}
+use Rattle.inlets.proofs.NoteLaws.{notes_taken, notes_next, notes_closed}
+use Rattle.serial.specs.Feeding.{SerialInput, IsOrigin, HasGiven, IsOwnStop, Feeds, HasFed, FeedsOn, IsGivenOrHeld, turns_left}
 use Rattle.reading.proofs.PacketLaws.{given_inside, released}
 use Rattle.reading.proofs.KnownLaws.{consumes_on}
 use Rattle.serial.proofs.OrderLaws.{come_in_order, fewer_than_bytes}
@@ -51,17 +51,12 @@ named_at : (schedule : ScheduleValue) (origin : OriginValue) (xs ys : List Stamp
 named_at schedule origin [] ys x all = all.0
 named_at schedule origin (y ∷ xs) ys x all = named_at schedule origin xs ys x all.1
 
--- the stream at the place that is looked up is the one that the item goes to
-placed : (s : ScheduleValue) (i : ℕ) (item : Stamped) (place : ℕ) → IsMultiplexSchedule s → scheduled_place s i (pid_of item.packet) item.stamp ≡ Some place → GoesTo s i item place
-placed s i item place ok e =
-    let at = (places_of s ok).some i (pid_of item.packet) item.stamp place e in
-    (at.stream, at.there, goes_from s at.stream i item at.input_is at.pid_is (of_plan s (number_for s item.stamp) at.stream at.in_plan))
-
+-- the input's plan maps an item whose stream's place is found
 some_placed : (s : ScheduleValue) (i : ℕ) (item : Stamped) (o : Option ℕ) → IsMultiplexSchedule s → scheduled_place s i (pid_of item.packet) item.stamp ≡ o → is_some o ≡ true → is_mapped s i item ≡ true
 some_placed s i item None ok e some = cc
 some_placed s i item (Some place) ok e some =
-    let goes = placed s i item place ok e in
-    mapped_at s i item place goes.0 ok goes.1 goes.2
+    let at = (places_of s ok).some i (pid_of item.packet) item.stamp place e in
+    mapped_at s i item place at.stream ok at.there (goes_from s at.stream i item at.input_is at.pid_is (of_plan s (number_for s item.stamp) at.stream at.in_plan))
 
 -- No packet comes before the one that was taken last.
 
@@ -118,63 +113,16 @@ next_in_order p h i o item bytes later ok number rate is =
       later = omega (arith, last, order);
     }
 
--- An item of an input goes to one stream, whose place is looked up.
-
-pub one_input : (s : ScheduleValue) (i j : ℕ) (item : Stamped) (place : ℕ) → GoesTo s i item place → GoesTo s j item place → i ≡ j
-one_input s i j item place a b =
-    let same : a.0 ≡ b.0 = same_Some a.0 b.0 (sym a.1 ∙ b.1) in
-    (goes_both s a.0 i item a.2).0 ∙ ap (λ (st : Stream). st.input) same ∙ sym (goes_both s b.0 j item b.2).0
-
-place_in : (s : ScheduleValue) (i : ℕ) (item : Stamped) (place : ℕ) (found : Option ℕ) → IsMultiplexSchedule s → scheduled_place s i (pid_of item.packet) item.stamp ≡ found
-    → place ≡ unwrap_or found (length (all_streams s)) → is_mapped s i item ≡ true → GoesTo s i item place
-place_in s i item place None ok found e mapped =
-    absurd (false≢true (sym (unmapped s i item (λ st c input pid. (places_of s ok).none i (pid_of item.packet) item.stamp st found c input pid)) ∙ mapped))
-place_in s i item place (Some x) ok found e mapped = let P : ℕ → Type 0 = GoesTo s i item in subst P (sym e) (placed s i item x ok found)
-
-goes_to : (s : ScheduleValue) (o : OriginValue) (i : ℕ) (item : Stamped) (place : ℕ) → IsMultiplexSchedule s → o.number ≡ i → place ≡ stream_number s o item → is_mapped s i item ≡ true → GoesTo s i item place
-goes_to s o i item place ok is e mapped =
-    let P : ℕ → Type 0 = λ k. place ≡ unwrap_or (scheduled_place s k (pid_of item.packet) item.stamp) (length (all_streams s)) in
-    place_in s i item place (scheduled_place s i (pid_of item.packet) item.stamp) ok refl (subst P is e) mapped
-
--- and may be taken
-pub may_be_taken : (s : ScheduleValue) (h : List Event) (i : ℕ) (o : OriginValue) (item : Stamped) → IsMultiplexSchedule s → o.number ≡ i → 0 < o.rate → is_closed i h ≡ false
-    → IsInside s o (taken i h ++ item ∷ []) → MayBeTaken s h i item
-may_be_taken s h i o item ok number rate opened is =
-    let next = next_in_order s h i o item is.0 is.1 ok number rate is.3 in
-    let later : last_stamp i h ≤ item.stamp = next.later in
-    let forward : ltb item.stamp (last_stamp i h) ≡ false = grind (arith, nat_tests) in
-    elim (cases_Bool (is_early s h item)) [
-      | inl e ↦ inr (inl (is_refused_early s h i item opened next.mapped forward e))
-      | inr e ↦
-          elim (cases_Bool (is_queue_full s h i item)) [
-            | inl f ↦ inr (inr (is_refused_full s h i item opened next.mapped forward e f))
-            | inr f ↦ inl (is_unrefused s h i item opened next.mapped forward e f)
-          ]
-    ]
-
 -- Events of one input are nothing to another.
 
 pub taken_other : (i j : ℕ) (e : Event) (h : List Event) → IsOfInput i e → (i ≡ j → ⊥) → taken j (e ∷ h) ≡ taken j h
-taken_other i j (Took k item) h is ne = ap (λ b. if b then taken j h ++ item ∷ [] else taken j h) (ne_eqb k j (λ same. ne (sym is ∙ same)))
-taken_other i j (Full k st) h is ne = refl
-taken_other i j (Early k) h is ne = refl
-taken_other i j (Switch number) h is ne = absurd is
-taken_other i j (Close k) h is ne = refl
-taken_other i j (Slot c) h is ne = absurd is
-
-pub closed_other : (i j : ℕ) (e : Event) (h : List Event) → IsOfInput i e → (i ≡ j → ⊥) → is_closed j (e ∷ h) ≡ is_closed j h
-closed_other i j (Took k item) h is ne = refl
-closed_other i j (Full k st) h is ne = refl
-closed_other i j (Early k) h is ne = refl
-closed_other i j (Switch number) h is ne = absurd is
-closed_other i j (Close k) h is ne = ap (λ b. b || is_closed j h) (ne_eqb k j (λ same. ne (sym is ∙ same)))
-closed_other i j (Slot c) h is ne = absurd is
+taken_other i j e h is ne = (of_input i j e h is (λ same. ne (sym same))).taken_is
 
 -- An input that goes on.
 
 pub given_on : {R : Type 0} (remaining : R → Option (List ℕ)) (p : ScheduleValue) (i : ℕ) (start : Option (List ℕ)) (old new : SerialInput R) (given : List Stamped)
-    → HasGiven remaining p i start old given → ReadsOn remaining p old.reader new.reader → new.reader.origin ≡ old.reader.origin
-    → new.reader.stream.items.limit ≡ old.reader.stream.items.limit → HasGiven remaining p i start new given
+    → HasGiven remaining p i start old given → ReadsOn remaining p old.inlet new.inlet → new.inlet.origin ≡ old.inlet.origin
+    → new.inlet.stream.items.limit ≡ old.inlet.stream.items.limit → HasGiven remaining p i start new given
 given_on remaining p i start old new given has reads origin limit =
     let b = has.read in
     let on = reads b.0 given b.2 in
@@ -182,7 +130,7 @@ given_on remaining p i start old new given has reads origin limit =
     record {
       origin = subst P (sym origin) has.origin;
       limit = omega (arith, limit, has.limit);
-      read = (b.0 ++ on.0, consumes_on start (remaining old.reader.stream.source) (remaining new.reader.stream.source) b.0 on.0 b.1 on.1, on.2);
+      read = (b.0 ++ on.0, consumes_on start (remaining old.inlet.stream.source) (remaining new.inlet.stream.source) b.0 on.0 b.1 on.1, on.2);
     }
 
 is_held : (held : Option Stamped) (item : Stamped) → held ≡ Some item → IsSome held
@@ -190,26 +138,26 @@ is_held held item e = subst IsSome (sym e) refl
 
 -- what an input held was given, and nothing was looked at behind it
 pub given_released : {R : Type 0} (remaining : R → Option (List ℕ)) (p : ScheduleValue) (i : ℕ) (start : Option (List ℕ)) (x : SerialInput R) (given : List Stamped) (item : Stamped)
-    → x.reader.held ≡ Some item → HasGiven remaining p i start x given
-    → (now : HasGiven remaining p i start (record x { reader = record x.reader { held = None } }) (given ++ item ∷ [])) × EndsAtTaken p x.reader.origin now.read.2.0
+    → x.inlet.held ≡ Some item → HasGiven remaining p i start x given
+    → (now : HasGiven remaining p i start (record x { inlet = record x.inlet { held = None } }) (given ++ item ∷ [])) × EndsAtTaken p x.inlet.origin now.read.2.0
 given_released remaining p i start x given item held has =
     let b = has.read in
-    let r = x.reader in
+    let r = x.inlet in
     let now = released remaining p r.origin r.stream r.held r.report b.0 given b.2.0 b.2.1 in
     let P : Option Stamped → Type 0 = λ o. HasLooked remaining p r.origin r.stream None r.report b.0 (given ++ option_to_list o) b.2.0 in
-    (record { origin = has.origin; limit = has.limit; read = (b.0, b.1, (b.2.0, subst P held now)) }, b.2.1.ends (is_held x.reader.held item held))
+    (record { origin = has.origin; limit = has.limit; read = (b.0, b.1, (b.2.0, subst P held now)) }, b.2.1.ends (is_held x.inlet.held item held))
 
 pub some_held : (held : Option Stamped) → IsSome held → (item : Stamped) × (held ≡ Some item)
 some_held None some = let bad : false ≡ true = some in cc
 some_held (Some item) some = (item, refl)
 
 -- what was given isn't too much
-inside_given : {R : Type 0} (remaining : R → Option (List ℕ)) (p : ScheduleValue) (i : ℕ) (start : Option (List ℕ)) (x : SerialInput R) (given : List Stamped)
-    → HasGiven remaining p i start x given → IsInside p x.reader.origin given
+pub inside_given : {R : Type 0} (remaining : R → Option (List ℕ)) (p : ScheduleValue) (i : ℕ) (start : Option (List ℕ)) (x : SerialInput R) (given : List Stamped)
+    → HasGiven remaining p i start x given → IsInside p x.inlet.origin given
 inside_given remaining p i start x given has =
     let b = has.read in
-    let is = given_inside remaining p x.reader b.0 given b.2 in
-    let held = option_to_list x.reader.held in
+    let is = given_inside remaining p x.inlet b.0 given b.2 in
+    let held = option_to_list x.inlet.held in
     (is.0, held ++ is.1, omega (arith, is.2, has.limit), sym (append_assoc given held is.1) ∙ is.3)
 
 or_false : (a b : Bool) → a || b ≡ false → (a ≡ false) × (b ≡ false)
@@ -219,7 +167,7 @@ or_false false b e = (refl, e)
 -- an input for which the multiplex waits is open, and nothing was noted of it
 pub record IsWaitedFor (i : ℕ) (h : List Event) : Type 0 where
   pub open_ : is_closed i h ≡ false
-  pub noted : IsUnnoted i h
+  pub noted : (full_noted i h ≡ false) × (early_noted i h ≡ false)
 
 pub waited_for : (s : ScheduleValue) (i : ℕ) (h : List Event) → is_ready s i h ≡ false → IsWaitedFor i h
 waited_for s i h e =
@@ -229,45 +177,33 @@ waited_for s i h e =
     let two = or_false (is_closed i h) late three.0 in
     record { open_ = two.0; noted = (three.1, parts.1) }
 
-pub next_may_be_taken : {R : Type 0} (remaining : R → Option (List ℕ)) (p : ScheduleValue) (h : List Event) (i : ℕ) (start : Option (List ℕ)) (x : SerialInput R) (item : Stamped)
-    → IsMultiplexSchedule p → is_closed i h ≡ false → HasGiven remaining p i start x (taken i h ++ item ∷ []) → MayBeTaken p h i item
-next_may_be_taken remaining p h i start x item ok opened has =
-    let o = has.origin in
-    let number : x.reader.origin.number ≡ i = ap (λ (v : OriginValue). v.number) o.3 in
-    let rate : x.reader.origin.rate ≡ o.0.rate = ap (λ (v : OriginValue). v.rate) o.3 in
-    let least = o.2.rate.0 in
-    may_be_taken p h i x.reader.origin item ok number (omega (arith, rate, least)) opened (inside_given remaining p i start x (taken i h ++ item ∷ []) has)
+-- one that feeds goes on, and has fed
 
--- and goes to the stream whose place was looked up
-pub next_goes_to : {R : Type 0} (remaining : R → Option (List ℕ)) (p : ScheduleValue) (h : List Event) (i : ℕ) (start : Option (List ℕ)) (x : SerialInput R) (item : Stamped) (number : ℕ)
-    → IsMultiplexSchedule p → HasGiven remaining p i start x (taken i h ++ item ∷ []) → number ≡ stream_number p x.reader.origin item → GoesTo p i item number
-next_goes_to remaining p h i start x item number ok has e =
-    let o = has.origin in
-    let is : x.reader.origin.number ≡ i = ap (λ (v : OriginValue). v.number) o.3 in
-    let rate : x.reader.origin.rate ≡ o.0.rate = ap (λ (v : OriginValue). v.rate) o.3 in
-    let least = o.2.rate.0 in
-    let inside = inside_given remaining p i start x (taken i h ++ item ∷ []) has in
-    let next = next_in_order p h i x.reader.origin item inside.0 inside.1 ok is (omega (arith, rate, least)) inside.3 in
-    goes_to p x.reader.origin i item number ok is e next.mapped
+pub has_fed : {R : Type 0} (remaining : R → Option (List ℕ)) (p : ScheduleValue) (h : List Event) (i : ℕ) (start : Option (List ℕ)) (x : SerialInput R) → Feeds remaining p h i start x → HasFed remaining p h i start x
+has_fed remaining p h i start x f = record { given = f.given; closed = f.closed; over = f.over; notes = f.notes }
+
+pub feeds_on : {R : Type 0} (remaining : R → Option (List ℕ)) (p : ScheduleValue) (h : List Event) (i : ℕ) (start : Option (List ℕ)) (x : SerialInput R) → Feeds remaining p h i start x → FeedsOn remaining p h i start x
+feeds_on remaining p h i start x f = record { fed = has_fed remaining p h i start x f; own = f.own }
 
 -- it is closed in the multiplex, where nothing is left of it
 pub feeds_closed : {R : Type 0} (remaining : R → Option (List ℕ)) (p : ScheduleValue) (h : List Event) (i : ℕ) (start : Option (List ℕ)) (x : SerialInput R)
-    → HasGiven remaining p i start x (taken i h) → IsSpent x.reader → IsOwnStop x.reader.report.stopped → Feeds remaining p (Close i ∷ h) i start (record x { is_closed = true })
-feeds_closed remaining p h i start x has done own = record {
+    → HasGiven remaining p i start x (taken i h) → IsSpent x.inlet → IsOwnStop x.inlet.report.stopped → NotesAreOfShown p i x.inlet.held h → Feeds remaining p (Close i ∷ h) i start (record x { is_closed = true })
+feeds_closed remaining p h i start x has done own notes = record {
   given = record { origin = has.origin; limit = has.limit; read = has.read };
   closed = sym (ap (λ b. b || is_closed i h) (eq-eqb i i refl));
   over = λ e. record { framer = done.framer; ahead = done.ahead; held = done.held };
   own = own;
   stands = λ e. absurd (false≢true (sym e));
+  notes = notes_closed p i x.inlet.held h notes;
 }
 
 -- the packet that it held is taken
 feeds_taken : {R : Type 0} (remaining : R → Option (List ℕ)) (p : ScheduleValue) (h : List Event) (i : ℕ) (start : Option (List ℕ)) (x : SerialInput R) (item : Stamped)
-    → x.reader.held ≡ Some item → HasGiven remaining p i start x (taken i h) → is_closed i h ≡ false → x.is_closed ≡ is_closed i h → IsOwnStop x.reader.report.stopped
-    → Feeds remaining p (Took i item ∷ h) i start (record x { reader = record x.reader { held = None } })
-feeds_taken remaining p h i start x item held has opened closed own =
-    let after = record x { reader = record x.reader { held = None } } in
-    let P : List Stamped → Type 0 = λ xs. (g : HasGiven remaining p i start after xs) × EndsAtTaken p x.reader.origin g.read.2.0 in
+    → x.inlet.held ≡ Some item → HasGiven remaining p i start x (taken i h) → is_closed i h ≡ false → x.is_closed ≡ is_closed i h → IsOwnStop x.inlet.report.stopped → NotesAreOfShown p i (Some item) h
+    → Feeds remaining p (Took i item ∷ h) i start (record x { inlet = record x.inlet { held = None } })
+feeds_taken remaining p h i start x item held has opened closed own notes =
+    let after = record x { inlet = record x.inlet { held = None } } in
+    let P : List Stamped → Type 0 = λ xs. (g : HasGiven remaining p i start after xs) × EndsAtTaken p x.inlet.origin g.read.2.0 in
     let now : taken i (Took i item ∷ h) ≡ taken i h ++ item ∷ [] = ap (λ b. if b then taken i h ++ item ∷ [] else taken i h) (eq-eqb i i refl) in
     let given = subst P (sym now) (given_released remaining p i start x (taken i h) item held has) in
     record {
@@ -276,44 +212,46 @@ feeds_taken remaining p h i start x item held has opened closed own =
       over = λ e. absurd (false≢true (sym opened ∙ sym closed ∙ e));
       own = own;
       stands = λ e. given.1;
+      notes = notes_taken p i item h notes;
     }
 
 -- it is still held
-feeds_full : {R : Type 0} (remaining : R → Option (List ℕ)) (p : ScheduleValue) (h : List Event) (i : ℕ) (start : Option (List ℕ)) (x : SerialInput R) (item : Stamped) (st : Stream)
-    → x.reader.held ≡ Some item → HasGiven remaining p i start x (taken i h) → is_closed i h ≡ false → x.is_closed ≡ is_closed i h → IsOwnStop x.reader.report.stopped → Feeds remaining p (Full i st ∷ h) i start x
-feeds_full remaining p h i start x item st held has opened closed own = record {
-  given = has;
-  closed = closed;
-  over = λ e. absurd (false≢true (sym opened ∙ sym closed ∙ e));
-  own = own;
-  stands = λ e. has.read.2.1.ends (is_held x.reader.held item held);
-}
-
-feeds_early : {R : Type 0} (remaining : R → Option (List ℕ)) (p : ScheduleValue) (h : List Event) (i : ℕ) (start : Option (List ℕ)) (x : SerialInput R) (item : Stamped)
-    → x.reader.held ≡ Some item → HasGiven remaining p i start x (taken i h) → is_closed i h ≡ false → x.is_closed ≡ is_closed i h → IsOwnStop x.reader.report.stopped → Feeds remaining p (Early i ∷ h) i start x
-feeds_early remaining p h i start x item held has opened closed own = record {
-  given = has;
-  closed = closed;
-  over = λ e. absurd (false≢true (sym opened ∙ sym closed ∙ e));
-  own = own;
-  stands = λ e. has.read.2.1.ends (is_held x.reader.held item held);
-}
+feeds_noted : {R : Type 0} (remaining : R → Option (List ℕ)) (p : ScheduleValue) (h : List Event) (i : ℕ) (start : Option (List ℕ)) (x : SerialInput R) (item : Stamped) (e : Event)
+    → taken i (e ∷ h) ≡ taken i h → is_closed i (e ∷ h) ≡ is_closed i h → IsNoted p i e h item → x.inlet.held ≡ Some item → HasGiven remaining p i start x (taken i h) → is_closed i h ≡ false → x.is_closed ≡ is_closed i h
+    → IsOwnStop x.inlet.report.stopped → NotesAreOfShown p i (Some item) h → Feeds remaining p (e ∷ h) i start x
+feeds_noted remaining p h i start x item e taken_is closed_is tells held has opened closed own notes =
+    let P : List Stamped → Type 0 = λ xs. (g : HasGiven remaining p i start x xs) × EndsAtTaken p x.inlet.origin g.read.2.0 in
+    let given = subst P (sym taken_is) (has, has.read.2.1.ends (is_held x.inlet.held item held)) in
+    let N : List Stamped × Option Stamped → Type 0 = λ v. NotesAreOfNext p i (v.0 ++ option_to_list v.1) (e ∷ h) in
+    record {
+      given = given.0;
+      closed = closed ∙ sym closed_is;
+      over = λ shut. absurd (false≢true (sym opened ∙ sym closed ∙ shut));
+      own = own;
+      stands = λ shut. given.1;
+      notes = subst N (λ k. (sym taken_is k, sym held k)) (notes_next p i item e h tells notes);
+    }
 
 pub feeds_given : {R : Type 0} (remaining : R → Option (List ℕ)) (p : ScheduleValue) (before after : History) (i : ℕ) (start : Option (List ℕ)) (x y : SerialInput R) (item : Stamped)
-    → IsGivenOrHeld before after i x y item → x.reader.held ≡ Some item → HasGiven remaining p i start x (taken i before.events) → is_closed i before.events ≡ false
-    → x.is_closed ≡ is_closed i before.events → IsOwnStop x.reader.report.stopped → Feeds remaining p after.events i start y
-feeds_given remaining p before after i start x y item (inl is) held has opened closed own =
+    → IsGivenOrHeld before after i x y item → x.inlet.held ≡ Some item → HasGiven remaining p i start x (taken i before.events) → is_closed i before.events ≡ false
+    → x.is_closed ≡ is_closed i before.events → IsOwnStop x.inlet.report.stopped → NotesAreOfShown p i x.inlet.held before.events → p ≡ before.run.schedule → Feeds remaining p after.events i start y
+feeds_given remaining p before after i start x y item (inl is) held has opened closed own notes same =
     let P : History → Type 0 = λ v. Feeds remaining p v.events i start y in
     let Q : SerialInput _ → Type 0 = Feeds remaining p (Took i item ∷ before.events) i start in
-    subst P (sym is.0) (subst Q (sym is.1) (feeds_taken remaining p before.events i start x item held has opened closed own))
-feeds_given remaining p before after i start x y item (inr (inl is)) held has opened closed own =
+    let O : Option Stamped → Type 0 = λ o. NotesAreOfShown p i o before.events in
+    subst P (sym is.0) (subst Q (sym is.1) (feeds_taken remaining p before.events i start x item held has opened closed own (subst O held notes)))
+feeds_given remaining p before after i start x y item (inr (inl is)) held has opened closed own notes same =
     let P : History → Type 0 = λ v. Feeds remaining p v.events i start y in
     let Q : SerialInput _ → Type 0 = Feeds remaining p (Full i is.0 ∷ before.events) i start in
-    subst P (sym is.1) (subst Q (sym is.2) (feeds_full remaining p before.events i start x item is.0 held has opened closed own))
-feeds_given remaining p before after i start x y item (inr (inr is)) held has opened closed own =
+    let O : Option Stamped → Type 0 = λ o. NotesAreOfShown p i o before.events in
+    let M : ScheduleValue → Type 0 = λ v. is_mapped_to v is.0 i item ≡ true in
+    subst P (sym is.1) (subst Q (sym is.2) (feeds_noted remaining p before.events i start x item (Full i is.0) refl refl (subst M (sym same) is.3) held has opened closed own (subst O held notes)))
+feeds_given remaining p before after i start x y item (inr (inr is)) held has opened closed own notes same =
     let P : History → Type 0 = λ v. Feeds remaining p v.events i start y in
     let Q : SerialInput _ → Type 0 = Feeds remaining p (Early i ∷ before.events) i start in
-    subst P (sym is.0) (subst Q (sym is.1) (feeds_early remaining p before.events i start x item held has opened closed own))
+    let O : Option Stamped → Type 0 = λ o. NotesAreOfShown p i o before.events in
+    let M : ScheduleValue → Type 0 = λ v. is_early v before.events item ≡ true in
+    subst P (sym is.0) (subst Q (sym is.1) (feeds_noted remaining p before.events i start x item (Early i) refl refl (subst M (sym same) is.2) held has opened closed own (subst O held notes)))
 
 -- it is an event of the input, which has the limit and the failures that it had
 
@@ -324,21 +262,26 @@ given_event before after i x y item (inr (inl is)) = (Full i is.0, is.1, refl)
 given_event before after i x y item (inr (inr is)) = (Early i, is.0, refl)
 
 pub given_limit : {R : Type 0} (before after : History) (i : ℕ) (x y : SerialInput R) (item : Stamped) → IsGivenOrHeld before after i x y item
-    → y.reader.stream.items.limit ≡ x.reader.stream.items.limit
-given_limit before after i x y item (inl is) = ap (λ (v : SerialInput _). v.reader.stream.items.limit) is.1
-given_limit before after i x y item (inr (inl is)) = ap (λ (v : SerialInput _). v.reader.stream.items.limit) is.2
-given_limit before after i x y item (inr (inr is)) = ap (λ (v : SerialInput _). v.reader.stream.items.limit) is.1
+    → y.inlet.stream.items.limit ≡ x.inlet.stream.items.limit
+given_limit before after i x y item (inl is) = ap (λ (v : SerialInput _). v.inlet.stream.items.limit) is.1
+given_limit before after i x y item (inr (inl is)) = ap (λ (v : SerialInput _). v.inlet.stream.items.limit) is.2
+given_limit before after i x y item (inr (inr is)) = ap (λ (v : SerialInput _). v.inlet.stream.items.limit) is.1
+
+pub given_source : {R : Type 0} (before after : History) (i : ℕ) (x y : SerialInput R) (item : Stamped) → IsGivenOrHeld before after i x y item → y.inlet.stream.source ≡ x.inlet.stream.source
+given_source before after i x y item (inl is) = ap (λ (v : SerialInput _). v.inlet.stream.source) is.1
+given_source before after i x y item (inr (inl is)) = ap (λ (v : SerialInput _). v.inlet.stream.source) is.2
+given_source before after i x y item (inr (inr is)) = ap (λ (v : SerialInput _). v.inlet.stream.source) is.1
 
 pub given_failures : {R : Type 0} (failures : R → ℕ) (count : ℕ) (before after : History) (i : ℕ) (x y : SerialInput R) (item : Stamped) → IsGivenOrHeld before after i x y item
-    → TellsFailures failures count x.reader → TellsFailures failures count y.reader
+    → TellsFailures failures count x.inlet → TellsFailures failures count y.inlet
 given_failures failures count before after i x y item (inl is) tells =
-    let P : SerialInput _ → Type 0 = λ v. TellsFailures failures count v.reader in
+    let P : SerialInput _ → Type 0 = λ v. TellsFailures failures count v.inlet in
     subst P (sym is.1) (record { unfailed = tells.unfailed; told = tells.told; untold = tells.untold })
 given_failures failures count before after i x y item (inr (inl is)) tells =
-    let P : SerialInput _ → Type 0 = λ v. TellsFailures failures count v.reader in
+    let P : SerialInput _ → Type 0 = λ v. TellsFailures failures count v.inlet in
     subst P (sym is.2) tells
 given_failures failures count before after i x y item (inr (inr is)) tells =
-    let P : SerialInput _ → Type 0 = λ v. TellsFailures failures count v.reader in
+    let P : SerialInput _ → Type 0 = λ v. TellsFailures failures count v.inlet in
     subst P (sym is.1) tells
 
 -- there is a turn less
@@ -352,8 +295,11 @@ fewer_noted i st h none = rw (eq-eqb i i refl, none) (omega arith)
 fewer_early : (i : ℕ) (h : List Event) → early_noted i h ≡ false → turns_left i (Early i ∷ h) < turns_left i h
 fewer_early i h none = rw (eq-eqb i i refl, none) (omega arith)
 
+pub fewer_closed : (i : ℕ) (h : List Event) → is_closed i h ≡ false → turns_left i (Close i ∷ h) < turns_left i h
+fewer_closed i h opened = rw (eq-eqb i i refl, opened) (omega arith)
+
 pub fewer : {R : Type 0} (before after : History) (i : ℕ) (x y : SerialInput R) (item : Stamped) → IsGivenOrHeld before after i x y item
-    → length (taken i before.events ++ item ∷ []) ≤ MAX_LIMIT → IsUnnoted i before.events → turns_left i after.events < turns_left i before.events
+    → length (taken i before.events ++ item ∷ []) ≤ MAX_LIMIT → (full_noted i before.events ≡ false) × (early_noted i before.events ≡ false) → turns_left i after.events < turns_left i before.events
 fewer before after i x y item (inl is) within none =
     let P : History → Type 0 = λ v. turns_left i v.events < turns_left i before.events in
     subst P (sym is.0) (fewer_taken i item before.events within)
@@ -366,7 +312,7 @@ fewer before after i x y item (inr (inr is)) within none =
 
 pub few_given : {R : Type 0} (remaining : R → Option (List ℕ)) (p : ScheduleValue) (i : ℕ) (start : Option (List ℕ)) (x : SerialInput R) (given : List Stamped)
     → HasGiven remaining p i start x given → length given ≤ MAX_LIMIT
-few_given remaining p i start x given has = few p x.reader.origin given (inside_given remaining p i start x given has)
+few_given remaining p i start x given has = few p x.inlet.origin given (inside_given remaining p i start x given has)
 
 -- from two clauses of a result
 pub on_ok_two : {T E P Q S : Type 0} (r : Result T E) → OnOk r P → OnOk r Q → (P → Q → S) → OnOk r S

@@ -4,9 +4,11 @@ pub mod FeedingLaws
 pub mod GivingLaws
 pub mod RunningLaws
 pub mod WaitingLaws
+pub mod TurnLaws
 pub mod OpeningLaws
 pub mod FaultBounds
 pub mod SoundLaws
 pub mod OutcomeLaws
 pub mod HaltedLaws
 pub mod OutputLaws
+pub mod StepLaws

@@ -3,7 +3,7 @@ use Rattle.std.proofs.Common.{ℕ, zero, suc, ◌<◌, ◌≤◌, ◌≡◌, ◌
 use Rattle.std.specs.List.{slice_get}
 use Rattle.std.proofs.lemmas.List.{length-append}
 use Rattle.std.proofs.lemmas.Option.{same_Some, slice_get_within, slice_get_cases, slice_get-map}
-use Rattle.std.specs.Option.{option_map}
+use Rattle.std.specs.Option.{option_map, option_to_list}
 use Rattle.std.specs.Io.KnownBytes.{Consumes}
 use Rattle.std.proofs.KnownBytes.{Consumes-nil}
 use Rattle.request.specs.Request.{InputValue, IsInput, input_value}
@@ -21,13 +21,12 @@ use Rattle.tspkt.specs.Framed.{framed, framed_from}
 use Rattle.tspkt.specs.declared.framer.TheConstants.{MAX_LIMIT}
 use Rattle.mux.specs.declared.event.Event.{Event}
 use Rattle.mux.specs.History.{History, opened, emitted}
-use Rattle.serial.specs.Feeding.{AreLimited, AllTellFailures}
-use Rattle.serial.specs.Giving.{TakesInOrder}
+use Rattle.serial.specs.Feeding.{SerialInput, AreLimited, AllTellFailures}
+use Rattle.inlets.proofs.NoteLaws.{notes_none}
 use Rattle.outlet.specs.Sending.{HasAnalysed}
 use Rattle.serial.specs.Opening.{IsOpened, AreOpened}
 use Rattle.serial.specs.Running.{AreFed, IsRunning, TakesAsNeeded}
 use Rattle.serial.specs.declared.serial_run.SerialRun.{SerialRun}
-use Rattle.serial.specs.declared.serial_input.SerialInput.{SerialInput}
 
 -- an element of a list with one more stands in the list, or is the last
 pub push_cases : {X : Type 0} (xs : List X) (y : X) (i : ℕ) (x : X) → slice_get (xs ++ y ∷ []) i ≡ Some x → (slice_get xs i ≡ Some x) ⊎ ((i ≡ length xs) × (x ≡ y))
@@ -79,7 +78,7 @@ pub told_of_opened : {R : Type 0} (remaining : R → Option (List ℕ)) (failure
     → AreOpened remaining failures limit p readers inputs → AllTellFailures failures (map failures readers) inputs
 told_of_opened remaining failures limit p readers inputs are i x before at from =
     let r = from_map failures readers i before from in
-    let P : ℕ → Type 0 = λ n. TellsFailures failures n x.reader in
+    let P : ℕ → Type 0 = λ n. TellsFailures failures n x.inlet in
     subst P r.2 ((are.each i r.0 x r.1 at).told)
 
 pub limited_of_opened : {R : Type 0} (remaining : R → Option (List ℕ)) (failures : R → ℕ) (limit : InputLimit) (p : ScheduleValue) (readers : List R) (inputs : List (SerialInput R))
@@ -112,8 +111,8 @@ nothing_looked remaining p x h =
     append_none h.0 b.0 (b.1 ∙ framed_none (stride_at x.origin))
 
 pub opened_input : {R : Type 0} (remaining : R → Option (List ℕ)) (failures : R → ℕ) (limit : InputLimit) (p : ScheduleValue) (i : ℕ) (input : InputValue) (reader : R) (x : SerialInput R)
-    → slice_get p.first.request.inputs i ≡ Some input → IsInput input → x.reader.origin ≡ origin_of i input → limit_of_input limit input.format ≤ MAX_LIMIT → x.reader.stream.items.limit ≡ limit_of_input limit input.format → x.reader.stream.source ≡ reader
-    → x.reader.report ≡ nothing_counted → x.is_closed ≡ false → HasRead remaining p x.reader [] [] → TellsFailures failures (failures reader) x.reader → IsOpened remaining failures limit p i reader x
+    → slice_get p.first.request.inputs i ≡ Some input → IsInput input → x.inlet.origin ≡ origin_of i input → limit_of_input limit input.format ≤ MAX_LIMIT → x.inlet.stream.items.limit ≡ limit_of_input limit input.format → x.inlet.stream.source ≡ reader
+    → x.inlet.report ≡ nothing_counted → x.is_closed ≡ false → HasRead remaining p x.inlet [] [] → TellsFailures failures (failures reader) x.inlet → IsOpened remaining failures limit p i reader x
 opened_input {R} remaining failures limit p i input reader x at is origin most size source report opened read tells =
     let C : R → Type 0 = λ v. Consumes (remaining reader) (remaining v) [] in
     record {
@@ -126,7 +125,8 @@ opened_input {R} remaining failures limit p i input reader x at is origin most s
         closed = opened;
         over = λ e. (let bad = sym opened ∙ e in cc);
         own = record { unleft = λ e. (let bad = sym (ap (λ v. v.stopped) report) ∙ e in cc); unrefused = λ e. (let bad = sym (ap (λ v. v.stopped) report) ∙ e in cc) };
-        stands = λ e. inl (nothing_looked remaining p x.reader read);
+        stands = λ e. inl (nothing_looked remaining p x.inlet read);
+        notes = notes_none p i (option_to_list x.inlet.held);
       };
       limited = λ other there. size ∙ ap (λ (v : InputValue). limit_of_input limit v.format) (same_Some input other (sym at ∙ there));
       told = tells;
@@ -139,14 +139,12 @@ pub runs_opened : {R : Type 0} (remaining : R → Option (List ℕ)) (failures :
 runs_opened remaining failures limit p slots readers r mux count are piece analysed =
     let none : [] ≡ r.mux.events = sym (ap (λ (v : History). v.events) mux) in
     let F : List Event → Type 0 = λ h. AreFed remaining p h (map remaining readers) r.inputs.items in
-    let G : List Event → Type 0 = λ h. TakesInOrder p h r.inputs.items in
     let H : List Event → Type 0 = λ h. HasAnalysed r.output p.first.request.rate p.first.request.watch (emitted p h) in
     record {
       run_is = ap (λ (v : History). v.run) mux;
       fed = subst F none (fed_of_opened remaining failures limit p readers r.inputs.items count are);
       limited = limited_of_opened remaining failures limit p readers r.inputs.items are;
       piece = piece;
-      in_order = subst G none (λ lists may. tt);
       needed = subst (TakesAsNeeded (record { schedule = p; limit = slots })) none tt;
       analysed = subst H none analysed;
     }

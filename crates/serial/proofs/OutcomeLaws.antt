@@ -33,7 +33,7 @@ use Rattle.reading.specs.Takeable.{OriginValue, stride_at, framed_at, takeable, 
 use Rattle.reading.specs.InputLimit.{limit_of_input}
 use Rattle.reading.specs.PacketReading.{BeginsTakeable, CountsTold}
 use Rattle.reading.specs.StreamReading.{BeginsFramed}
-use Rattle.serial.specs.Feeding.{Feeds, AreUnrefused, AreLimited, AllTellFailures, packet_lists}
+use Rattle.serial.specs.Feeding.{SerialInput, Feeds, AreUnrefused, AreLimited, AllTellFailures, packet_lists}
 use Rattle.serial.specs.Giving.{TakesWhatIsGiven}
 use Rattle.outlet.specs.Written.{Sends, SendsBeginning}
 use Rattle.outlet.specs.Sending.{bytes_of, fault_count}
@@ -46,7 +46,6 @@ use Rattle.reading.specs.declared.input_limit.InputLimit.{InputLimit}
 use Rattle.reading.specs.declared.report.Report.{Report}
 use Rattle.reading.specs.declared.stop.Stop.{Stop}
 use Rattle.reading.specs.declared.stop.Stop.TheVariants.{Gate, Memory, ReadFailed, TooMuch}
-use Rattle.serial.specs.declared.serial_input.SerialInput.{SerialInput}
 use Rattle.serial.specs.declared.summary.InputSummary.{InputSummary}
 use Rattle.serial.specs.declared.summary.Summary.{Summary}
 use Rattle.serial.specs.declared.serial_run.SerialRun.{SerialRun}
@@ -61,11 +60,11 @@ use Rattle.serial.proofs.OpeningLaws.{push_cases, from_map}
 -- ---- the reports
 
 pub reported_push : {R : Type 0} (p : ScheduleValue) (h : List Event) (inputs : List (SerialInput R)) (summaries : List InputSummary) (sources : List R) (x : SerialInput R) (s : InputSummary) (source : R)
-    → AreReported p h inputs summaries sources → source ≡ x.reader.stream.source → IsTotals p (length summaries) h s.totals → IsLast x s.report
+    → AreReported p h inputs summaries sources → source ≡ x.inlet.stream.source → IsTotals p (length summaries) h s.totals → IsLast x s.report
     → AreReported p h (inputs ++ x ∷ []) (summaries ++ s ∷ []) (sources ++ source ∷ [])
 reported_push {R} p h inputs summaries sources x s source are same totals last = record {
   length_is = omega (arith, are.length_is, length-append summaries (s ∷ []), length-append inputs (x ∷ []));
-  sources_are = ap (λ v. v ++ source ∷ []) are.sources_are ∙ ap (λ v. map (λ y. y.reader.stream.source) inputs ++ v ∷ []) same ∙ sym (map-append (λ (y : SerialInput R). y.reader.stream.source) inputs (x ∷ []));
+  sources_are = ap (λ v. v ++ source ∷ []) are.sources_are ∙ ap (λ v. map (λ y. y.inlet.stream.source) inputs ++ v ∷ []) same ∙ sym (map-append (λ (y : SerialInput R). y.inlet.stream.source) inputs (x ∷ []));
   totals = λ i t at.
       elim (push_cases summaries s i t at) [
         | inl there ↦ are.totals i t there
@@ -109,7 +108,7 @@ peaks_push p h count peaks x are next = record {
       ];
 }
 
-open_stopped : {R : Type 0} (x : SerialInput R) (report : Report) (cause : Stop) (stopped : Option Stop) → x.reader.report.stopped ≡ stopped → x.is_closed ≡ false → IsLast x report → report.stopped ≡ Some cause → (cause ≡ Gate → ⊥) → report ≡ x.reader.report
+open_stopped : {R : Type 0} (x : SerialInput R) (report : Report) (cause : Stop) (stopped : Option Stop) → x.inlet.report.stopped ≡ stopped → x.is_closed ≡ false → IsLast x report → report.stopped ≡ Some cause → (cause ≡ Gate → ⊥) → report ≡ x.inlet.report
 open_stopped x report cause None is opened last e other =
     absurd (other (same_Some cause Gate (sym e ∙ ap (λ v. v.stopped) (last.left opened is))))
 open_stopped x report cause (Some s) is opened last e other =
@@ -117,15 +116,15 @@ open_stopped x report cause (Some s) is opened last e other =
     last.stopped (subst P (sym is) refl)
 
 -- what stopped the input stands in its last report, but for the end of the run
-pub stopped_before : {R : Type 0} (x : SerialInput R) (report : Report) (cause : Stop) → IsLast x report → report.stopped ≡ Some cause → (cause ≡ Gate → ⊥) → report ≡ x.reader.report
+pub stopped_before : {R : Type 0} (x : SerialInput R) (report : Report) (cause : Stop) → IsLast x report → report.stopped ≡ Some cause → (cause ≡ Gate → ⊥) → report ≡ x.inlet.report
 stopped_before x report cause last e other =
     elim (cases_Bool x.is_closed) [
       | inl closed ↦ last.closed closed
-      | inr opened ↦ open_stopped x report cause x.reader.report.stopped refl opened last e other
+      | inr opened ↦ open_stopped x report cause x.inlet.report.stopped refl opened last e other
     ]
 
 -- an input that nothing stopped is closed, and its report is the last one
-pub unstopped : {R : Type 0} (x : SerialInput R) (report : Report) (stopped : Option Stop) → x.reader.report.stopped ≡ stopped → IsLast x report → report.stopped ≡ None → (x.is_closed ≡ true) × (report ≡ x.reader.report)
+pub unstopped : {R : Type 0} (x : SerialInput R) (report : Report) (stopped : Option Stop) → x.inlet.report.stopped ≡ stopped → IsLast x report → report.stopped ≡ None → (x.is_closed ≡ true) × (report ≡ x.inlet.report)
 unstopped x report None is last e =
     elim (cases_Bool x.is_closed) [
       | inl closed ↦ (closed, last.closed closed)
@@ -152,33 +151,33 @@ some_read (Some first) (Some more) bytes all e used =
 
 -- the origin of an input that is fed is that of the schedule's input
 origin_same : {R : Type 0} (remaining : R → Option (List ℕ)) (p : ScheduleValue) (h : List Event) (i : ℕ) (input : InputValue) (start : Option (List ℕ)) (x : SerialInput R)
-    → slice_get p.first.request.inputs i ≡ Some input → Feeds remaining p h i start x → x.reader.origin ≡ origin_of i input
+    → slice_get p.first.request.inputs i ≡ Some input → Feeds remaining p h i start x → x.inlet.origin ≡ origin_of i input
 origin_same remaining p h i input start x at f =
     let o = f.given.origin in
     o.3 ∙ ap (origin_of i) (same_Some o.0 input (sym o.1 ∙ at))
 
 pub ended : {R : Type 0} (remaining : R → Option (List ℕ)) (limit : ℕ) (p : ScheduleValue) (h : List Event) (i : ℕ) (input : InputValue) (start : Option (List ℕ)) (x : SerialInput R) (s : InputSummary) (all : List ℕ)
-    → slice_get p.first.request.inputs i ≡ Some input → Feeds remaining p h i start x → x.reader.stream.items.limit ≡ limit → x.is_closed ≡ true → s.report ≡ x.reader.report → s.report.stopped ≡ None → start ≡ Some all
+    → slice_get p.first.request.inputs i ≡ Some input → Feeds remaining p h i start x → x.inlet.stream.items.limit ≡ limit → x.is_closed ≡ true → s.report ≡ x.inlet.report → s.report.stopped ≡ None → start ≡ Some all
     → HasEnded limit p h i input all s
 ended remaining limit p h i input start x s all at f size closed same unstopped known =
     let origin = origin_same remaining p h i input start x at f in
     let r = f.given.read in
     let done = f.over closed in
     let free = ap (λ v. v.stopped) (sym same) ∙ unstopped in
-    let w = whole_read remaining p x.reader r.0 (taken i h) r.2 done free in
-    let few = within_read remaining p x.reader r.0 (taken i h) r.2 (λ e. none-some TooMuch (sym free ∙ e)) in
-    let bytes : all ≡ r.0 = all_read start (remaining x.reader.stream.source) r.0 all known r.1 w.at_end in
+    let w = whole_read remaining p x.inlet r.0 (taken i h) r.2 done free in
+    let few = within_read remaining p x.inlet r.0 (taken i h) r.2 (λ e. none-some TooMuch (sym free ∙ e)) in
+    let bytes : all ≡ r.0 = all_read start (remaining x.inlet.stream.source) r.0 all known r.1 w.at_end in
     let P : List ℕ → Type 0 = λ v. taken i h ≡ takeable p (origin_of i input) (framed_at (origin_of i input) v) in
     let Q : OriginValue → Type 0 = λ v. taken i h ≡ takeable p v (framed_at v r.0) in
     let C : List ℕ → Type 0 = λ v. CountsItems p (origin_of i input) (framed_at (origin_of i input) v) s.report in
     let D : OriginValue → Type 0 = λ v. CountsItems p v (framed_at v r.0) s.report in
-    let E : Report → Type 0 = λ v. CountsItems p x.reader.origin (framed_at x.reader.origin r.0) v in
+    let E : Report → Type 0 = λ v. CountsItems p x.inlet.origin (framed_at x.inlet.origin r.0) v in
     record { within = omega (arith, few, size, ap length bytes); taken_is = subst P (sym bytes) (subst Q origin w.given_is); counts = subst C (sym bytes) (subst D origin (subst E (sym same) w.counts)) }
 
 -- ---- what is said of each input
 
 open_counts : {R : Type 0} (p : ScheduleValue) (o : OriginValue) (items : List Item) (x : SerialInput R) (report : Report) (stopped : Option Stop)
-    → x.reader.report.stopped ≡ stopped → x.is_closed ≡ false → IsLast x report → CountsItems p o items x.reader.report → CountsItems p o items report
+    → x.inlet.report.stopped ≡ stopped → x.is_closed ≡ false → IsLast x report → CountsItems p o items x.inlet.report → CountsItems p o items report
 open_counts p o items x report None is opened last has =
     let C : Report → Type 0 = CountsItems p o items in
     subst C (sym (last.left opened is))
@@ -190,12 +189,12 @@ open_counts p o items x report (Some s) is opened last has =
 
 -- the last report has the counts
 last_counts : {R : Type 0} (p : ScheduleValue) (o : OriginValue) (items : List Item) (x : SerialInput R) (report : Report)
-    → IsLast x report → CountsItems p o items x.reader.report → CountsItems p o items report
+    → IsLast x report → CountsItems p o items x.inlet.report → CountsItems p o items report
 last_counts p o items x report last has =
     let C : Report → Type 0 = CountsItems p o items in
     elim (cases_Bool x.is_closed) [
       | inl closed ↦ subst C (sym (last.closed closed)) has
-      | inr opened ↦ open_counts p o items x report x.reader.report.stopped refl opened last has
+      | inr opened ↦ open_counts p o items x report x.inlet.report.stopped refl opened last has
     ]
 
 -- what begins the framing of the bytes that were read begins that of all bytes
@@ -217,7 +216,7 @@ left_open remaining p h i start x report f last e =
     ]
 
 -- what stopped an input before stands in its last report
-stopped_still : {R : Type 0} (x : SerialInput R) (report : Report) (cause : Stop) → IsLast x report → x.reader.report.stopped ≡ Some cause → report.stopped ≡ Some cause
+stopped_still : {R : Type 0} (x : SerialInput R) (report : Report) (cause : Stop) → IsLast x report → x.inlet.report.stopped ≡ Some cause → report.stopped ≡ Some cause
 stopped_still x report cause last e =
     let P : Option Stop → Type 0 = IsSome in
     ap (λ v. v.stopped) (last.stopped (subst P (sym e) refl)) ∙ e
@@ -229,28 +228,28 @@ counted remaining p h i input start x s all at f last known =
     let r = f.given.read in
     let items = r.2.0 in
     let has = r.2.1 in
-    let begins = looked_framed remaining p x.reader r.0 (taken i h) r.2 in
-    let framing = framed_all (stride_at x.reader.origin) start (remaining x.reader.stream.source) r.0 all items known r.1 begins in
+    let begins = looked_framed remaining p x.inlet r.0 (taken i h) r.2 in
+    let framing = framed_all (stride_at x.inlet.origin) start (remaining x.inlet.stream.source) r.0 all items known r.1 begins in
     let C : OriginValue → Type 0 = λ v. CountsItems p v items s.report in
     record {
       looked = items;
       later = framing.0;
       framing = framing.1 ∙ ap (λ v. framed_at v all) origin;
-      counts = subst C origin (last_counts p x.reader.origin items x s.report last has.counts);
-      held = x.reader.held;
+      counts = subst C origin (last_counts p x.inlet.origin items x s.report last has.counts);
+      held = x.inlet.held;
       taken_is = ap (λ v. takeable p v items) (sym origin) ∙ has.given_is;
       closed = λ e. (f.over (f.closed ∙ e)).held;
       left = λ e. (let E : OriginValue → Type 0 = λ v. EndsAtTaken p v items in subst E origin (f.stands (left_open remaining p h i start x s.report f last e)));
     }
 
 pub input_summary : {R : Type 0} (remaining : R → Option (List ℕ)) (limit : ℕ) (p : ScheduleValue) (h : List Event) (i : ℕ) (input : InputValue) (start : Option (List ℕ)) (x : SerialInput R) (s : InputSummary)
-    → slice_get p.first.request.inputs i ≡ Some input → Feeds remaining p h i start x → x.reader.stream.items.limit ≡ limit → IsTotals p i h s.totals → IsLast x s.report
+    → slice_get p.first.request.inputs i ≡ Some input → Feeds remaining p h i start x → x.inlet.stream.items.limit ≡ limit → IsTotals p i h s.totals → IsLast x s.report
     → IsInputSummary limit p h i input start s
 input_summary remaining limit p h i input start x s at f size totals last = record {
   totals = totals;
-  closed = λ e. sym f.closed ∙ (unstopped x s.report x.reader.report.stopped refl last e).0;
+  closed = λ e. sym f.closed ∙ (unstopped x s.report x.inlet.report.stopped refl last e).0;
   ended = λ e all known.
-      let u = unstopped x s.report x.reader.report.stopped refl last e in
+      let u = unstopped x s.report x.inlet.report.stopped refl last e in
       ended remaining limit p h i input start x s all at f size u.0 u.1 e known;
   counted = λ all known. counted remaining p h i input start x s all at f last known;
   left = λ e. sym f.closed ∙ left_open remaining p h i start x s.report f last e;
@@ -260,44 +259,44 @@ input_summary remaining limit p h i input start x s at f size totals last = reco
   too_much = λ e all known.
       let same = stopped_before x s.report TooMuch last e (λ bad. cc) in
       let r = f.given.read in
-      let much = too_much remaining p x.reader r.0 (taken i h) r.2 (ap (λ v. v.stopped) (sym same) ∙ e) in
-      let some = some_read start (remaining x.reader.stream.source) r.0 all known r.1 in
+      let much = too_much remaining p x.inlet r.0 (taken i h) r.2 (ap (λ v. v.stopped) (sym same) ∙ e) in
+      let some = some_read start (remaining x.inlet.stream.source) r.0 all known r.1 in
       omega (arith, much, some, size);
 }
 
 -- the source of an input was read on
 read_on : {R : Type 0} (remaining : R → Option (List ℕ)) (limit : ℕ) (p : ScheduleValue) (h : List Event) (i : ℕ) (input : InputValue) (start : Option (List ℕ)) (x : SerialInput R) (s : InputSummary)
-    → slice_get p.first.request.inputs i ≡ Some input → Feeds remaining p h i start x → x.reader.stream.items.limit ≡ limit → IsLast x s.report → IsReadOn limit p h i input start (remaining x.reader.stream.source) s
+    → slice_get p.first.request.inputs i ≡ Some input → Feeds remaining p h i start x → x.inlet.stream.items.limit ≡ limit → IsLast x s.report → IsReadOn limit p h i input start (remaining x.inlet.stream.source) s
 read_on remaining limit p h i input start x s at f size last =
     let r = f.given.read in
     let B : OriginValue → Type 0 = λ v. BeginsTakeable p v r.0 (taken i h) in
     record {
       bytes = r.0;
       read = r.1;
-      begins = subst B (origin_same remaining p h i input start x at f) (given_begins remaining p x.reader r.0 (taken i h) r.2);
+      begins = subst B (origin_same remaining p h i input start x at f) (given_begins remaining p x.inlet r.0 (taken i h) r.2);
       ended = λ e.
-          let u = unstopped x s.report x.reader.report.stopped refl last e in
+          let u = unstopped x s.report x.inlet.report.stopped refl last e in
           let done = f.over u.0 in
-          (whole_read remaining p x.reader r.0 (taken i h) r.2 done (ap (λ v. v.stopped) (sym u.1) ∙ e)).at_end;
+          (whole_read remaining p x.inlet r.0 (taken i h) r.2 done (ap (λ v. v.stopped) (sym u.1) ∙ e)).at_end;
       too_much = λ e.
           let same = stopped_before x s.report TooMuch last e (λ bad. cc) in
-          let much = too_much remaining p x.reader r.0 (taken i h) r.2 (ap (λ v. v.stopped) (sym same) ∙ e) in
+          let much = too_much remaining p x.inlet r.0 (taken i h) r.2 (ap (λ v. v.stopped) (sym same) ∙ e) in
           omega (arith, much, size);
       within = λ other.
-          let few = within_read remaining p x.reader r.0 (taken i h) r.2 (λ e. other (stopped_still x s.report TooMuch last e)) in
+          let few = within_read remaining p x.inlet r.0 (taken i h) r.2 (λ e. other (stopped_still x s.report TooMuch last e)) in
           omega (arith, few, size);
       told = λ e.
           let same = stopped_before x s.report ReadFailed last e (λ bad. cc) in
-          let C : OriginValue → Type 0 = λ v. CountsTold p v r.0 (IsAtEnd (remaining x.reader.stream.source)) s.report in
-          let D : Report → Type 0 = λ v. CountsTold p x.reader.origin r.0 (IsAtEnd (remaining x.reader.stream.source)) v in
+          let C : OriginValue → Type 0 = λ v. CountsTold p v r.0 (IsAtEnd (remaining x.inlet.stream.source)) s.report in
+          let D : Report → Type 0 = λ v. CountsTold p x.inlet.origin r.0 (IsAtEnd (remaining x.inlet.stream.source)) v in
           subst C (origin_same remaining p h i input start x at f)
-          (subst D (sym same) (counts_told remaining p x.reader r.0 (taken i h) r.2 (ap (λ v. v.stopped) (sym same) ∙ e)));
+          (subst D (sym same) (counts_told remaining p x.inlet r.0 (taken i h) r.2 (ap (λ v. v.stopped) (sym same) ∙ e)));
       failed = λ e closed.
           let same = stopped_before x s.report ReadFailed last e (λ bad. cc) in
           let done = f.over (f.closed ∙ closed) in
           let O : OriginValue → Type 0 = λ v. taken i h ≡ takeable p v (framed_at v r.0) in
           subst O (origin_same remaining p h i input start x at f)
-          (failed_read remaining p x.reader r.0 (taken i h) r.2 done (ap (λ v. v.stopped) (sym same) ∙ e));
+          (failed_read remaining p x.inlet r.0 (taken i h) r.2 done (ap (λ v. v.stopped) (sym same) ∙ e));
     }
 
 pub all_read_on : {R : Type 0} (remaining : R → Option (List ℕ)) (limit : InputLimit) (p : ScheduleValue) (h : List Event) (starts : List (Option (List ℕ))) (inputs : List (SerialInput R)) (summaries : List InputSummary) (sources : List R)
@@ -305,7 +304,7 @@ pub all_read_on : {R : Type 0} (remaining : R → Option (List ℕ)) (limit : In
 all_read_on {R} remaining limit p h starts inputs summaries sources fed limited are i input start left s at from to told =
     let l = from_map remaining sources i left to in
     let M : List R → Type 0 = λ v. slice_get v i ≡ Some l.0 in
-    let m = from_map (λ (y : SerialInput R). y.reader.stream.source) inputs i l.0 (subst M are.sources_are l.1) in
+    let m = from_map (λ (y : SerialInput R). y.inlet.stream.source) inputs i l.0 (subst M are.sources_are l.1) in
     let x = m.0 in
     let f = fed.each i x m.1 in
     let P : Option (List ℕ) → Type 0 = λ v. Feeds remaining p h i v x in
@@ -317,7 +316,7 @@ all_read_on {R} remaining limit p h starts inputs summaries sources fed limited 
 -- ---- what each input gave
 
 -- what is told of its stop
-told_stop : {R : Type 0} (x : SerialInput R) (s : InputSummary) → IsLast x s.report → IsToldStop (Some s.report.stopped) x.reader.report.stopped
+told_stop : {R : Type 0} (x : SerialInput R) (s : InputSummary) → IsLast x s.report → IsToldStop (Some s.report.stopped) x.inlet.report.stopped
 told_stop x s last = record {
   failed = λ e. ap Some (stopped_still x s.report ReadFailed last e);
   too_much = λ e. ap Some (stopped_still x s.report TooMuch last e);
@@ -331,13 +330,13 @@ pub ended_here : {R : Type 0} (remaining : R → Option (List ℕ)) (p : Schedul
     → (i : ℕ) (x : SerialInput R) → slice_get inputs i ≡ Some x → HasEndedHere remaining p h starts (map remaining sources) (stops_of summaries) i x
 ended_here {R} remaining p h starts inputs summaries sources fed are i x at =
     let f = fed.each i x at in
-    let source : SerialInput R → R = λ y. y.reader.stream.source in
+    let source : SerialInput R → R = λ y. y.inlet.stream.source in
     let stop : InputSummary → Option Stop = λ v. v.report.stopped in
-    let T : Option (Option Stop) → Type 0 = λ v. IsToldStop v x.reader.report.stopped in
+    let T : Option (Option Stop) → Type 0 = λ v. IsToldStop v x.inlet.report.stopped in
     record {
       start = f.0;
       from = f.1;
-      fed = record { given = f.2.given; closed = f.2.closed; over = f.2.over };
+      fed = record { given = f.2.given; closed = f.2.closed; over = f.2.over; notes = f.2.notes };
       left = slice_get-map remaining sources i ∙ ap (λ v. option_map remaining (slice_get v i)) are.sources_are ∙ ap (option_map remaining) (slice_get-map source inputs i ∙ ap (option_map source) at);
       told = elim (slice_get_cases summaries i).1 [
         | inl found ↦ subst T (sym (slice_get-map stop summaries i ∙ ap (option_map stop) found.2)) (told_stop x found.0 (are.reports i x found.0 at found.2))
@@ -357,7 +356,7 @@ pub failures_told : {R : Type 0} (failures : R → ℕ) (p : ScheduleValue) (h :
     → AllTellFailures failures (map failures before) inputs → AreReported p h inputs summaries after → FailuresAreTold failures before after summaries
 failures_told {R} failures p h inputs summaries before after tell are i s old new ats atb ata =
     let M : List R → Type 0 = λ v. slice_get v i ≡ Some new in
-    let m = from_map (λ (y : SerialInput R). y.reader.stream.source) inputs i new (subst M are.sources_are ata) in
+    let m = from_map (λ (y : SerialInput R). y.inlet.stream.source) inputs i new (subst M are.sources_are ata) in
     let x = m.0 in
     let last = are.reports i x s m.1 ats in
     let told = tell i x (failures old) m.1 (slice_get-map failures before i ∙ ap (option_map failures) atb) in
@@ -421,7 +420,7 @@ has_run remaining run limit starts r before after s sources few is over sound wr
       begun = begun remaining run.schedule h starts r.inputs.items is.fed;
       faithful = λ known.
           takes_what_is_given remaining run.schedule h starts (map remaining sources) (stops_of s.inputs.items) r.inputs.items is.fed.count
-          (ended_here remaining run.schedule h starts r.inputs.items s.inputs.items sources is.fed are) known is.in_order;
+          (ended_here remaining run.schedule h starts r.inputs.items s.inputs.items sources is.fed are) known sound_run.schedule sound_run.run.lawful;
       summary = record {
         length_is = are.length_is ∙ is.fed.count;
         inputs = summary_input remaining limit run.schedule h starts r.inputs.items s.inputs.items sources is.fed is.limited are;
@@ -494,7 +493,7 @@ of_memory run_faults.Memory other = refl
 
 -- what is left of a failed run's input
 abbrev left_of : {R : Type 0} → SerialInput R → R × Option Stop
-left_of x = (x.reader.stream.source, x.reader.report.stopped)
+left_of x = (x.inlet.stream.source, x.inlet.report.stopped)
 
 halted_here : {R : Type 0} (remaining : R → Option (List ℕ)) (limit : InputLimit) (p : ScheduleValue) (h : List Event) (starts : List (Option (List ℕ))) (inputs : List (SerialInput R)) → AreHalted remaining limit p h starts inputs
     → (i : ℕ) (x : SerialInput R) → slice_get inputs i ≡ Some x
@@ -506,14 +505,14 @@ halted_here {R} remaining limit p h starts inputs are i x at =
     let stop : R × Option Stop → Option Stop = λ left. left.1 in
     let origin = f.2.given.origin in
     let halted = are.each i origin.0 f.0 x origin.1 f.1 at in
-    let T : Option (Option Stop) → Type 0 = λ v. IsToldStop v x.reader.report.stopped in
+    let T : Option (Option Stop) → Type 0 = λ v. IsToldStop v x.inlet.report.stopped in
     record {
       start = f.0;
       from = f.1;
       fed = f.2;
       left = slice_get-map bytes (map left_of inputs) i ∙ ap (option_map bytes) here;
       told = subst T (sym (slice_get-map stop (map left_of inputs) i ∙ ap (option_map stop) here))
-          (record { failed = λ e. ap Some e; too_much = λ e. ap Some e; was_failed = λ e. same_Some x.reader.report.stopped (Some ReadFailed) e });
+          (record { failed = λ e. ap Some e; too_much = λ e. ap Some e; was_failed = λ e. same_Some x.inlet.report.stopped (Some ReadFailed) e });
       unleft = halted.unleft;
       refused = λ e. open_unready p i h (halted.refused e);
     }
@@ -538,9 +537,10 @@ has_begun {R} remaining failures run limit readers r before after fault size sam
     let inputs = r.inputs.items in
     let starts = map remaining readers in
     let S : Run → Type 0 = λ v. IsSound (record { run = v; events = h }) in
+    let whole = subst S same sound in
     let start_at : (i : ℕ) (old : R) → slice_get readers i ≡ Some old → slice_get starts i ≡ Some (remaining old) = λ i old from. slice_get-map remaining readers i ∙ ap (option_map remaining) from in
     record {
-      sound = subst S same sound;
+      sound = whole;
       begun = halted_begun remaining limit run.schedule h starts inputs are;
       written = written;
       lefts = map left_of inputs;
@@ -558,11 +558,11 @@ has_begun {R} remaining failures run limit readers r before after fault size sam
           let l = from_map left_of inputs i left at in
           let f = are.fed i l.0 l.1 in
           let P : R × Option Stop → Type 0 = λ v. (bytes : List ℕ) × Consumes (remaining old) (remaining v.0) bytes in
-          let Q : Option (List ℕ) → Type 0 = λ v. (bytes : List ℕ) × Consumes v (remaining l.0.reader.stream.source) bytes in
+          let Q : Option (List ℕ) → Type 0 = λ v. (bytes : List ℕ) × Consumes v (remaining l.0.inlet.stream.source) bytes in
           subst P l.2 (subst Q (same_Some f.0 (remaining old) (sym f.1 ∙ start_at i old from)) (f.2.given.read.0, f.2.given.read.1));
       faithful = λ known.
           takes_what_is_given remaining run.schedule h starts (map (λ left. remaining left.0) (map left_of inputs)) (map (λ left. left.1) (map left_of inputs)) inputs are.count
-          (halted_here remaining limit run.schedule h starts inputs are) known are.in_order;
+          (halted_here remaining limit run.schedule h starts inputs are) known whole.schedule whole.run.lawful;
       refused = λ i left at e.
           let l = from_map left_of inputs i left at in
           of_memory fault (λ write. unrefused write i l.0 l.1 (ap (λ (v : R × Option Stop). v.1) l.2 ∙ e));

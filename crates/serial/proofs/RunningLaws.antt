@@ -20,8 +20,10 @@ use Rattle.mux.specs.declared.sending.Sending.TheVariants as sending
 use Rattle.mux.specs.Answers.{SlotAnswers, SendAnswers, IsLeastUnready}
 use Rattle.mux.proofs.Force.{due_is}
 use Rattle.tspkt.specs.declared.stamped.Stamped.{Stamped}
-use Rattle.serial.specs.Feeding.{HasGiven, Feeds, AreLimited, IsOfInput, turns_left}
-use Rattle.serial.specs.Giving.{TakesInOrder, KeepOrder}
+use Rattle.serial.specs.Feeding.{SerialInput, HasGiven, Feeds, AreLimited, turns_left}
+use Rattle.inlets.specs.Notes.{IsOfInput}
+use Rattle.inlets.proofs.EventLaws.{of_input, slot_spares, switch_spares, emitted_same}
+use Rattle.inlets.proofs.NoteLaws.{notes_spared}
 use Rattle.serial.specs.Running.{AreFed, AreBegun, IsRunning, WaitsFor, IsNeeded, TakesAsNeeded, steps_left}
 use Rattle.outlet.specs.Sending.{bytes_of, HasAnalysed}
 use Rattle.outlet.specs.Written.{Sends, SendsBeginning}
@@ -33,17 +35,7 @@ use Rattle.std.proofs.Common.{false}
 use Rattle.outlet.specs.declared.slot_writer.SlotWriter.{SlotWriter}
 use Rattle.serial.specs.declared.serial_run.SerialRun.{SerialRun}
 use Rattle.outlet.proofs.KnownLaws.{appends_on}
-use Rattle.serial.specs.declared.serial_input.SerialInput.{SerialInput}
-use Rattle.serial.proofs.FeedingLaws.{taken_other, closed_other}
-
--- an event of an input sends nothing
-pub emitted_same : (p : ScheduleValue) (i : ℕ) (e : Event) (h : List Event) → IsOfInput i e → emitted p (e ∷ h) ≡ emitted p h
-emitted_same p i (Took j item) h is = refl
-emitted_same p i (Full j st) h is = refl
-emitted_same p i (Early j) h is = refl
-emitted_same p i (Switch number) h is = absurd is
-emitted_same p i (Close j) h is = refl
-emitted_same p i (Slot c) h is = absurd is
+use Rattle.serial.proofs.FeedingLaws.{taken_other}
 
 pub slots_same : (i : ℕ) (e : Event) (h : List Event) → IsOfInput i e → slots (e ∷ h) ≡ slots h
 slots_same i (Took j item) h is = refl
@@ -68,7 +60,7 @@ fed_slot remaining p h c starts inputs fed = record {
   count = fed.count;
   each = λ i x at.
       let f = fed.each i x at in
-      (f.0, f.1, record { given = record { origin = f.2.given.origin; limit = f.2.given.limit; read = f.2.given.read }; closed = f.2.closed; over = f.2.over; own = f.2.own; stands = f.2.stands });
+      (f.0, f.1, record { given = record { origin = f.2.given.origin; limit = f.2.given.limit; read = f.2.given.read }; closed = f.2.closed; over = f.2.over; own = f.2.own; stands = f.2.stands; notes = notes_spared p i x.inlet.held h (Slot c) (slot_spares i h c) f.2.notes });
 }
 
 -- nor does a switch
@@ -78,21 +70,23 @@ fed_switch remaining p h number starts inputs fed = record {
   count = fed.count;
   each = λ i x at.
       let f = fed.each i x at in
-      (f.0, f.1, record { given = record { origin = f.2.given.origin; limit = f.2.given.limit; read = f.2.given.read }; closed = f.2.closed; over = f.2.over; own = f.2.own; stands = f.2.stands });
+      (f.0, f.1, record { given = record { origin = f.2.given.origin; limit = f.2.given.limit; read = f.2.given.read }; closed = f.2.closed; over = f.2.over; own = f.2.own; stands = f.2.stands; notes = notes_spared p i x.inlet.held h (Switch number) (switch_spares i h number) f.2.notes });
 }
 
 -- an input goes on, and the others stay
 pub feeds_other : {R : Type 0} (remaining : R → Option (List ℕ)) (p : ScheduleValue) (i j : ℕ) (e : Event) (h : List Event) (start : Option (List ℕ)) (x : SerialInput R)
     → IsOfInput i e → (i ≡ j → ⊥) → Feeds remaining p h j start x → Feeds remaining p (e ∷ h) j start x
 feeds_other {R} remaining p i j e h start x is ne f =
-    let P : List Stamped → Type 0 = λ xs. (g : HasGiven remaining p j start x xs) × (x.is_closed ≡ false → EndsAtTaken p x.reader.origin g.read.2.0) in
-    let same = subst P (sym (taken_other i j e h is ne)) (f.given, f.stands) in
+    let P : List Stamped → Type 0 = λ xs. (g : HasGiven remaining p j start x xs) × (x.is_closed ≡ false → EndsAtTaken p x.inlet.origin g.read.2.0) in
+    let spares = of_input i j e h is (λ same. ne (sym same)) in
+    let same = subst P (sym spares.taken_is) (f.given, f.stands) in
     record {
       given = same.0;
-      closed = f.closed ∙ sym (closed_other i j e h is ne);
+      closed = f.closed ∙ sym spares.closed_is;
       over = f.over;
       own = f.own;
       stands = same.1;
+      notes = notes_spared p j x.inlet.held h e spares f.notes;
     }
 
 -- Sums over the inputs.
@@ -252,36 +246,11 @@ is_switched p old new schedule answer =
       out = ap (emitted p) events;
     }
 
-pub runs_switched : {R : Type 0} (remaining : R → Option (List ℕ)) (run : Run) (limit : InputLimit) (starts : List (Option (List ℕ))) (old : SerialRun R) (mux : History)
-    → IsRunning remaining run limit starts old → SendAnswers old.mux sending.Switched mux → mux.run ≡ old.mux.run → IsRunning remaining run limit starts (record old { mux = mux })
-runs_switched remaining run limit starts old mux is answer same =
-    let p = run.schedule in
-    let switched = is_switched p old.mux mux (ap (λ (v : Run). v.schedule) is.run_is) answer in
-    let F : List Event → Type 0 = λ h. AreFed remaining p h starts old.inputs.items in
-    let A : List (List ℕ) → Type 0 = HasAnalysed old.output p.first.request.rate p.first.request.watch in
-    let T : List Event → Type 0 = λ h. TakesInOrder p h old.inputs.items in
-    record {
-      run_is = same ∙ is.run_is;
-      fed = subst F (sym switched.events) (fed_switch remaining p old.mux.events switched.number starts old.inputs.items is.fed);
-      limited = is.limited;
-      piece = is.piece;
-      in_order = subst T (sym switched.events) is.in_order;
-      needed = subst (TakesAsNeeded run) (sym switched.events) (tt, is.needed);
-      analysed = subst A (sym switched.out) is.analysed;
-    }
-
 pub fewer_switched : (old new : History) → SendAnswers old sending.Switched new → steps_left old.run new.events < steps_left old.run old.events
 fewer_switched old new answer =
     let switched = is_switched old.run.schedule old new refl answer in
     let P : List Event → Type 0 = λ h. steps_left old.run h < steps_left old.run old.events in
     subst P (sym switched.events) (fewer_by_switch old.run old.events switched.number switched.next switched.within)
-
-pub written_switched : (p : ScheduleValue) (old new : History) (before a : Option (List ℕ)) (waiting : List ℕ) → old.run.schedule ≡ p → SendAnswers old sending.Switched new
-    → Sends before a (bytes_of (emitted p old.events)) waiting → Sends before a (bytes_of (emitted p new.events)) waiting
-written_switched p old new before a waiting schedule answer first =
-    let switched = is_switched p old new schedule answer in
-    let P : List ℕ → Type 0 = λ v. Sends before a v waiting in
-    subst P (sym (ap bytes_of switched.out)) first
 
 -- A slot is sent.
 
@@ -304,22 +273,22 @@ is_sent p old new packet schedule answer =
       out = ap (emitted p) events ∙ ap (λ q. emitted p h ++ q ∷ []) (sym packet_is);
     }
 
-pub runs_sent : {R : Type 0} (remaining : R → Option (List ℕ)) (run : Run) (limit : InputLimit) (starts : List (Option (List ℕ))) (old : SerialRun R) (mux : History) (output : SlotWriter) (packet : List ℕ)
-    → IsRunning remaining run limit starts old → SlotAnswers old.mux (Sent packet) mux → mux.run ≡ old.mux.run
-    → ((rate period : ℕ) (sent : List (List ℕ)) → HasAnalysed old.output rate period sent → HasAnalysed output rate period (sent ++ packet ∷ []))
-    → IsRunning remaining run limit starts (record old { mux = mux; output = output })
-runs_sent remaining run limit starts old mux output packet is answer same analysed =
+pub runs_sent : {R : Type 0} (remaining : R → Option (List ℕ)) (run : Run) (limit : InputLimit) (starts : List (Option (List ℕ))) (old new : SerialRun R) (packet : List ℕ)
+    → IsRunning remaining run limit starts old → SlotAnswers old.mux (Sent packet) new.mux → new.mux.run ≡ old.mux.run → new.inputs.items ≡ old.inputs.items → 0 < length new.piece.items
+    → ((rate period : ℕ) (sent : List (List ℕ)) → HasAnalysed old.output rate period sent → HasAnalysed new.output rate period (sent ++ packet ∷ []))
+    → IsRunning remaining run limit starts new
+runs_sent {R} remaining run limit starts old new packet is answer same inputs piece analysed =
     let p = run.schedule in
-    let sent = is_sent p old.mux mux packet (ap (λ (v : Run). v.schedule) is.run_is) answer in
+    let sent = is_sent p old.mux new.mux packet (ap (λ (v : Run). v.schedule) is.run_is) answer in
     let F : List Event → Type 0 = λ h. AreFed remaining p h starts old.inputs.items in
-    let A : List (List ℕ) → Type 0 = HasAnalysed output p.first.request.rate p.first.request.watch in
-    let T : List Event → Type 0 = λ h. TakesInOrder p h old.inputs.items in
+    let G : List (SerialInput R) → Type 0 = λ xs. AreFed remaining p new.mux.events starts xs × AreLimited limit p xs in
+    let A : List (List ℕ) → Type 0 = HasAnalysed new.output p.first.request.rate p.first.request.watch in
+    let kept = subst G (sym inputs) (subst F (sym sent.events) (fed_slot remaining p old.mux.events sent.content starts old.inputs.items is.fed), is.limited) in
     record {
       run_is = same ∙ is.run_is;
-      fed = subst F (sym sent.events) (fed_slot remaining p old.mux.events sent.content starts old.inputs.items is.fed);
-      limited = is.limited;
-      piece = is.piece;
-      in_order = subst T (sym sent.events) is.in_order;
+      fed = kept.0;
+      limited = kept.1;
+      piece = piece;
       needed = subst (TakesAsNeeded run) (sym sent.events) (tt, is.needed);
       analysed = subst A (sym sent.out) (analysed p.first.request.rate p.first.request.watch (emitted p old.mux.events) is.analysed);
     }
@@ -350,8 +319,6 @@ written_sent p old new packet before a b waiting now schedule answer first secon
     subst P (sym (ap bytes_of sent.out ∙ bytes_push (emitted p old.events) packet))
     (sends_on before a b (bytes_of (emitted p old.events)) waiting packet now first second)
 
--- An input had its turn.
-
 -- what comes of the input that the multiplex waits for is needed
 pub needed_of : (run : Run) (i : ℕ) (e : Event) (h : List Event) → IsOfInput i e → WaitsFor run h i → IsNeeded run e h
 needed_of run i (Took j item) h is waits = subst (WaitsFor run h) (sym is) waits
@@ -360,71 +327,6 @@ needed_of run i (Early j) h is waits = subst (WaitsFor run h) (sym is) waits
 needed_of run i (Switch number) h is waits = absurd is
 needed_of run i (Close j) h is waits = subst (WaitsFor run h) (sym is) waits
 needed_of run i (Slot c) h is waits = absurd is
-
-pub runs_pulled : {R : Type 0} (remaining : R → Option (List ℕ)) (run : Run) (limit : InputLimit) (starts : List (Option (List ℕ))) (old new : SerialRun R) (between : History) (i : ℕ)
-    → IsRunning remaining run limit starts old → slots old.mux.events < old.mux.run.limit → IsLeastUnready old.mux i → between ≡ old.mux → 0 < length new.piece.items → new.output ≡ record old.output { writer = new.output.writer }
-    → ((e : Event) × (new.mux ≡ with_event between e) × IsOfInput i e)
-    → ((s : List (Option (List ℕ))) → AreFed remaining between.run.schedule between.events s old.inputs.items → AreFed remaining between.run.schedule new.mux.events s new.inputs.items)
-    → ((most : InputLimit) (q : ScheduleValue) → AreLimited most q old.inputs.items → AreLimited most q new.inputs.items)
-    → KeepOrder between.run.schedule between.events new.mux.events old.inputs.items new.inputs.items
-    → IsRunning remaining run limit starts new
-runs_pulled remaining run limit starts old new between i is more unready same piece output event fed limited order =
-    let p = run.schedule in
-    let e = event.0 in
-    let schedule : between.run.schedule ≡ p = ap (λ (v : History). v.run.schedule) same ∙ ap (λ (r : Run). r.schedule) is.run_is in
-    let mux : new.mux ≡ with_event old.mux e = event.1 ∙ ap (λ v. with_event v e) same in
-    let events : new.mux.events ≡ e ∷ old.mux.events = ap (λ (v : History). v.events) mux in
-    let B : List Event → Type 0 = λ h. AreFed remaining between.run.schedule h starts old.inputs.items in
-    let Q : ScheduleValue → Type 0 = λ q. AreFed remaining q old.mux.events starts old.inputs.items in
-    let N : ScheduleValue → Type 0 = λ q. AreFed remaining q new.mux.events starts new.inputs.items in
-    let before : AreFed remaining between.run.schedule between.events starts old.inputs.items =
-    subst B (sym (ap (λ (v : History). v.events) same)) (subst Q (sym schedule) is.fed) in
-    let K : History → Type 0 = λ v. KeepOrder v.run.schedule v.events new.mux.events old.inputs.items new.inputs.items in
-    let L : ScheduleValue → Type 0 = λ q. KeepOrder q old.mux.events new.mux.events old.inputs.items new.inputs.items in
-    let A : List (List ℕ) → Type 0 = HasAnalysed old.output p.first.request.rate p.first.request.watch in
-    let O : SlotWriter → Type 0 = λ w. HasAnalysed w p.first.request.rate p.first.request.watch (emitted p new.mux.events) in
-    record {
-      run_is = ap (λ (v : History). v.run) mux ∙ is.run_is;
-      fed = subst N schedule (fed starts before);
-      limited = limited limit p is.limited;
-      piece = piece;
-      in_order = λ lists may. (let k = subst L (ap (λ (v : Run). v.schedule) is.run_is) (subst K same order) lists may in k.1 (is.in_order lists k.0));
-      needed =
-          (let W : Run → Type 0 = λ v. WaitsFor v old.mux.events i in
-          subst (TakesAsNeeded run) (sym events) (needed_of run i e old.mux.events event.2 (subst W is.run_is (more, unready)), is.needed));
-      analysed =
-          (let same_packets = subst A (sym (ap (emitted p) events ∙ emitted_same p i e old.mux.events event.2)) is.analysed in
-          subst O (sym output)
-          (record { seen = same_packets.seen; rate_is = same_packets.rate_is; period_is = same_packets.period_is; faults_are = same_packets.faults_are; reported = same_packets.reported }));
-    }
-
--- what waited went on, or a beginning of it, and nothing else
-pub written_pulled : (p : ScheduleValue) (old between new : History) (i : ℕ) (before a b : Option (List ℕ)) (waiting now : List ℕ) → between ≡ old → ((e : Event) × (new ≡ with_event between e) × IsOfInput i e)
-    → Sends before a (bytes_of (emitted p old.events)) waiting → Sends a b waiting now → Sends before b (bytes_of (emitted p new.events)) now
-written_pulled p old between new i before a b waiting now same event first second =
-    let e = event.0 in
-    let events : new.events ≡ e ∷ old.events = ap (λ (v : History). v.events) (event.1 ∙ ap (λ v. with_event v e) same) in
-    let P : List ℕ → Type 0 = λ v. Sends before b v now in
-    subst P (sym (ap bytes_of (ap (emitted p) events ∙ emitted_same p i e old.events event.2)))
-    (first.0 ++ second.0, appends_on before a b first.0 second.0 first.1 second.1, first.2 ∙ ap (λ v. first.0 ++ v) second.2 ∙ sym (append_assoc first.0 second.0 now))
-
-pub begun_pulled : (p : ScheduleValue) (old new : History) (before a b : Option (List ℕ)) (waiting : List ℕ) → new ≡ old
-    → Sends before a (bytes_of (emitted p old.events)) waiting → SendsBeginning a b waiting → SendsBeginning before b (bytes_of (emitted p new.events))
-begun_pulled p old new before a b waiting same first second =
-    let P : History → Type 0 = λ v. SendsBeginning before b (bytes_of (emitted p v.events)) in
-    let s = second.1 in
-    subst P (sym same)
-    (second.0, (first.0 ++ s.0, appends_on before a b first.0 s.0 first.1 s.1, first.2 ∙ ap (λ v. first.0 ++ v) s.2 ∙ sym (append_assoc first.0 s.0 second.0)))
-
-pub fewer_pulled : (old between new : History) (i : ℕ) → between ≡ old → i < length old.run.schedule.first.request.inputs → ((e : Event) × (new ≡ with_event between e) × IsOfInput i e)
-    → turns_left i new.events < turns_left i between.events → steps_left old.run new.events < steps_left old.run old.events
-fewer_pulled old between new i same l event less =
-    let e = event.0 in
-    let events : new.events ≡ e ∷ old.events = ap (λ (v : History). v.events) (event.1 ∙ ap (λ v. with_event v e) same) in
-    let P : List Event → Type 0 = λ h. steps_left old.run h < steps_left old.run old.events in
-    let T : List Event → Type 0 = λ h. turns_left i h < turns_left i old.events in
-    let U : List Event → Type 0 = λ h. turns_left i new.events < turns_left i h in
-    subst P (sym events) (fewer_by_input old.run old.events e i l event.2 (subst T events (subst U (ap (λ (v : History). v.events) same) less)))
 
 -- A run that ends with a fault.
 
@@ -440,8 +342,8 @@ pub begun_one : {R : Type 0} (remaining : R → Option (List ℕ)) (p : Schedule
 begun_one remaining p h i input start all x at known has =
     let o = has.origin in
     let b = has.read in
-    let more = consumed start (remaining x.reader.stream.source) b.0 all known b.1 in
-    let later = given_begins remaining p x.reader b.0 (taken i h) b.2 more.0 in
+    let more = consumed start (remaining x.inlet.stream.source) b.0 all known b.1 in
+    let later = given_begins remaining p x.inlet b.0 (taken i h) b.2 more.0 in
     let same : o.0 ≡ input = same_Some o.0 input (sym o.1 ∙ at) in
     (later.0, later.1 ∙ ap (λ v. takeable p v (framed_at v (b.0 ++ more.0))) (o.3 ∙ ap (origin_of i) same) ∙ ap (λ v. takeable p (origin_of i input) (framed_at (origin_of i input) v)) (sym more.1))
 
@@ -461,12 +363,6 @@ fed_sent remaining p old new packet starts inputs answer fed =
     let sent = is_sent old.run.schedule old new packet refl answer in
     let P : List Event → Type 0 = λ h. AreFed remaining p h starts inputs in
     subst P (sym sent.events) (fed_slot remaining p old.events sent.content starts inputs fed)
-
-pub order_sent : {R : Type 0} (p : ScheduleValue) (old new : History) (packet : List ℕ) (inputs : List (SerialInput R)) → SlotAnswers old (Sent packet) new → TakesInOrder p old.events inputs → TakesInOrder p new.events inputs
-order_sent p old new packet inputs answer is =
-    let sent = is_sent old.run.schedule old new packet refl answer in
-    let P : List Event → Type 0 = λ h. TakesInOrder p h inputs in
-    subst P (sym sent.events) is
 
 pub needed_sent : (run : Run) (old new : History) (packet : List ℕ) → SlotAnswers old (Sent packet) new → TakesAsNeeded run old.events → TakesAsNeeded run new.events
 needed_sent run old new packet answer is =
@@ -500,7 +396,6 @@ runs_flushed remaining run limit starts old output is same =
       fed = is.fed;
       limited = is.limited;
       piece = is.piece;
-      in_order = is.in_order;
       needed = is.needed;
       analysed = subst O (sym same) (record { seen = a.seen; rate_is = a.rate_is; period_is = a.period_is; faults_are = a.faults_are; reported = a.reported });
     }

@@ -10,19 +10,19 @@ use Rattle.mux.specs.declared.peak.Peak.{Peak}
 use Rattle.mux.specs.Peaks.{IsPeak}
 use Rattle.reading.specs.declared.report.Report.{Report}
 use Rattle.reading.specs.declared.stop.Stop.TheVariants.{Gate}
-use Rattle.serial.specs.declared.serial_input.SerialInput.{SerialInput}
 use Rattle.serial.specs.declared.summary.InputSummary.{InputSummary}
+use Rattle.serial.specs.Feeding.{SerialInput}
 
 -- the input's report, where the run that ends leaves an input that it didn't close and that nothing stopped
 pub record IsLast {R : Type 0} (x : SerialInput R) (report : Report) : Type 0 where
-  pub left : x.is_closed ≡ false → x.reader.report.stopped ≡ None → report ≡ record x.reader.report { stopped = Some Gate }
-  pub closed : x.is_closed ≡ true → report ≡ x.reader.report
-  pub stopped : IsSome x.reader.report.stopped → report ≡ x.reader.report
+  pub left : x.is_closed ≡ false → x.inlet.report.stopped ≡ None → report ≡ record x.inlet.report { stopped = Some Gate }
+  pub closed : x.is_closed ≡ true → report ≡ x.inlet.report
+  pub stopped : IsSome x.inlet.report.stopped → report ≡ x.inlet.report
 
 -- each input's report and totals
 pub record AreReported {R : Type 0} (schedule : ScheduleValue) (h : List Event) (inputs : List (SerialInput R)) (summaries : List InputSummary) (sources : List R) : Type 0 where
   pub length_is : length summaries ≡ length inputs
-  pub sources_are : sources ≡ map (λ x. x.reader.stream.source) inputs
+  pub sources_are : sources ≡ map (λ x. x.inlet.stream.source) inputs
   pub totals : (i : ℕ) (s : InputSummary) → slice_get summaries i ≡ Some s → IsTotals schedule i h s.totals
   pub reports : (i : ℕ) (x : SerialInput R) (s : InputSummary)
       → slice_get inputs i ≡ Some x → slice_get summaries i ≡ Some s → IsLast x s.report

@@ -9,10 +9,8 @@ use Rattle.request.specs.declared.stream.Stream.{Stream}
 use Rattle.schedule.specs.Schedule.{ScheduleValue}
 use Rattle.mux.specs.declared.event.Event.{Event}
 use Rattle.mux.specs.declared.event.Event.TheVariants.{Took, Full, Early, Close, Slot, Switch}
-use Rattle.schedule.specs.Streams.{all_streams}
 use Rattle.mux.specs.History.{History, with_event, is_mapped_to, taken, is_closed, full_noted, early_noted}
-use Rattle.mux.specs.Lawful.{refusal_of, is_early}
-use Rattle.mux.specs.Lawful as refusals
+use Rattle.mux.specs.Lawful.{is_early}
 use Rattle.mux.specs.Faithful.{PacketLists}
 use Rattle.reading.specs.Takeable.{OriginValue, origin_of, framed_at, takeable, EndsAtTaken}
 use Rattle.reading.specs.InputLimit.{limit_of_input}
@@ -20,7 +18,13 @@ use Rattle.reading.specs.PacketReading.{HasRead, IsSpent, TellsFailures}
 use Rattle.reading.specs.declared.input_limit.InputLimit.{InputLimit}
 use Rattle.reading.specs.declared.stop.Stop.{Stop}
 use Rattle.reading.specs.declared.stop.Stop.TheVariants.{Gate, Memory}
-use Rattle.serial.specs.declared.serial_input.SerialInput.{SerialInput}
+use Rattle.reading.specs.declared.packet_reader.PacketReader.{PacketReader}
+use Rattle.inlets.specs.declared.entry.Entry.{Entry}
+use Rattle.inlets.specs.Notes.{NotesAreOfShown}
+
+-- an input of the run: its reader, and whether the multiplex was told that nothing more comes of it
+abbrev pub SerialInput : Type 0 → Type 0
+SerialInput R = Entry (PacketReader R)
 
 -- where the packets of the schedule's input i come from
 abbrev pub IsOrigin : ScheduleValue → ℕ → OriginValue → Type 0
@@ -30,9 +34,9 @@ IsOrigin schedule i origin =
 -- The input gave these packets, of a source that had these bytes to give at first. It has read some of them, and has looked at
 -- some of the items that were told of those.
 pub record HasGiven {R : Type 0} (remaining : R → Option (List ℕ)) (schedule : ScheduleValue) (i : ℕ) (start : Option (List ℕ)) (x : SerialInput R) (given : List Stamped) : Type 0 where
-  pub origin : IsOrigin schedule i x.reader.origin
-  pub limit : x.reader.stream.items.limit ≤ MAX_LIMIT
-  pub read : (bytes : List ℕ) × Consumes start (remaining x.reader.stream.source) bytes × HasRead remaining schedule x.reader bytes given
+  pub origin : IsOrigin schedule i x.inlet.origin
+  pub limit : x.inlet.stream.items.limit ≤ MAX_LIMIT
+  pub read : (bytes : List ℕ) × Consumes start (remaining x.inlet.stream.source) bytes × HasRead remaining schedule x.inlet bytes given
 
 -- What stopped an input, if anything, came of the input: the run didn't leave it, and had memory for it.
 pub record IsOwnStop (stopped : Option Stop) : Type 0 where
@@ -41,19 +45,26 @@ pub record IsOwnStop (stopped : Option Stop) : Type 0 where
 
 -- The multiplex took just the packets that the input gave; it was closed in the multiplex where the input says so, which is
 -- where nothing is left of it; and nothing stopped it but its own fault. Of one that is open no item was looked at behind the
--- last packet that was taken or is held.
+-- last packet that was taken or is held. What was noted of it was noted of the packet that came next.
 pub record Feeds {R : Type 0} (remaining : R → Option (List ℕ)) (schedule : ScheduleValue) (h : List Event) (i : ℕ) (start : Option (List ℕ)) (x : SerialInput R) : Type 0 where
   pub given : HasGiven remaining schedule i start x (taken i h)
   pub closed : x.is_closed ≡ is_closed i h
-  pub over : x.is_closed ≡ true → IsSpent x.reader
-  pub own : IsOwnStop x.reader.report.stopped
-  pub stands : x.is_closed ≡ false → EndsAtTaken schedule x.reader.origin given.read.2.0
+  pub over : x.is_closed ≡ true → IsSpent x.inlet
+  pub own : IsOwnStop x.inlet.report.stopped
+  pub stands : x.is_closed ≡ false → EndsAtTaken schedule x.inlet.origin given.read.2.0
+  pub notes : NotesAreOfShown schedule i x.inlet.held h
 
 -- The same of an input that may have been given up for want of memory, wherever it was looked at.
 pub record HasFed {R : Type 0} (remaining : R → Option (List ℕ)) (schedule : ScheduleValue) (h : List Event) (i : ℕ) (start : Option (List ℕ)) (x : SerialInput R) : Type 0 where
   pub given : HasGiven remaining schedule i start x (taken i h)
   pub closed : x.is_closed ≡ is_closed i h
-  pub over : x.is_closed ≡ true → IsSpent x.reader
+  pub over : x.is_closed ≡ true → IsSpent x.inlet
+  pub notes : NotesAreOfShown schedule i x.inlet.held h
+
+-- The same of an input that goes on, wherever it was looked at.
+pub record FeedsOn {R : Type 0} (remaining : R → Option (List ℕ)) (schedule : ScheduleValue) (h : List Event) (i : ℕ) (start : Option (List ℕ)) (x : SerialInput R) : Type 0 where
+  pub fed : HasFed remaining schedule h i start x
+  pub own : IsOwnStop x.inlet.report.stopped
 
 -- the packets that an input gives, as far as the bytes of its source are known
 abbrev pub packet_list : ScheduleValue → ℕ → Option InputValue → Option (Option (List ℕ)) → List Stamped
@@ -71,36 +82,13 @@ AreKnown starts = (i : ℕ) (start : Option (List ℕ)) → slice_get starts i �
 
 -- no input was given up for want of memory
 abbrev pub AreUnrefused : {R : Type 0} → List (SerialInput R) → Type 0
-AreUnrefused {R} inputs = (i : ℕ) (x : SerialInput R) → slice_get inputs i ≡ Some x → x.reader.report.stopped ≡ Some Memory → ⊥
+AreUnrefused {R} inputs = (i : ℕ) (x : SerialInput R) → slice_get inputs i ≡ Some x → x.inlet.report.stopped ≡ Some Memory → ⊥
 
 -- each of the schedule's inputs may have so many bytes at its format, at most
 abbrev pub AreLimited : {R : Type 0} → InputLimit → ScheduleValue → List (SerialInput R) → Type 0
 AreLimited {R} limit schedule inputs =
     (i : ℕ) (input : InputValue) (x : SerialInput R) → slice_get schedule.first.request.inputs i ≡ Some input → slice_get inputs i ≡ Some x
-    → x.reader.stream.items.limit ≡ limit_of_input limit input.format
-
--- the event is one of the input
-abbrev pub IsOfInput : ℕ → Event → Type 0
-IsOfInput i (Took j item) = j ≡ i
-IsOfInput i (Full j st) = j ≡ i
-IsOfInput i (Early j) = j ≡ i
-IsOfInput i (Close j) = j ≡ i
-IsOfInput i (Slot c) = ⊥
-IsOfInput i (Switch number) = ⊥
-
--- nothing is against the item, but that it may belong to a later plan, or the queue of its stream may be full
-abbrev pub MayBeTaken : ScheduleValue → List Event → ℕ → Stamped → Type 0
-MayBeTaken schedule h i item =
-    (refusal_of schedule h i item ≡ None) ⊎ (refusal_of schedule h i item ≡ Some refusals.Early) ⊎ (refusal_of schedule h i item ≡ Some refusals.Full)
-
--- the item of input i goes to the stream at this place of the schedule, by the plan that it belongs to
-abbrev pub GoesTo : ScheduleValue → ℕ → Stamped → ℕ → Type 0
-GoesTo schedule i item place =
-    (st : Stream) × (slice_get (all_streams schedule) place ≡ Some st) × (is_mapped_to schedule st i item ≡ true)
-
--- nothing was noted of the input since the last slot or switch
-abbrev pub IsUnnoted : ℕ → List Event → Type 0
-IsUnnoted i h = (full_noted i h ≡ false) × (early_noted i h ≡ false)
+    → x.inlet.stream.items.limit ≡ limit_of_input limit input.format
 
 -- how often the multiplex may still turn to the input before a slot is sent or the next plan comes, at most: no input has more packets than bytes
 abbrev pub turns_left : ℕ → List Event → ℕ
@@ -111,7 +99,7 @@ turns_left i h =
 -- later plan.
 abbrev pub IsGivenOrHeld : {R : Type 0} → History → History → ℕ → SerialInput R → SerialInput R → Stamped → Type 0
 IsGivenOrHeld before after i old new item =
-    ((after ≡ with_event before (Took i item)) × (new ≡ record old { reader = record old.reader { held = None } }))
+    ((after ≡ with_event before (Took i item)) × (new ≡ record old { inlet = record old.inlet { held = None } }))
     ⊎ ((st : Stream) × (after ≡ with_event before (Full i st)) × (new ≡ old) × (is_mapped_to before.run.schedule st i item ≡ true))
     ⊎ ((after ≡ with_event before (Early i)) × (new ≡ old) × (is_early before.run.schedule before.events item ≡ true))
 
@@ -119,4 +107,4 @@ IsGivenOrHeld before after i old new item =
 abbrev pub AllTellFailures : {R : Type 0} → (R → ℕ) → List ℕ → List (SerialInput R) → Type 0
 AllTellFailures {R} failures befores inputs =
     (i : ℕ) (x : SerialInput R) (before : ℕ) → slice_get inputs i ≡ Some x → slice_get befores i ≡ Some before
-    → TellsFailures failures before x.reader
+    → TellsFailures failures before x.inlet

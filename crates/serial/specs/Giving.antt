@@ -1,44 +1,16 @@
 -- What the inputs of a run give, whatever stops them, and that it is taken in order (profile).
-use Rattle.std.specs.Prelude.{◌≡◌, ℕ, ◌++◌, List, Option, Some, true}
+use Rattle.std.specs.Prelude.{◌≡◌, ℕ, List, Option, Some}
 use Rattle.std.specs.List.{slice_get}
-use Rattle.std.specs.Option.{option_to_list}
 use Rattle.std.specs.Io.KnownBytes.{Consumes}
 use Rattle.tspkt.specs.declared.stamped.Stamped.{Stamped}
 use Rattle.request.specs.Request.{InputValue}
 use Rattle.schedule.specs.Schedule.{ScheduleValue}
 use Rattle.mux.specs.declared.event.Event.{Event}
-use Rattle.mux.specs.History.{taken}
 use Rattle.mux.specs.Faithful.{PacketLists, IsFaithful, IsPrefix}
 use Rattle.reading.specs.Takeable.{framed_at, takeable, origin_of}
 use Rattle.reading.specs.declared.stop.Stop.{Stop}
 use Rattle.reading.specs.declared.stop.Stop.TheVariants.{ReadFailed, TooMuch}
 use Rattle.serial.specs.Feeding.{packet_lists}
-use Rattle.serial.specs.declared.serial_input.SerialInput.{SerialInput}
-
--- These packets may be all that an input gives that gave some: behind those comes the packet that it holds, and of a closed
--- input nothing more comes.
-pub record MayGive {R : Type 0} (x : SerialInput R) (given packets : List Stamped) : Type 0 where
-  pub begins : IsPrefix (given ++ option_to_list x.reader.held) packets
-  pub over : x.is_closed ≡ true → packets ≡ given
-
--- the same of all inputs, of which the history took what they gave
-abbrev pub MayBeGiven : {R : Type 0} → List Event → List (SerialInput R) → PacketLists → Type 0
-MayBeGiven {R} h inputs lists = (i : ℕ) (x : SerialInput R) → slice_get inputs i ≡ Some x → MayGive x (taken i h) (lists i)
-
--- The history takes each input's packets in their order, whatever more comes of them.
-abbrev pub TakesInOrder : {R : Type 0} → ScheduleValue → List Event → List (SerialInput R) → Type 0
-TakesInOrder {R} schedule h inputs = (lists : PacketLists) → MayBeGiven h inputs lists → IsFaithful schedule lists h
-
--- A turn of input i takes of it in order: what may be given behind the turn may be given before it.
-abbrev pub KeepsOrder : {R : Type 0} → ScheduleValue → ℕ → List Event → List Event → SerialInput R → SerialInput R → Type 0
-KeepsOrder {R} schedule i old new x y =
-    (lists : PacketLists) → MayGive y (taken i new) (lists i)
-    → MayGive x (taken i old) (lists i) × (IsFaithful schedule lists old → IsFaithful schedule lists new)
-
--- the same among all inputs
-abbrev pub KeepOrder : {R : Type 0} → ScheduleValue → List Event → List Event → List (SerialInput R) → List (SerialInput R) → Type 0
-KeepOrder {R} schedule old new xs ys =
-    (lists : PacketLists) → MayBeGiven new ys lists → MayBeGiven old xs lists × (IsFaithful schedule lists old → IsFaithful schedule lists new)
 
 -- Input i gives these packets: all that can be taken of its bytes; where a read failed, those of the bytes that were read; where
 -- it is too long, some of the first.

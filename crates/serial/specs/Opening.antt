@@ -3,17 +3,16 @@ use Rattle.std.specs.Prelude.{◌≡◌, ℕ, List, [], length, Option, Some}
 use Rattle.std.specs.List.{slice_get}
 use Rattle.request.specs.Request.{InputValue}
 use Rattle.schedule.specs.Schedule.{ScheduleValue}
-use Rattle.serial.specs.Feeding.{Feeds}
+use Rattle.serial.specs.Feeding.{SerialInput, Feeds}
 use Rattle.reading.specs.InputLimit.{limit_of_input}
 use Rattle.reading.specs.PacketReading.{TellsFailures}
 use Rattle.reading.specs.declared.input_limit.InputLimit.{InputLimit}
-use Rattle.serial.specs.declared.serial_input.SerialInput.{SerialInput}
 
 -- the schedule's input i is to be read from the reader, and may have so many bytes at its format
 pub record IsOpened {R : Type 0} (remaining : R → Option (List ℕ)) (failures : R → ℕ) (limit : InputLimit) (schedule : ScheduleValue) (i : ℕ) (reader : R) (x : SerialInput R) : Type 0 where
   pub feeds : Feeds remaining schedule [] i (remaining reader) x
-  pub limited : (input : InputValue) → slice_get schedule.first.request.inputs i ≡ Some input → x.reader.stream.items.limit ≡ limit_of_input limit input.format
-  pub told : TellsFailures failures (failures reader) x.reader
+  pub limited : (input : InputValue) → slice_get schedule.first.request.inputs i ≡ Some input → x.inlet.stream.items.limit ≡ limit_of_input limit input.format
+  pub told : TellsFailures failures (failures reader) x.inlet
 
 -- each input is to be read from the reader at its place
 pub record AreOpened {R : Type 0} (remaining : R → Option (List ℕ)) (failures : R → ℕ) (limit : InputLimit) (schedule : ScheduleValue) (readers : List R) (inputs : List (SerialInput R)) : Type 0 where

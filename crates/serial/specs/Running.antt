@@ -14,10 +14,8 @@ use Rattle.reading.specs.Takeable.{framed_at, takeable, origin_of}
 use Rattle.reading.specs.declared.input_limit.InputLimit.{InputLimit}
 use Rattle.reading.specs.declared.stop.Stop.{Stop}
 use Rattle.reading.specs.declared.stop.Stop.TheVariants.{Gate, Memory, TooMuch}
-use Rattle.serial.specs.Feeding.{Feeds, HasFed, AreLimited, turns_left}
-use Rattle.serial.specs.Giving.{TakesInOrder}
+use Rattle.serial.specs.Feeding.{SerialInput, Feeds, HasFed, AreLimited, turns_left}
 use Rattle.outlet.specs.Sending.{HasAnalysed}
-use Rattle.serial.specs.declared.serial_input.SerialInput.{SerialInput}
 use Rattle.serial.specs.declared.serial_run.SerialRun.{SerialRun}
 
 -- each input's source had these bytes to give at first, and the multiplex took what the inputs gave of them
@@ -51,7 +49,6 @@ pub record IsRunning {R : Type 0} (remaining : R → Option (List ℕ)) (run : R
   pub fed : AreFed remaining run.schedule r.mux.events starts r.inputs.items
   pub limited : AreLimited limit run.schedule r.inputs.items
   pub piece : 0 < length r.piece.items
-  pub in_order : TakesInOrder run.schedule r.mux.events r.inputs.items
   pub needed : TakesAsNeeded run r.mux.events
   pub analysed : HasAnalysed r.output run.schedule.first.request.rate run.schedule.first.request.watch (emitted run.schedule r.mux.events)
 
@@ -83,7 +80,6 @@ pub record AreHalted {R : Type 0} (remaining : R → Option (List ℕ)) (limit :
   pub count : length inputs ≡ length schedule.first.request.inputs
   pub each : (i : ℕ) (input : InputValue) (start : Option (List ℕ)) (x : SerialInput R)
       → slice_get schedule.first.request.inputs i ≡ Some input → slice_get starts i ≡ Some start → slice_get inputs i ≡ Some x
-      → IsHalted (limit_of_input limit input.format) schedule h i start x.reader.report.stopped
+      → IsHalted (limit_of_input limit input.format) schedule h i start x.inlet.report.stopped
   pub fed : (i : ℕ) (x : SerialInput R) → slice_get inputs i ≡ Some x
       → (start : Option (List ℕ)) × (slice_get starts i ≡ Some start) × HasFed remaining schedule h i start x
-  pub in_order : TakesInOrder schedule h inputs

@@ -1,22 +1,36 @@
 //! What is said of a run at its end.
 
-ghost use Rattle.std.specs.Prelude.{◌≡◌, length, IfOk};
+ghost use Rattle.std.specs.Prelude.{◌≡◌, length, Some, None, IsSome, true, false, IfOk};
+ghost use Rattle.reading.specs.declared.stop.Stop.TheVariants.{Gate};
 ghost use Rattle.schedule.specs.Streams.{all_streams};
 ghost use Rattle.mux.specs.Totals.{IsCounts};
 ghost use Rattle.serial.specs.Ending.{AreReported, ArePeaks};
 
-use crate::serial_input::SerialInput;
 use crate::summary::{InputSummary, Summary};
+use inlets::Entry;
 use mux::{Mux, Peak};
 use outlet::SlotWriter;
-use reading::Source;
+use reading::{PacketReader, Source};
 use std::alloc::{AllocError, Global};
+
+/// Notes that the run ended before an input, unless the input was closed or was left for another cause.
+fn leave<R: Source>(input: &mut Entry<PacketReader<R>>)
+    ensures gate { input.old.is_closed ≡ false → input.old.inlet.report.stopped ≡ None
+        → input.new.inlet.report ≡ record input.old.inlet.report { stopped = Some Gate } }
+    ensures closed { input.old.is_closed ≡ true → input.new ≡ input.old }
+    ensures stopped { IsSome input.old.inlet.report.stopped → input.new ≡ input.old }
+    ensures source { input.new.inlet.stream.source ≡ input.old.inlet.stream.source }
+{
+    if !input.is_closed {
+        input.inlet.leave();
+    }
+}
 
 /// What became of each input, and what it was read from. An input that wasn't closed is left.
 pub(crate) fn end_inputs<R: Source + Drop>(
     alloc: Global,
     mux: &Mux,
-    inputs: Vec<SerialInput<R>>,
+    inputs: Vec<Entry<PacketReader<R>>>,
 ) -> Result<(Vec<InputSummary>, Vec<R>), AllocError>
     requires { length inputs.items ≡ length mux.now.run.schedule.first.request.inputs }
     ensures { IfOk result (λ done. AreReported mux.now.run.schedule mux.now.events inputs.items done.0.items done.1.items) }
@@ -24,12 +38,12 @@ pub(crate) fn end_inputs<R: Source + Drop>(
     let mut summaries = Vec::new(alloc);
     let mut sources = Vec::new(alloc);
     for mut input in inputs {
-        input.leave();
+        leave(&mut input);
         summaries.push(InputSummary {
-            report: input.reader.report(),
+            report: input.inlet.report(),
             totals: mux.totals(summaries.len()),
         })?;
-        sources.push(input.reader.into_source())?;
+        sources.push(input.inlet.into_source())?;
     }
     Ok((summaries, sources))
 }
@@ -50,7 +64,7 @@ pub(crate) fn end_streams(alloc: Global, mux: &Mux, streams: usize) -> Result<Ve
 pub(crate) fn end_run<R: Source + Drop>(
     alloc: Global,
     mux: &Mux,
-    inputs: Vec<SerialInput<R>>,
+    inputs: Vec<Entry<PacketReader<R>>>,
     output: SlotWriter,
 ) -> Result<(Summary, Vec<R>), AllocError>
     requires { length inputs.items ≡ length mux.now.run.schedule.first.request.inputs }

@@ -3,11 +3,9 @@
 
 mod ending;
 mod feeding;
-mod finding;
 pub mod laws;
 mod opening;
 mod run;
-mod serial_input;
 mod serial_run;
 mod summary;
 

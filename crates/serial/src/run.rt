@@ -93,7 +93,7 @@ pub fn run_serial_within<R: Source + Drop, W: Sink>(
 }
 
 /// What every schedule keeps.
-fn known(schedule: &Schedule)
+pub(crate) fn known(schedule: &Schedule)
     ensures { IsMultiplexSchedule schedule.now }
 {
     let _ = schedule.later_plans();

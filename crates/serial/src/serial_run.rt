@@ -1,13 +1,14 @@
 //! The serial run.
 
 use crate::ending::end_run;
-use crate::feeding::pull_at;
+use crate::feeding::read_on;
 use crate::opening::open_inputs;
-use crate::serial_input::SerialInput;
+use crate::run::known;
 use crate::summary::Summary;
-use mux::{Mux, Sending};
+use inlets::{Entry, Step, take_step};
+use mux::Mux;
 use outlet::{RunFault, Sink, SlotWriter};
-use reading::{InputLimit, Source};
+use reading::{InputLimit, PacketReader, Source};
 use schedule::Schedule;
 use std::alloc::{AllocError, Global};
 
@@ -18,7 +19,7 @@ const PIECE: usize = 65_536;
 #[derive(Drop)]
 pub(crate) struct SerialRun<R> {
     mux: Mux,
-    inputs: Vec<SerialInput<R>>,
+    inputs: Vec<Entry<PacketReader<R>>>,
     piece: Vec<u8>,
     output: SlotWriter,
 }
@@ -128,8 +129,8 @@ impl<R: Source + Drop> SerialRun<R> {
         self.output.flush(sink)
     }
 
-    /// One step: the next slot is sent, or the next plan comes into force, or the input for which the multiplex waits gives a packet or is closed. Before that input is
-    /// read what waits is written. True is answered where the run is over.
+    /// One step: the next slot is sent, or the next plan comes into force, or the input for which the multiplex waits has its turn. Before
+    /// that input is read what waits is written. True is answered where the run is over.
     fn step<W: Sink>(&mut self, sink: &mut W) -> Result<bool, RunFault>
         requires { (run : Run) × (limit : Limit) × (starts : List (Option (List ℕ))) × IsRunning R.remaining run limit starts self.old }
         ensures runs { OnOk result ((run : Run) (limit : Limit) (starts : List (Option (List ℕ)))
@@ -157,26 +158,26 @@ impl<R: Source + Drop> SerialRun<R> {
         ensures failed { result ≡ Err RunFault.Write
             → FailsOnce (W.failures sink.old) (W.failures sink.new) }
     {
-        match self.mux.send_next() {
-            Sending::Sent => {
-                let packet = self.mux.last().unwrap();
-                self.output.put(packet, sink)?;
+        known(self.mux.schedule());
+        let SerialRun {
+            mux,
+            inputs,
+            piece,
+            output,
+        } = self;
+        match take_step(mux, inputs) {
+            Step::Sent => {
+                let packet = mux.last().unwrap();
+                output.put(packet, sink)?;
                 Ok(false)
             }
-            Sending::NotReady(input) => {
-                let SerialRun {
-                    mux,
-                    inputs,
-                    piece,
-                    output,
-                } = self;
+            Step::Switched | Step::Turned => Ok(false),
+            Step::Waits(input) => {
                 let piece = piece.as_mut_slice();
-                pull_at(mux, input, inputs, piece, output, sink)?;
+                read_on(mux, input, &mut inputs[input], piece, output, sink)?;
                 Ok(false)
             }
-            Sending::Switched => Ok(false),
-            Sending::Done | Sending::RunFull => Ok(true),
-            Sending::Memory => Err(RunFault::Memory),
+            Step::Done | Step::RunFull => Ok(true),
         }
     }
 }

@@ -1,107 +1,136 @@
 -- Steps of a station, one behind the other.
-use Rattle.std.proofs.Common.{ℕ, zero, suc, ◌+◌, ◌≡◌, ◌⊎◌, Bool, true, false, ◌||◌, List, [], ◌∷◌, ◌++◌, set, slice_get, Some, None, refl, ap, sym, subst, ◌∙◌, arith, inl, inr, append-nil, append_assoc, if◌then◌else◌}
-use Rattle.std.specs.Prelude.{IsSome}
+use Rattle.std.proofs.Common.{ℕ, zero, suc, ◌+◌, ◌≡◌, ◌≢◌, ◌⊎◌, Bool, true, false, List, [], ◌∷◌, ◌++◌, length, set, slice_get, Option, Some, None, refl, ap, sym, subst, ◌∙◌, arith, inl, inr, append-nil, append_assoc, if◌then◌else◌}
+use Rattle.std.proofs.lemmas.List.{set-get_or}
+use Rattle.std.proofs.lemmas.Option.{same_Some, get_or_from_slice_get}
 use Rattle.schedule.specs.Schedule.{ScheduleValue}
 use Rattle.mux.specs.declared.event.Event.{Event}
-use Rattle.mux.specs.declared.event.Event.TheVariants.{Took, Full, Early, Close, Switch}
+use Rattle.mux.specs.declared.event.Event.TheVariants.{Took, Close, Switch}
 use Rattle.tspkt.specs.declared.stamped.Stamped.{Stamped}
 use Rattle.mux.specs.History.{History, with_event, emitted, in_force, is_closed, full_noted, early_noted}
 use Rattle.mux.specs.Lawful.{is_ready}
-use Rattle.mux.specs.Answers.{SendAnswers, SlotAnswers, NotesFull, NotesEarly}
+use Rattle.mux.specs.Answers.{SendAnswers, SlotAnswers}
 use Rattle.mux.specs.declared.sending.Sending.{Sending}
 use Rattle.mux.specs.declared.sending.Sending.TheVariants as sending
 use Rattle.mux.specs.declared.slot.Slot.TheVariants as slot
-use Rattle.station.specs.declared.inlet.Inlet.{Inlet}
-use Rattle.station.specs.Stations.{StationValue, IsLawfulInlet, rings_of}
-use Rattle.station.specs.Moving.{TakesNext, EndsTaking, ComesUntaken, EndsBy, Ending, Nothing, Mark, HeldBack, IsHeldBack}
+use Rattle.inlets.specs.declared.taking.Taking.{Taking}
+use Rattle.inlets.specs.declared.taking.Taking.TheVariants as turn
+use Rattle.inlets.specs.declared.step.Step.{Step}
+use Rattle.inlets.specs.declared.step.Step.TheVariants as steps
+use Rattle.inlets.specs.Stepping.{HasTurn}
+use Rattle.inlets.specs.Stepping as inlets
+use Rattle.inlets.proofs.StepLaws.{unready_open}
+use Rattle.port.specs.declared.arrival_kind.ArrivalKind.{ArrivalKind}
+use Rattle.port.specs.Rings.{RingEndValue}
+use Rattle.port.specs.Advancing.{Shows}
+use Rattle.station.specs.Stations.{Input, StationValue, IsLawfulInput, IsLawfulStation, rings_of}
+use Rattle.station.specs.Moving.{TakesNext, ComesUntaken, EndsBy, Ending, Nothing, Mark, HeldBack, IsHeldBack}
 use Rattle.station.specs.Advancing.{IsStep, Steps, IsStuck}
-use Rattle.station.proofs.StationLaws.{ends_ring}
+use Rattle.inlets.proofs.EventLaws.{emitted_same}
+use Rattle.inlets.proofs.NoteLaws.{IsOneOf, put_off_one}
+use Rattle.station.proofs.StationLaws.{ends_ring, lawful_sent, lawful_set}
+use Rattle.station.proofs.TakingLaws.{ComesOf, Turned, turned}
 
--- An input that isn't ready is open.
+-- A turn of an input, and a step, over rings' ends.
+abbrev pub RingHasTurn : ℕ → History → List Input → Taking → History → List Input → Type 0
+RingHasTurn = HasTurn (λ (e : RingEndValue). e.head) (λ (e : RingEndValue). e.is_ended ≡ true) (λ (e : RingEndValue). e.is_ended ≡ false) (λ (s : ScheduleValue) (a b : RingEndValue). (kind : Option ArrivalKind) × Shows a kind b) (λ (e : RingEndValue). record e { head = None })
 
-or_left : (a b : Bool) → (a || b) ≡ false → a ≡ false
-or_left true b e = e
-or_left false b e = refl
+abbrev pub RingSteps : History → List Input → Step → History → List Input → Type 0
+RingSteps = inlets.Steps (λ (e : RingEndValue). e.head) (λ (e : RingEndValue). e.is_ended ≡ true) (λ (e : RingEndValue). e.is_ended ≡ false) (λ (s : ScheduleValue) (a b : RingEndValue). (kind : Option ArrivalKind) × Shows a kind b) (λ (e : RingEndValue). record e { head = None })
 
-pub unready_open : (s : ScheduleValue) (i : ℕ) (h : List Event) → is_ready s i h ≡ false → is_closed i h ≡ false
-unready_open s i h e = or_left (is_closed i h) _ (or_left _ (full_noted i h) (or_left _ (early_noted i h) e))
+-- what comes of the turn of an input that the multiplex waits for
+had : (h new : History) (xs ys : List Input) (i : ℕ) (answer : Taking) → IsLawfulStation h xs → (t : RingHasTurn i h xs answer new ys) → Turned i h t.before answer new t.after
+had h new xs ys i answer lawful t =
+    let own = lawful.each i t.before t.there in
+    turned i h t.before answer new t.after (own.closed ∙ unready_open h.run.schedule i h.events t.unready.unready) own t.turns
 
--- the inlet of an input for which the multiplex waits
-pub waits_open : (h new : History) (i : ℕ) (x : Inlet) → SendAnswers h (sending.NotReady i) new → IsLawfulInlet h i x → x.is_closed ≡ false
-waits_open h new i x is old = old.closed ∙ unready_open h.run.schedule i h.events is.3.unready
-
--- Nothing came of an input.
-
-pub nothing_came : (i : ℕ) (a : History) (x : Inlet) (b : History) (y : Inlet) → EndsTaking i a x b y → y.is_closed ≡ false → y.end.head ≡ None → (b ≡ a) × (y ≡ x) × (x.end.head ≡ None)
-nothing_came i a x b y (Nothing, is) opened none = (is.1, is.2, is.0)
-nothing_came i a x b y (Mark, is) opened none = absurd (let closed : y.is_closed ≡ true = ap (λ (v : Inlet). v.is_closed) is.2 in cc)
-nothing_came i a x b y (HeldBack item came, is) opened none = absurd (let held : y.end.head ≡ Some item = ap (λ (v : Inlet). v.end.head) is.2 in cc)
-
-mark_came : Mark ≡ Nothing → ⊥
-mark_came e = cc
-
-item_came : (item : Stamped) (came : List Stamped) → HeldBack item came ≡ Nothing → ⊥
-item_came item came e = cc
-
--- Something came of an open input that is closed now, or of which a packet is held.
-
-pub something_came : (i : ℕ) (a : History) (x : Inlet) (b : History) (y : Inlet) → EndsTaking i a x b y → x.is_closed ≡ false
-    → ((y.is_closed ≡ true) ⊎ IsSome y.end.head) → ComesUntaken i a x b y
-something_came i a x b y (Nothing, is) opened (inl closed) = absurd (let same : y.is_closed ≡ x.is_closed = ap (λ (v : Inlet). v.is_closed) is.2 in cc)
-something_came i a x b y (Nothing, is) opened (inr held) =
-    let none : y.end.head ≡ None = ap (λ (v : Inlet). v.end.head) is.2 ∙ is.0 in
-    let bad : false ≡ true = subst IsSome none held in
-    cc
-something_came i a x b y (Mark, is) opened some = (Mark, (λ e. mark_came e), is)
-something_came i a x b y (HeldBack item came, is) opened some = (HeldBack item came, (λ e. item_came item came e), is)
+-- something of it was taken, or ends the taking
+pulled : (i : ℕ) (h : History) (x : Input) (answer : Taking) (new : History) (y : Input) → answer ≢ turn.Waits → ComesOf i h x answer new y → TakesNext i h x new y ⊎ ComesUntaken i h x new y
+pulled i h x turn.Took new y seen is = inl is
+pulled i h x turn.HeldBack new y seen is = inr is
+pulled i h x turn.Closed new y seen is = inr is
+pulled i h x turn.Waits new y seen is = absurd (seen refl)
 
 -- One step.
 
-pub step_sent : (h new : History) (xs : List Inlet) (packet : List ℕ) → SlotAnswers h (slot.Sent packet) new
-    → IsStep (record { history = h; inputs = xs }) (record { history = new; inputs = xs }) (packet ∷ [])
-step_sent h new xs packet answer = inl (packet, refl, record { slot = answer; inputs = refl })
+pub step_sent : (h new : History) (xs ys : List Input) (packet : List ℕ) → ys ≡ xs → SlotAnswers h (slot.Sent packet) new
+    → IsStep (record { history = h; inputs = xs }) (record { history = new; inputs = ys }) (packet ∷ [])
+step_sent h new xs ys packet same answer = inl (packet, refl, record { slot = answer; inputs = same })
 
-pub step_switched : (h new : History) (xs : List Inlet) → SendAnswers h sending.Switched new → IsStep (record { history = h; inputs = xs }) (record { history = new; inputs = xs }) []
-step_switched h new xs answer = inr (inl (refl, record { switch = answer; inputs = refl }))
+step_turned : (h new : History) (xs ys : List Input) (i : ℕ) (answer : Taking) → answer ≢ turn.Waits → IsLawfulStation h xs → RingHasTurn i h xs answer new ys
+    → IsStep (record { history = h; inputs = xs }) (record { history = new; inputs = ys }) []
+step_turned h new xs ys i answer seen lawful t =
+    let w = had h new xs ys i answer lawful t in
+    inr (inr (i, refl, record { running = t.running; unswitched = t.unswitched; unready = t.unready; before = t.before; after = t.after; input = t.there; inputs = t.entries; pulled = pulled i h t.before answer new t.after seen w.comes }))
 
-pub step_pulled : (h between new : History) (xs : List Inlet) (i : ℕ) (x y : Inlet) → SendAnswers h (sending.NotReady i) between → slice_get xs i ≡ Some x
-    → (TakesNext i between x new y ⊎ ComesUntaken i between x new y) → IsStep (record { history = h; inputs = xs }) (record { history = new; inputs = set xs i y }) []
-step_pulled h between new xs i x y is at pulled =
-    let P : History → Type 0 = λ v. TakesNext i v x new y ⊎ ComesUntaken i v x new y in
-    inr (inr (i, refl, record { running = is.1; unswitched = is.2; unready = is.3; before = x; after = y; input = at; inputs = refl; pulled = subst P is.0 pulled }))
+pub lawful_turned : (h new : History) (xs ys : List Input) (i : ℕ) (answer : Taking) → new.run ≡ h.run → IsLawfulStation h xs → RingHasTurn i h xs answer new ys → IsLawfulStation new ys
+lawful_turned h new xs ys i answer run lawful t =
+    let w = had h new xs ys i answer lawful t in
+    let P : List Input → Type 0 = IsLawfulStation new in
+    subst P (sym t.entries) (lawful_set h new xs i t.after run lawful w.others w.lawful)
 
-pub stuck_other : (h new : History) (xs : List Inlet) (answer : Sending) → SendAnswers h answer new → new ≡ h → ((i : ℕ) → answer ≡ sending.NotReady i → ⊥) → IsStuck answer (record { history = new; inputs = xs })
+-- nothing was sent
+pub step_unsent : (h new : History) (xs ys : List Input) (answer : Step) → (answer ≡ steps.Switched) ⊎ (answer ≡ steps.Turned) → IsLawfulStation h xs → RingSteps h xs answer new ys
+    → IsStep (record { history = h; inputs = xs }) (record { history = new; inputs = ys }) []
+step_unsent h new xs ys answer (inl e) lawful is =
+    let P : Step → Type 0 = λ v. RingSteps h xs v new ys in
+    let s = subst P e is in
+    inr (inl (refl, record { switch = s.0; inputs = s.1 }))
+step_unsent h new xs ys answer (inr e) lawful is =
+    let P : Step → Type 0 = λ v. RingSteps h xs v new ys in
+    let t = subst P e is in
+    step_turned h new xs ys t.0 t.1 t.2 lawful t.3
+
+pub lawful_unsent : (h new : History) (xs ys : List Input) (answer : Step) → (answer ≡ steps.Switched) ⊎ (answer ≡ steps.Turned) → new.run ≡ h.run → IsLawfulStation h xs → RingSteps h xs answer new ys → IsLawfulStation new ys
+lawful_unsent h new xs ys answer (inl e) run lawful is =
+    let P : Step → Type 0 = λ v. RingSteps h xs v new ys in
+    let s = subst P e is in
+    let L : List Input → Type 0 = IsLawfulStation new in
+    subst L (sym s.1) (lawful_sent h new sending.Switched xs s.0 lawful)
+lawful_unsent h new xs ys answer (inr e) run lawful is =
+    let P : Step → Type 0 = λ v. RingSteps h xs v new ys in
+    let t = subst P e is in
+    lawful_turned h new xs ys t.0 t.1 run lawful t.3
+
+-- No step.
+
+pub stuck_other : (h new : History) (xs : List Input) (answer : Sending) → SendAnswers h answer new → new ≡ h → ((i : ℕ) → answer ≡ sending.NotReady i → ⊥) → IsStuck answer (record { history = new; inputs = xs })
 stuck_other h new xs answer is same other =
     let P : History → Type 0 = λ v. SendAnswers v answer new in
     record { answers = subst P (sym same) is; unheld = λ i x e at. absurd (other i e) }
 
-pub stuck_waiting : (h between new : History) (xs : List Inlet) (i : ℕ) (x : Inlet) → SendAnswers h (sending.NotReady i) between → new ≡ between → slice_get xs i ≡ Some x → x.end.head ≡ None
-    → IsStuck (sending.NotReady i) (record { history = new; inputs = xs })
-stuck_waiting h between new xs i x is same at none =
+-- nothing is seen of the input for which the multiplex waits
+pub waits_on : (h new : History) (xs ys : List Input) (i : ℕ) → IsLawfulStation h xs → RingHasTurn i h xs turn.Waits new ys
+    → (new ≡ h) × (ys ≡ xs) × IsStuck (sending.NotReady i) (record { history = new; inputs = ys })
+waits_on h new xs ys i lawful t =
+    let none = (had h new xs ys i turn.Waits lawful t).comes in
+    let x = t.before in
+    let stays : ys ≡ xs = t.entries ∙ (ap (set xs i) (none.2 ∙ sym (get_or_from_slice_get xs i x x t.there)) ∙ set-get_or xs i x) in
     let P : History → Type 0 = λ v. SendAnswers v (sending.NotReady i) v in
-    let here : SendAnswers h (sending.NotReady i) h = (refl, is.1, is.2, is.3) in
-    record {
-      answers = subst P (sym (same ∙ is.0)) here;
-      unheld = λ j y e at'.
-          (let n : i ≡ j = cc in
-          let Q : ℕ → Type 0 = λ k. slice_get xs k ≡ Some y in
-          let there : slice_get xs i ≡ Some y = subst Q (sym n) at' in
-          let both : x ≡ y = cc in
-          ap (λ (v : Inlet). v.end.head) (sym both) ∙ none);
-    }
+    let here : SendAnswers h (sending.NotReady i) h = (refl, t.running, t.unswitched, t.unready) in (
+      none.1,
+      stays,
+      record {
+        answers = subst P (sym none.1) here;
+        unheld = λ j y e at.
+            (let n : i ≡ j = cc in
+            let there : slice_get xs i ≡ Some y = sym (ap (λ v. slice_get v i) stays) ∙ (ap (slice_get ys) n ∙ at) in
+            let both : x ≡ y = same_Some x y (sym t.there ∙ there) in
+            ap (λ (v : Input). v.inlet.head) (sym both) ∙ none.0);
+      },
+    )
 
 -- Rings, run and packets over many steps.
 
-rings_set : (xs : List Inlet) (i : ℕ) (x y : Inlet) → slice_get xs i ≡ Some x → y.end.ring ≡ x.end.ring → rings_of (set xs i y) ≡ rings_of xs
+rings_set : (xs : List Input) (i : ℕ) (x y : Input) → slice_get xs i ≡ Some x → y.inlet.ring ≡ x.inlet.ring → rings_of (set xs i y) ≡ rings_of xs
 rings_set [] i x y at same = refl
 rings_set (z ∷ xs) zero x y at same =
     let here : z ≡ x = cc in
-    let ring : y.end.ring ≡ z.end.ring = same ∙ ap (λ (v : Inlet). v.end.ring) (sym here) in
+    let ring : y.inlet.ring ≡ z.inlet.ring = same ∙ ap (λ (v : Input). v.inlet.ring) (sym here) in
     ap (λ r. r ∷ rings_of xs) ring
-rings_set (z ∷ xs) (suc i) x y at same = ap (λ rs. z.end.ring ∷ rs) (rings_set xs i x y at same)
+rings_set (z ∷ xs) (suc i) x y at same = ap (λ rs. z.inlet.ring ∷ rs) (rings_set xs i x y at same)
 
-pulled_ring : (i : ℕ) (a : History) (x : Inlet) (b : History) (y : Inlet) → (TakesNext i a x b y ⊎ ComesUntaken i a x b y) → y.end.ring ≡ x.end.ring
-pulled_ring i a x b y (inl takes) = ap (λ (v : Inlet). v.end.ring) takes.inlet
+pulled_ring : (i : ℕ) (a : History) (x : Input) (b : History) (y : Input) → (TakesNext i a x b y ⊎ ComesUntaken i a x b y) → y.inlet.ring ≡ x.inlet.ring
+pulled_ring i a x b y (inl takes) = ap (λ (v : Input). v.inlet.ring) takes.entry
 pulled_ring i a x b y (inr ends) = ends_ring i a x b y ends.0 ends.2
 
 pub step_rings : (old new : StationValue) (packets : List (List ℕ)) → IsStep old new packets → rings_of new.inputs ≡ rings_of old.inputs
@@ -142,31 +171,20 @@ unsent a b e same is = record {
   out = ap (λ (h : History). emitted h.run.schedule h.events) is ∙ (same ∙ sym (append-nil (emitted a.run.schedule a.events)));
 }
 
-noted : (i : ℕ) (a b : History) (item : Stamped) → NotesFull a i item b → Emits a b []
-noted i a b item is =
-    let e = with_event a (Full i is.0) in
-    let P : Bool → Type 0 = λ v. b ≡ (if v then a else e) → Emits a b [] in
-    let both : (v : Bool) → P v = λ v. elim v as P [ true ↦ λ is'. silent a b is' | false ↦ λ is'. unsent a b (Full i is.0) refl is' ] in
-    both (full_noted i a.events) is.3
-
-noted_early : (i : ℕ) (a b : History) → NotesEarly a i b → Emits a b []
-noted_early i a b is =
-    let e = with_event a (Early i) in
-    let P : Bool → Type 0 = λ v. b ≡ (if v then a else e) → Emits a b [] in
-    let both : (v : Bool) → P v = λ v. elim v as P [ true ↦ λ is'. silent a b is' | false ↦ λ is'. unsent a b (Early i) refl is' ] in
-    both (early_noted i a.events) is
+one_emits : (i : ℕ) (a b : History) → IsOneOf i a b → Emits a b []
+one_emits i a b (inl same) = silent a b same
+one_emits i a b (inr one) = unsent a b one.0 (emitted_same a.run.schedule i one.0 a.events one.2) one.1
 
 held_back : (i : ℕ) (a b : History) (item : Stamped) (is_closed : Bool) → IsHeldBack i a item b is_closed → Emits a b []
 held_back i a b item true is = unsent a b (Close i) refl is.1
-held_back i a b item false (inl full) = noted i a b item full.1
-held_back i a b item false (inr early) = noted_early i a b early.1
+held_back i a b item false is = one_emits i a b (put_off_one i a b item is)
 
-pub ends_emits : (i : ℕ) (a : History) (x : Inlet) (b : History) (y : Inlet) (ending : Ending) → EndsBy i a x b y ending → Emits a b []
+pub ends_emits : (i : ℕ) (a : History) (x : Input) (b : History) (y : Input) (ending : Ending) → EndsBy i a x b y ending → Emits a b []
 ends_emits i a x b y Nothing is = silent a b is.1
 ends_emits i a x b y Mark is = unsent a b (Close i) refl is.1
 ends_emits i a x b y (HeldBack item came) is = held_back i a b item y.is_closed is.1
 
-pulled_emits : (i : ℕ) (a : History) (x : Inlet) (b : History) (y : Inlet) → (TakesNext i a x b y ⊎ ComesUntaken i a x b y) → Emits a b []
+pulled_emits : (i : ℕ) (a : History) (x : Input) (b : History) (y : Input) → (TakesNext i a x b y ⊎ ComesUntaken i a x b y) → Emits a b []
 pulled_emits i a x b y (inl takes) = unsent a b (Took i takes.item) refl takes.history
 pulled_emits i a x b y (inr ends) = ends_emits i a x b y ends.0 ends.2
 

@@ -12,18 +12,17 @@ use Rattle.mux.specs.Lawful.{IsLawful, input_count}
 use Rattle.mux.specs.Faithful.{PacketLists, IsPrefix, IsRunOf}
 use Rattle.mux.proofs.Emitted.{length-emitted}
 use Rattle.mux.proofs.Same.{outputs_agree}
-use Rattle.station.specs.declared.inlet.Inlet.{Inlet}
-use Rattle.station.specs.Stations.{StationValue, IsLawfulInlet}
+use Rattle.station.specs.Stations.{Input, StationValue, IsLawfulInput}
 use Rattle.station.specs.Agreement.{IsStation, IsGiven, StationsAgree, SlotsAgree}
-use Rattle.station.proofs.FaithfulLaws.{IsTakenOf, prefix_on, notes_of_list, faithful_to}
+use Rattle.inlets.proofs.FaithfulLaws.{IsTakenOf, prefix_on, notes_of_list, faithful_to}
 
 -- the input was taken so that it begins its list
-taken_of : (lists : PacketLists) (s : StationValue) (i : ℕ) (x : Inlet) → IsGiven lists s → slice_get s.inputs i ≡ Some x → IsLawfulInlet s.history i x → IsTakenOf s.history.run.schedule s.history.events i (lists i)
+taken_of : (lists : PacketLists) (s : StationValue) (i : ℕ) (x : Input) → IsGiven lists s → slice_get s.inputs i ≡ Some x → IsLawfulInput s.history i x → IsTakenOf s.history.run.schedule s.history.events i (lists i)
 taken_of lists s i x given at kept =
     let h = s.history.events in
     record {
-      begins = prefix_on (taken i h) x.end.received (lists i) (option_to_list x.end.head, kept.received) (given.begins i x at);
-      notes = notes_of_list s.history.run.schedule i x.end.received (lists i) h (given.begins i x at) kept.notes;
+      begins = prefix_on (taken i h) x.inlet.received (lists i) (option_to_list x.inlet.head, kept.received) (given.begins i x at);
+      notes = notes_of_list s.history.run.schedule i (taken i h ++ option_to_list x.inlet.head) (lists i) h (subst (λ v. IsPrefix v (lists i)) kept.received (given.begins i x at)) kept.notes;
       closed = λ shut. elim (kept.closes (kept.closed ∙ shut)) [
         | inl e ↦
             given.whole i x at e.0

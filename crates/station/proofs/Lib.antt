@@ -1,9 +1,7 @@
-pub mod EventLaws
-pub mod InletLaws
+pub mod InputLaws
 pub mod MovingLaws
 pub mod StationLaws
 pub mod OpeningLaws
 pub mod TakingLaws
 pub mod AdvancingLaws
-pub mod FaithfulLaws
 pub mod AgreementLaws

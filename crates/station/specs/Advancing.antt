@@ -5,8 +5,7 @@ use Rattle.mux.specs.Answers.{IsRunning, IsUnswitched, IsLeastUnready, SendAnswe
 use Rattle.mux.specs.declared.sending.Sending.{Sending}
 use Rattle.mux.specs.declared.sending.Sending.TheVariants as sending
 use Rattle.mux.specs.declared.slot.Slot.TheVariants as slot
-use Rattle.station.specs.declared.inlet.Inlet.{Inlet}
-use Rattle.station.specs.Stations.{StationValue}
+use Rattle.station.specs.Stations.{Input, StationValue}
 use Rattle.station.specs.Moving.{TakesNext, ComesUntaken}
 
 -- the next slot was sent, and carried this packet
@@ -20,8 +19,8 @@ pub record Pulls (i : ℕ) (old new : StationValue) : Type 0 where
   pub running : IsRunning old.history
   pub unswitched : IsUnswitched old.history
   pub unready : IsLeastUnready old.history i
-  pub before : Inlet
-  pub after : Inlet
+  pub before : Input
+  pub after : Input
   pub input : slice_get old.inputs i ≡ Some before
   pub inputs : new.inputs ≡ slice_set old.inputs i after
   pub pulled : TakesNext i old.history before new.history after ⊎ ComesUntaken i old.history before new.history after
@@ -49,7 +48,7 @@ Steps (suc n) old new packets =
 -- packet is shown, and nothing is seen in its ring.
 pub record IsStuck (answer : Sending) (s : StationValue) : Type 0 where
   pub answers : SendAnswers s.history answer s.history
-  pub unheld : (i : ℕ) (x : Inlet) → answer ≡ sending.NotReady i → slice_get s.inputs i ≡ Some x → x.end.head ≡ None
+  pub unheld : (i : ℕ) (x : Input) → answer ≡ sending.NotReady i → slice_get s.inputs i ≡ Some x → x.inlet.head ≡ None
 
 -- A station went on by at most so many steps: by all of them, which is answered as `Sent`, or until no step can be done.
 pub record Advances (most : ℕ) (old : StationValue) (answer : Sending) (new : StationValue) (packets : List (List ℕ)) : Type 0 where

@@ -6,8 +6,8 @@ use Rattle.schedule.specs.Schedule.{ScheduleValue}
 use Rattle.mux.specs.History.{slots, emitted}
 use Rattle.mux.specs.Headline.{IsSound}
 use Rattle.mux.specs.Faithful.{PacketLists, IsPrefix}
-use Rattle.station.specs.declared.inlet.Inlet.{Inlet}
-use Rattle.station.specs.Stations.{StationValue, IsLawfulStation, IsRefusedForGood}
+use Rattle.inlets.specs.Turns.{IsRefusedForGood}
+use Rattle.station.specs.Stations.{Input, StationValue, IsLawfulStation}
 
 -- what each station keeps, however it went on
 pub record IsStation (schedule : ScheduleValue) (s : StationValue) : Type 0 where
@@ -18,10 +18,10 @@ pub record IsStation (schedule : ScheduleValue) (s : StationValue) : Type 0 wher
 -- Through the rings come these packets, one list an input: what came out of an input's ring begins its list, and is all of it where
 -- the end mark came; and each of them can be taken in its turn.
 pub record IsGiven (lists : PacketLists) (s : StationValue) : Type 0 where
-  pub begins : (i : ℕ) (x : Inlet) → slice_get s.inputs i ≡ Some x → IsPrefix x.end.received (lists i)
-  pub whole : (i : ℕ) (x : Inlet) → slice_get s.inputs i ≡ Some x → x.end.is_ended ≡ true → lists i ≡ x.end.received
-  pub takeable : (i : ℕ) (x : Inlet) (item : Stamped)
-      → slice_get s.inputs i ≡ Some x → x.end.head ≡ Some item → IsRefusedForGood s.history i item → ⊥
+  pub begins : (i : ℕ) (x : Input) → slice_get s.inputs i ≡ Some x → IsPrefix x.inlet.received (lists i)
+  pub whole : (i : ℕ) (x : Input) → slice_get s.inputs i ≡ Some x → x.inlet.is_ended ≡ true → lists i ≡ x.inlet.received
+  pub takeable : (i : ℕ) (x : Input) (item : Stamped)
+      → slice_get s.inputs i ≡ Some x → x.inlet.head ≡ Some item → IsRefusedForGood s.history i item → ⊥
 
 -- Of two stations of one schedule that are given the same packets, what one sent begins what the other sent.
 abbrev pub StationsAgree : Type 0

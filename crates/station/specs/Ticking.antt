@@ -3,19 +3,18 @@ use Rattle.std.specs.Prelude.{◌≡◌, ℕ, suc, List, [], ◌∷◌, MatchBoo
 use Rattle.mux.specs.History.{History}
 use Rattle.mux.specs.Answers.{SendAnswers}
 use Rattle.mux.specs.declared.sending.Sending.{Sending}
-use Rattle.station.specs.declared.inlet.Inlet.{Inlet}
-use Rattle.station.specs.Stations.{StationValue}
+use Rattle.station.specs.Stations.{Input, StationValue}
 use Rattle.station.specs.Moving.{MovesIn}
 
 -- of an open input packets were moved in, and nothing of a closed one
-abbrev pub Moves : ℕ → ℕ → History → Inlet → History → Inlet → Type 0
+abbrev pub Moves : ℕ → ℕ → History → Input → History → Input → Type 0
 Moves i most old x new y = MatchBool x.is_closed ((new ≡ old) × (y ≡ x)) (MovesIn i most old x new y)
 
 -- the same of these inputs in turn, of which the first has the number i
-abbrev pub MovesAll : ℕ → ℕ → History → List Inlet → History → List Inlet → Type 0
+abbrev pub MovesAll : ℕ → ℕ → History → List Input → History → List Input → Type 0
 MovesAll i most old [] new ys = (new ≡ old) × (ys ≡ [])
 MovesAll i most old (x ∷ xs) new ys =
-    (between : History) × (y : Inlet) × (rest : List Inlet) × (ys ≡ y ∷ rest) × Moves i most old x between y × MovesAll (suc i) most between xs new rest
+    (between : History) × (y : Input) × (rest : List Input) × (ys ≡ y ∷ rest) × Moves i most old x between y × MovesAll (suc i) most between xs new rest
 
 -- What the rings showed was moved in, input 0 first, at most as many packets an input as a ring has room for; and then the
 -- multiplex answered for the next slot.

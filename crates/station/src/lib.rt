@@ -7,7 +7,6 @@
 #![tactic(auto)]
 
 mod advancing;
-mod inlet;
 mod laws;
 mod moving;
 mod settled;

@@ -12,13 +12,13 @@ ghost use Rattle.mux.specs.Headline.{IsSound};
 ghost use Rattle.station.specs.Stations.{IsLawfulStation, rings_of};
 ghost use Rattle.station.specs.Ticking.{Ticks, MovesAll};
 ghost use Rattle.station.specs.Advancing.{Advances, AdvancesBehind};
-ghost use Rattle.station.specs.Opening.{IsOpened, new_inlet};
+ghost use Rattle.station.specs.Opening.{IsOpened, new_entry};
 ghost use Rattle.station.specs.Settling.{IsSettled};
 
 use crate::advancing::advance_behind;
-use crate::inlet::Inlet;
 use crate::moving::move_in;
 use crate::settled::Settled;
+use inlets::Entry;
 use mux::{Counts, Mux, Peak, Sending, Totals};
 use port::{FinishedPort, Port, RingEnd, ports};
 use schedule::Schedule;
@@ -34,7 +34,7 @@ use tspkt::Packet;
 #[derive(Drop)]
 pub struct Station {
     mux: Mux,
-    inlets: Vec<Inlet>,
+    entries: Vec<Entry<RingEnd>>,
     /// How many packets a ring has room for.
     ring: usize,
 }
@@ -45,35 +45,35 @@ impl Model for Station {
 
     ghost Value = { StationValue };
 
-    ghost view = { λ s. record { history = s.mux; inputs = s.inlets.items } };
+    ghost view = { λ s. record { history = s.mux; inputs = s.entries.items } };
 
-    ghost invariant = { λ s. IsLawfulStation s.mux s.inlets.items
+    ghost invariant = { λ s. IsLawfulStation s.mux s.entries.items
         × (s.ring ≡ s.mux.run.schedule.first.request.ring) };
 }
 
 /// The inputs that come through these rings, of which nothing came.
-fn new_inlets(alloc: Global, ends: Vec<RingEnd>) -> Result<Vec<Inlet>, AllocError>
-    ensures { IfOk result (λ v. v.items ≡ map new_inlet ends.items) }
+fn new_entries(alloc: Global, ends: Vec<RingEnd>) -> Result<Vec<Entry<RingEnd>>, AllocError>
+    ensures { IfOk result (λ v. v.items ≡ map new_entry ends.items) }
 {
-    let mut inlets = Vec::new(alloc);
+    let mut entries = Vec::new(alloc);
     for end in ends {
-        inlets.push(Inlet {
-            end,
+        entries.push(Entry {
+            inlet: end,
             is_closed: false,
         })?;
     }
-    Ok(inlets)
+    Ok(entries)
 }
 
 /// Moves what the rings show into the multiplex, input 0 first, at most so many packets an input.
-fn move_all(mux: &mut Mux, inlets: &mut Vec<Inlet>, most: usize)
-    requires { IsLawfulStation mux.old inlets.old.items }
-    ensures moves { MovesAll 0 most mux.old inlets.old.items mux.new inlets.new.items }
-    ensures lawful { IsLawfulStation mux.new inlets.new.items }
+fn move_all(mux: &mut Mux, entries: &mut Vec<Entry<RingEnd>>, most: usize)
+    requires { IsLawfulStation mux.old entries.old.items }
+    ensures moves { MovesAll 0 most mux.old entries.old.items mux.new entries.new.items }
+    ensures lawful { IsLawfulStation mux.new entries.new.items }
     ensures run { mux.new.run ≡ mux.old.run }
 {
-    for number in 0..inlets.len() {
-        move_in(mux, number, &mut inlets[number], most);
+    for number in 0..entries.len() {
+        move_in(mux, number, &mut entries[number], most);
     }
 }
 
@@ -91,9 +91,9 @@ impl Station {
         let plan = schedule.plan(0);
         let ring = plan.request().ring();
         let (ports, ends) = ports(alloc, plan.inputs().len(), ring)?;
-        let inlets = new_inlets(alloc, ends)?;
+        let entries = new_entries(alloc, ends)?;
         let mux = Mux::open(alloc, schedule, slots)?;
-        Ok((Station { mux, inlets, ring }, ports))
+        Ok((Station { mux, entries, ring }, ports))
     }
 
     /// Moves what the rings show into the multiplex, input 0 first, at most as many packets an input as a ring has room for,
@@ -107,7 +107,7 @@ impl Station {
         ensures rings { rings_of self.new.inputs ≡ rings_of self.old.inputs }
         ensures run { self.new.history.run ≡ self.old.history.run }
     {
-        move_all(&mut self.mux, &mut self.inlets, self.ring);
+        move_all(&mut self.mux, &mut self.entries, self.ring);
         self.mux.send_next()
     }
 
@@ -142,7 +142,7 @@ impl Station {
         ensures run { self.new.history.run ≡ self.old.history.run }
         ensures room { (vec_len sent.new ≤ vec_len sent.old + most) × (vec_capacity sent.old ≤ vec_capacity sent.new) }
     {
-        advance_behind(&mut self.mux, &mut self.inlets, most, sent)
+        advance_behind(&mut self.mux, &mut self.entries, most, sent)
     }
 
     /// How many slots were sent. What every station keeps is known with it.
@@ -192,7 +192,7 @@ impl Station {
         requires { input < input_count self.now.history.run.schedule }
         ensures { result ≡ is_closed input self.now.history.events }
     {
-        self.inlets[input].is_closed
+        self.entries[input].is_closed
     }
 
     /// What became of the packets that a port of this station sent, which sends no more.
@@ -203,9 +203,9 @@ impl Station {
     {
         let mut port = port;
         let input = port.input();
-        let inlet = &mut self.inlets[input];
-        let left = inlet.end.left(&mut port);
-        let held = if inlet.end.is_showing() { 1 } else { 0 };
+        let entry = &mut self.entries[input];
+        let left = entry.inlet.left(&mut port);
+        let held = if entry.inlet.is_showing() { 1 } else { 0 };
         Settled {
             taken: self.mux.totals(input).taken,
             held,

@@ -19,7 +19,7 @@ use Rattle.reading.specs.declared.stop.Stop.TheVariants.{ReadFailed, Memory}
 use Rattle.serial.specs.Feeding.{packet_lists, AreKnown}
 use Rattle.serial.proofs.GivingLaws.{IsToldStop}
 use Rattle.station.specs.Stations.{StationValue}
-use Rattle.station.proofs.FaithfulLaws.{IsTakenOf, faithful_to}
+use Rattle.inlets.proofs.FaithfulLaws.{IsTakenOf, faithful_to}
 use Rattle.threaded.specs.Giving.{GivesSome, TakesWhatCame}
 use Rattle.threaded.proofs.ListLaws.{get_within}
 use Rattle.threaded.proofs.GivenLaws.{IsServedInput, given_list, gives_some_of, taken_of}

@@ -17,8 +17,7 @@ use Rattle.reading.specs.declared.stop.Stop.TheVariants.{Gate}
 use Rattle.port.specs.Rings.{RingId, PortValue, FinishedValue}
 use Rattle.worker.specs.Working.{HasSentOf}
 use Rattle.worker.specs.declared.worker.Worker.{Worker}
-use Rattle.station.specs.Stations.{StationValue, rings_of}
-use Rattle.station.specs.declared.inlet.Inlet.{Inlet}
+use Rattle.station.specs.Stations.{Input, StationValue, rings_of}
 use Rattle.serial.proofs.OpeningLaws.{push_cases}
 use Rattle.threaded.specs.Working.{IsWorkOf}
 use Rattle.threaded.proofs.ListLaws.{map_push, drop_next, drop_more, get_within}
@@ -114,11 +113,11 @@ pub record IsServed {R : Type 0} (remaining : R → Option (List ℕ)) (limit : 
   pub is_ended : Bool
   pub has : HasSentOf limit p (origin_of i input) (remaining reader) (remaining left) report is_ended sent
   pub unmarked : report.stopped ≡ Some Gate → is_ended ≡ false
-  pub inlet : Inlet
-  pub inlet_is : slice_get station.inputs i ≡ Some inlet
+  pub entry : Input
+  pub entry_is : slice_get station.inputs i ≡ Some entry
   pub rest : List Stamped
-  pub sent_is : sent ≡ (taken i station.history.events ++ option_to_list inlet.end.head) ++ rest
-  pub marked : inlet.end.is_ended ≡ true → (is_ended ≡ true) × (rest ≡ [])
+  pub sent_is : sent ≡ (taken i station.history.events ++ option_to_list entry.inlet.head) ++ rest
+  pub marked : entry.inlet.is_ended ≡ true → (is_ended ≡ true) × (rest ≡ [])
 
 pub served : {R G : Type 0} (remaining : R → Option (List ℕ)) (failures : R → ℕ) (limit : InputLimit) (p : ScheduleValue) (station : StationValue) (i : ℕ) (input : InputValue) (reader : R) (port : PortValue) (w : Worker R (RunGate G)) (e : Ended R G)
     → IsStarted limit p i reader port w → port.ring.input ≡ i → slice_get p.first.request.inputs i ≡ Some input → IsEnded remaining failures station w e
@@ -133,11 +132,11 @@ served {R} {G} remaining failures limit p station i input reader port w e starte
       is_ended = ended.finished.is_ended;
       unmarked = ended.work.unmarked;
       has = subst T (λ k. (started.limit_is k, started.plan_is k, started.number_is k, started.source_is k)) worked.1;
-      inlet = ended.settles.input;
-      inlet_is = ap (λ n. slice_get station.inputs n) (sym number) ∙ ended.settles.input_is;
+      entry = ended.settles.input;
+      entry_is = ap (λ n. slice_get station.inputs n) (sym number) ∙ ended.settles.input_is;
       rest = ended.settles.left;
       marked = ended.settles.marked;
-      sent_is = sym (ap (λ (v : PortValue). v.sent) worked.2) ∙ (ended.settles.sent ∙ ap (λ n. (taken n events ++ option_to_list ended.settles.input.end.head) ++ ended.settles.left) number);
+      sent_is = sym (ap (λ (v : PortValue). v.sent) worked.2) ∙ (ended.settles.sent ∙ ap (λ n. (taken n events ++ option_to_list ended.settles.input.inlet.head) ++ ended.settles.left) number);
     }
 
 pub consumed : (start rest : Option (List ℕ)) (bytes all : List ℕ) → start ≡ Some all → Consumes start rest bytes → (more : List ℕ) × (all ≡ bytes ++ more)
@@ -153,7 +152,7 @@ served_begins remaining limit p station i input reader left report all s start =
     let more = consumed (remaining reader) (remaining left) s.has.bytes all start s.has.read in
     let later = s.has.begins more.0 in
     let took = taken i station.history.events in
-    let held = option_to_list s.inlet.end.head in (
+    let held = option_to_list s.entry.inlet.head in (
       (held ++ s.rest) ++ later.0,
       sym (append_assoc took (held ++ s.rest) later.0)
           ∙ (ap (λ v. v ++ later.0) (sym (append_assoc took held s.rest) ∙ sym s.sent_is)

@@ -3,51 +3,30 @@ use Rattle.std.proofs.Common.{◌≡◌, ℕ, zero, suc, ◌⊎◌, List, Bool, 
 use Rattle.std.specs.Prelude.{Result, Ok, Err, OnOk, OnErr}
 use Rattle.tspkt.specs.declared.stamped.Stamped.{Stamped}
 use Rattle.mux.specs.declared.event.Event.{Event}
-use Rattle.mux.specs.declared.event.Event.TheVariants.{Took, Full, Early, Close}
-use Rattle.mux.specs.History.{History, with_event, full_noted, early_noted}
-use Rattle.mux.specs.Answers.{NotesFull, NotesEarly}
-use Rattle.serial.specs.Feeding.{IsOfInput}
+use Rattle.mux.specs.declared.event.Event.TheVariants.{Took, Close}
+use Rattle.mux.specs.History.{History}
+use Rattle.inlets.proofs.NoteLaws.{IsOneOf, put_off_one}
 use Rattle.serial.specs.Running.{WaitsFor, TakesAsNeeded}
 use Rattle.outlet.specs.declared.slot_writer.SlotWriter.{SlotWriter}
 use Rattle.serial.proofs.RunningLaws.{needed_of}
 use Rattle.serial.proofs.OutcomeLaws.{all_begun}
-use Rattle.station.specs.declared.inlet.Inlet.{Inlet}
-use Rattle.station.specs.Stations.{StationValue}
+use Rattle.station.specs.Stations.{Input, StationValue}
 use Rattle.station.specs.Moving.{TakesNext, ComesUntaken, EndsBy, Ending, Nothing, Mark, HeldBack, IsHeldBack}
 use Rattle.station.specs.Advancing.{IsStep, Steps}
 use Rattle.threaded.specs.Driving.{output_of, IsSameRun, BreaksOff, IsDriven}
 
 -- What comes of an input comes where the multiplex waits for it.
 
--- at most one event of the input came
-abbrev IsOneOf : ℕ → History → History → Type 0
-IsOneOf i a b = (b ≡ a) ⊎ ((e : Event) × (b ≡ with_event a e) × IsOfInput i e)
-
-noted : (i : ℕ) (a b : History) (item : Stamped) → NotesFull a i item b → IsOneOf i a b
-noted i a b item is =
-    let e = with_event a (Full i is.0) in
-    let P : Bool → Type 0 = λ v. b ≡ (if v then a else e) → IsOneOf i a b in
-    let both : (v : Bool) → P v = λ v. elim v as P [ true ↦ λ is'. inl is' | false ↦ λ is'. inr (Full i is.0, is', refl) ] in
-    both (full_noted i a.events) is.3
-
-noted_early : (i : ℕ) (a b : History) → NotesEarly a i b → IsOneOf i a b
-noted_early i a b is =
-    let e = with_event a (Early i) in
-    let P : Bool → Type 0 = λ v. b ≡ (if v then a else e) → IsOneOf i a b in
-    let both : (v : Bool) → P v = λ v. elim v as P [ true ↦ λ is'. inl is' | false ↦ λ is'. inr (Early i, is', refl) ] in
-    both (early_noted i a.events) is
-
 held_back : (i : ℕ) (a b : History) (item : Stamped) (is_closed : Bool) → IsHeldBack i a item b is_closed → IsOneOf i a b
 held_back i a b item true is = inr (Close i, is.1, refl)
-held_back i a b item false (inl full) = noted i a b item full.1
-held_back i a b item false (inr early) = noted_early i a b early.1
+held_back i a b item false is = put_off_one i a b item is
 
-ends : (i : ℕ) (a : History) (x : Inlet) (b : History) (y : Inlet) (ending : Ending) → EndsBy i a x b y ending → IsOneOf i a b
+ends : (i : ℕ) (a : History) (x : Input) (b : History) (y : Input) (ending : Ending) → EndsBy i a x b y ending → IsOneOf i a b
 ends i a x b y Nothing is = inl is.1
 ends i a x b y Mark is = inr (Close i, is.1, refl)
 ends i a x b y (HeldBack item came) is = held_back i a b item y.is_closed is.1
 
-pulled : (i : ℕ) (a : History) (x : Inlet) (b : History) (y : Inlet) → (TakesNext i a x b y ⊎ ComesUntaken i a x b y) → IsOneOf i a b
+pulled : (i : ℕ) (a : History) (x : Input) (b : History) (y : Input) → (TakesNext i a x b y ⊎ ComesUntaken i a x b y) → IsOneOf i a b
 pulled i a x b y (inl takes) = inr (Took i takes.item, takes.history, refl)
 pulled i a x b y (inr ending) = ends i a x b y ending.0 ending.2
 

@@ -22,15 +22,17 @@ use Rattle.serial.specs.Giving.{Gives}
 use Rattle.serial.proofs.FeedingLaws.{next_in_order}
 use Rattle.serial.proofs.GivingLaws.{IsToldStop, same_bytes}
 use Rattle.serial.proofs.OutcomeLaws.{all_read}
-use Rattle.station.specs.Stations.{StationValue, IsLawfulInlet, IsRefusedForGood, NotesAreOfNext}
+use Rattle.inlets.specs.Turns.{IsRefusedForGood}
+use Rattle.inlets.specs.Notes.{NotesAreOfShown}
+use Rattle.station.specs.Stations.{StationValue, IsLawfulInput}
 use Rattle.threaded.specs.Giving.{GivesSome}
 use Rattle.threaded.proofs.CrewLaws.{IsServed, consumed}
-use Rattle.station.proofs.FaithfulLaws.{IsTakenOf, prefix_on, notes_of_list}
+use Rattle.inlets.proofs.FaithfulLaws.{IsTakenOf, prefix_on, notes_of_list}
 
 -- The station kept the input that the worker served, of a schedule's input.
 pub record IsServedInput {R : Type 0} (remaining : R → Option (List ℕ)) (limit : ℕ) (p : ScheduleValue) (station : StationValue) (i : ℕ) (input : InputValue) (reader left : R) (report : Report) : Type 0 where
   pub served : IsServed remaining limit p station i input reader left report
-  pub kept : IsLawfulInlet station.history i served.inlet
+  pub kept : IsLawfulInput station.history i served.entry
   pub plan_is : station.history.run.schedule ≡ p
   pub schedule : IsMultiplexSchedule p
   pub input_is : slice_get p.first.request.inputs i ≡ Some input
@@ -38,7 +40,7 @@ pub record IsServedInput {R : Type 0} (remaining : R → Option (List ℕ)) (lim
 
 -- no packet that a worker sent is refused for good
 unrefused : {R : Type 0} (remaining : R → Option (List ℕ)) (limit : ℕ) (p : ScheduleValue) (station : StationValue) (i : ℕ) (input : InputValue) (reader left : R) (report : Report) (item : Stamped)
-    → (x : IsServedInput remaining limit p station i input reader left report) → x.served.inlet.end.head ≡ Some item → IsRefusedForGood station.history i item → ⊥
+    → (x : IsServedInput remaining limit p station i input reader left report) → x.served.entry.inlet.head ≡ Some item → IsRefusedForGood station.history i item → ⊥
 unrefused remaining limit p station i input reader left report item x held refused =
     let s = x.served in
     let h = station.history.events in
@@ -59,7 +61,7 @@ unrefused remaining limit p station i input reader left report item x held refus
 -- Of a closed input the end mark came, and nothing is held or left.
 pub record IsBehindMark {R : Type 0} (remaining : R → Option (List ℕ)) (limit : ℕ) (p : ScheduleValue) (station : StationValue) (i : ℕ) (input : InputValue) (reader left : R) (report : Report) (s : IsServed remaining limit p station i input reader left report) : Type 0 where
   pub is_ended : s.is_ended ≡ true
-  pub unheld : s.inlet.end.head ≡ None
+  pub unheld : s.entry.inlet.head ≡ None
   pub none_left : s.rest ≡ []
 
 pub behind_mark : {R : Type 0} (remaining : R → Option (List ℕ)) (limit : ℕ) (p : ScheduleValue) (station : StationValue) (i : ℕ) (input : InputValue) (reader left : R) (report : Report)
@@ -187,15 +189,14 @@ pub taken_of : {R : Type 0} (remaining : R → Option (List ℕ)) (limit : ℕ) 
 taken_of remaining limit p station i input reader left report starts all x from start =
     let s = x.served in
     let h = station.history.events in
-    let held = option_to_list s.inlet.end.head in
+    let held = option_to_list s.entry.inlet.head in
     let list = packet_lists p starts i in
     let is = list_is p starts i input all x.input_is from in
     let P : List Stamped → Type 0 = IsPrefix s.sent in
     let front : IsPrefix s.sent list = subst P (sym is) (sent_begins remaining limit p station i input reader left report all s start) in
-    let N : ScheduleValue → Type 0 = λ v. NotesAreOfNext v i s.inlet.end.received h in
-    let received : IsPrefix s.inlet.end.received s.sent = (s.rest, s.sent_is ∙ ap (λ v. v ++ s.rest) (sym x.kept.received)) in
+    let N : ScheduleValue → Type 0 = λ v. NotesAreOfShown v i s.entry.inlet.head h in
     record {
       begins = begins_list (taken i h) s.sent list report.stopped (held ++ s.rest, s.sent_is ∙ append_assoc (taken i h) held s.rest) front;
-      notes = notes_of_list p i s.inlet.end.received (given_list s.sent list report.stopped) h (begins_list s.inlet.end.received s.sent list report.stopped received front) (subst N x.plan_is x.kept.notes);
+      notes = notes_of_list p i (taken i h ++ held) (given_list s.sent list report.stopped) h (begins_list (taken i h ++ held) s.sent list report.stopped (s.rest, s.sent_is) front) (subst N x.plan_is x.kept.notes);
       closed = λ shut. closed_list remaining limit p station i input reader left report all list report.stopped x start is shut refl;
     }

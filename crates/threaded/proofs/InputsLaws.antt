@@ -68,7 +68,7 @@ served_input remaining failures limit p station readers ended i input at x plan_
     let schedule : IsMultiplexSchedule p = subst IsMultiplexSchedule plan_is sound.schedule in
     record {
       served = x.served;
-      kept = kept.each i x.served.inlet x.served.inlet_is;
+      kept = kept.each i x.served.entry x.served.entry_is;
       plan_is = plan_is;
       schedule = schedule;
       input_is = at;

@@ -20,9 +20,8 @@ use Rattle.analyse.specs.ReportValue.{ReportValue}
 use Rattle.analyse.specs.FaultReport.{IsReportOf}
 use Rattle.port.specs.Rings.{RingId, PortValue}
 use Rattle.worker.specs.declared.worker.Worker.{Worker}
-use Rattle.station.specs.Stations.{StationValue, IsLawfulStation, rings_of}
+use Rattle.station.specs.Stations.{Input, StationValue, IsLawfulStation, rings_of}
 use Rattle.station.specs.Opening.{IsOpened, IsFresh}
-use Rattle.station.specs.declared.inlet.Inlet.{Inlet}
 use Rattle.serial.specs.Running.{AreBegun, IsOver, TakesAsNeeded}
 use Rattle.serial.proofs.SoundLaws.{sound_nothing}
 use Rattle.serial.proofs.OutcomeLaws.{nothing_sent, finished}
@@ -81,7 +80,7 @@ port_at n readers gates ports i seat are at =
 
 -- the ports of a station that was opened
 pub fresh_at : (p : ScheduleValue) (slots : ℕ) (station : StationValue) (ports : List PortValue) (i : ℕ) (port : PortValue) → IsOpened p slots station ports → slice_get ports i ≡ Some port
-    → (x : Inlet) × (slice_get station.inputs i ≡ Some x) × IsFresh i port x
+    → (x : Input) × (slice_get station.inputs i ≡ Some x) × IsFresh i port x
 fresh_at p slots station ports i port is at =
     let inside = slice_get_within ports i port at in
     let x = get_within station.inputs i (omega (arith, inside, is.ports_are, is.inputs_are)) in
@@ -117,7 +116,7 @@ ready_seated {R} {G} p slots readers gates opened seats ready of_readers of_gate
     let are = are_inputs p slots readers gates opened seats ready of_readers of_gates in
     let here = ap (λ (v : List ((R × G) × PortValue)). slice_get v i) (sym ready.seats_are) ∙ at in
     let f = fresh_at p slots opened ready.ports i seat.1 ready.opened (port_at (length p.first.request.inputs) readers gates ready.ports i seat are here) in
-    let ring_of : Inlet → RingId = λ x. x.end.ring in
+    let ring_of : Input → RingId = λ x. x.inlet.ring in
     let there : slice_get (rings_of opened.inputs) i ≡ Some seat.1.ring = slice_get-map ring_of opened.inputs i ∙ (ap (option_map ring_of) f.1 ∙ ap Some f.2.ring) in
     let N : ℕ → Type 0 = λ k. slice_get (rings_of opened.inputs) k ≡ Some seat.1.ring in
     subst N (sym f.2.number) there

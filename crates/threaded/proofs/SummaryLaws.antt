@@ -115,7 +115,7 @@ counted : {R : Type 0} (remaining : R → Option (List ℕ)) (limit : ℕ) (p : 
 counted remaining limit p station i input reader left report s all x had last known =
     let c = x.served.has.counted in
     let took = taken i station.history.events in
-    let held = option_to_list x.served.inlet.end.head in
+    let held = option_to_list x.served.entry.inlet.head in
     let rest = x.served.rest in
     let read = option_to_list c.held in
     let framing = framed_all (stride_at (origin_of i input)) (remaining reader) (remaining left) x.served.has.bytes all c.looked known x.served.has.read c.framing in
@@ -191,9 +191,9 @@ pub taken_begins : {R : Type 0} (remaining : R → Option (List ℕ)) (limit : �
     → (x : IsServed remaining limit p station i input reader left report) → BeginsTakeable p (origin_of i input) x.has.bytes (taken i station.history.events)
 taken_begins remaining limit p station i input reader left report x more =
     let took = taken i station.history.events in
-    let behind = option_to_list x.inlet.end.head ++ x.rest in
+    let behind = option_to_list x.entry.inlet.head ++ x.rest in
     let later = x.has.begins more in
-    (behind ++ later.0, sym (append_assoc took behind later.0) ∙ (ap (λ v. v ++ later.0) (sym (x.sent_is ∙ append_assoc took (option_to_list x.inlet.end.head) x.rest)) ∙ later.1))
+    (behind ++ later.0, sym (append_assoc took behind later.0) ∙ (ap (λ v. v ++ later.0) (sym (x.sent_is ∙ append_assoc took (option_to_list x.entry.inlet.head) x.rest)) ∙ later.1))
 
 pub read_on : {R : Type 0} (remaining : R → Option (List ℕ)) (limit : ℕ) (p : ScheduleValue) (station : StationValue) (i : ℕ) (input : InputValue) (reader left : R) (report : Report) (s : InputSummary)
     → IsServedInput remaining limit p station i input reader left report → IsLast station.history.events i report s.report

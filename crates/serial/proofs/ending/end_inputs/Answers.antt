@@ -21,6 +21,6 @@ loop-input-preserved g c =
     (c.into_source.ensures ∙ c.leave.ensures.source) (subst P place c.totals.ensures)
     (record {
       left = λ opened free. c.report.ensures.value ∙ c.leave.ensures.gate opened free;
-      closed = λ e. c.report.ensures.value ∙ ap (λ v. v.reader.report) (c.leave.ensures.closed e);
-      stopped = λ some. c.report.ensures.value ∙ ap (λ v. v.reader.report) (c.leave.ensures.stopped some);
+      closed = λ e. c.report.ensures.value ∙ ap (λ v. v.inlet.report) (c.leave.ensures.closed e);
+      stopped = λ some. c.report.ensures.value ∙ ap (λ v. v.inlet.report) (c.leave.ensures.stopped some);
     })))

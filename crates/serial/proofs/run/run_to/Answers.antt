@@ -7,11 +7,11 @@ use Rattle.mux.specs.History.{Run, emitted}
 use Rattle.outlet.specs.Written.{SendsBeginning}
 use Rattle.outlet.specs.Sending.{bytes_of}
 use Rattle.serial.specs.Running.{IsOver}
-use Rattle.serial.specs.declared.serial_input.SerialInput.{SerialInput}
 use Rattle.outlet.proofs.SendingLaws.{if_err_always, if_err_is, same_err}
 use Rattle.serial.proofs.HaltedLaws.{halted_running, unrefused_running}
 use Rattle.serial.proofs.OutcomeLaws.{has_run, has_begun_nothing, has_begun, all_begun, nothing_sent, failures_told}
 use Rattle.serial.proofs.run.run_to.Goals as goal
+use Rattle.serial.specs.Feeding.{SerialInput}
 
 pub finish-requires : goal.finish-requires
 finish-requires g c =
@@ -47,7 +47,7 @@ returns-clause-readers g c =
     let starts = map g.R.Source.remaining c.args.readers.items in
     let is = c.in_ok-driven.ensures.runs run c.args.limit starts c.in_ok-run.ensures.running in
     let inputs = c.drive-driven.new.self.inputs.items in
-    let source : SerialInput g.row.R.Denot → g.row.R.Denot = λ x. x.reader.stream.source in
+    let source : SerialInput g.row.R.Denot → g.row.R.Denot = λ x. x.inlet.stream.source in
     omega (arith, ap length c.in_ok-finish.ensures.inputs.sources_are, length-map inputs source, is.fed.count, c.requires.readers)
 
 pub returns-clause-read_failed : goal.returns-clause-read_failed

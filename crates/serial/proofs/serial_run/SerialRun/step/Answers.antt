@@ -1,155 +1,254 @@
-use Rattle.std.proofs.Common.{◌≡◌, length, refl, ap, ◌∙◌, sym, subst, inl, inr, arith, Err}
+use Rattle.std.proofs.Common.{◌≡◌, ◌⊎◌, ◌<◌, ℕ, List, length, refl, ap, ◌∙◌, sym, subst, inl, inr, arith, Err, set, Some}
+use Rattle.std.specs.Prelude.{OnErr}
 use Rattle.std.specs.List.{length_refill}
 use Rattle.std.specs.Vec.{with_items}
-use Rattle.mux.specs.History.{Run, History}
+use Rattle.mux.specs.History.{Run, History, emitted}
+use Rattle.mux.specs.Lawful.{input_count}
+use Rattle.mux.specs.Plans.{IsMultiplexSchedule}
 use Rattle.mux.proofs.Emitted.{last_sent}
 use Rattle.mux.proofs.Heads.{some_of, lent_last}
 use Rattle.schedule.specs.Schedule.{ScheduleValue}
-use Rattle.serial.specs.Feeding.{AreLimited}
-use Rattle.serial.specs.Giving.{TakesInOrder}
-use Rattle.serial.specs.Running.{TakesAsNeeded, IsRunning, AreFed, AreHalted}
-use Rattle.serial.proofs.HaltedLaws.{halted_fed, halted_running, unrefused_running}
-use Rattle.outlet.proofs.SendingLaws.{on_err_always, same_err}
+use Rattle.reading.specs.declared.stop.Stop.TheVariants.{Memory}
+use Rattle.outlet.specs.Written.{Sends}
+use Rattle.outlet.specs.Sending.{bytes_of}
 use Rattle.outlet.specs.declared.run_fault.RunFault.TheVariants.{Write}
+use Rattle.outlet.proofs.SendingLaws.{on_err_always, on_err_three, same_err}
 use Rattle.std.proofs.lemmas.Result.{err_from_is_err_and}
-use Rattle.serial.proofs.RunningLaws.{runs_sent, runs_switched, fewer_switched, written_switched, fewer_sent, written_sent, unsent_stays, runs_pulled, fewer_pulled, written_pulled, begun_pulled, fed_sent, order_sent, needed_sent, sent_begun}
+use Rattle.serial.specs.declared.serial_run.SerialRun.{SerialRun}
+use Rattle.serial.specs.Feeding.{SerialInput, AreLimited, AreUnrefused, AllTellFailures}
+use Rattle.serial.specs.Running.{TakesAsNeeded, IsRunning, AreFed, AreHalted}
+use Rattle.serial.proofs.HaltedLaws.{halted_fed, unrefused_running}
+use Rattle.serial.proofs.RunningLaws.{runs_sent, fewer_sent, written_sent, fed_sent, needed_sent, sent_begun}
+use Rattle.serial.proofs.StepLaws.{fed_of, unsent_by, waits_at, still_unready, still_feeds, unsent_read, tell_read, halted_read, unrefused_read, runs_unsent, written_unsent, begun_unsent, over_by, runs_over}
+use Rattle.serial.proofs.WaitingLaws.{on_fault, stop_of}
 use Rattle.serial.proofs.serial_run.SerialRun.step.Goals as goal
 
+pub take_step-requires : goal.take_step-requires
+take_step-requires g c =
+    let is = c.requires.3 in
+    is.fed.count ∙ ap (λ (r : Run). input_count r.schedule) (sym is.run_is)
+
 pub unwrap-packet-requires : goal.unwrap-packet-requires
-unwrap-packet-requires g c = some_of c.last.result _ (c.last.ensures ∙ last_sent c.args.self.now.mux c.send_next.new.self c.in-Sent.ensures.answer)
+unwrap-packet-requires g c = some_of c.last.result _ (c.last.ensures ∙ last_sent c.args.self.now.mux c.take_step.new.mux c.in-Sent.ensures.steps.0)
+
+-- a slot was sent
 
 pub returns-in_ok-put-in-Sent-clause-runs : goal.returns-in_ok-put-in-Sent-clause-runs
 returns-in_ok-put-in-Sent-clause-runs g c run limit starts is =
-    runs_sent g.R.Source.remaining run limit starts c.args.self.now c.send_next.new.self c.put.new.self c.unwrap-packet.result.now is (lent_last c.args.self.now.mux c.send_next.new.self c.last.result c.unwrap-packet.result c.in-Sent.ensures.answer c.unwrap-packet.ensures c.last.ensures) c.send_next.ensures.run c.in_ok-put-in-Sent.ensures.analysed
+    let old = c.args.self.now in
+    runs_sent g.R.Source.remaining run limit starts old (record old { mux = c.take_step.new.mux; inputs = c.take_step.new.entries; output = c.put.new.self }) c.unwrap-packet.result.now is
+    (lent_last old.mux c.take_step.new.mux c.last.result c.unwrap-packet.result c.in-Sent.ensures.steps.0 c.unwrap-packet.ensures c.last.ensures) c.take_step.ensures.run c.in-Sent.ensures.steps.1 is.piece c.in_ok-put-in-Sent.ensures.analysed
 
 pub returns-in_ok-put-in-Sent-clause-fewer : goal.returns-in_ok-put-in-Sent-clause-fewer
-returns-in_ok-put-in-Sent-clause-fewer g c e = fewer_sent c.args.self.now.mux c.send_next.new.self c.unwrap-packet.result.now (lent_last c.args.self.now.mux c.send_next.new.self c.last.result c.unwrap-packet.result c.in-Sent.ensures.answer c.unwrap-packet.ensures c.last.ensures)
+returns-in_ok-put-in-Sent-clause-fewer g c e =
+    let old = c.args.self.now in
+    fewer_sent old.mux c.take_step.new.mux c.unwrap-packet.result.now (lent_last old.mux c.take_step.new.mux c.last.result c.unwrap-packet.result c.in-Sent.ensures.steps.0 c.unwrap-packet.ensures c.last.ensures)
 
 pub returns-in_ok-put-in-Sent-clause-written : goal.returns-in_ok-put-in-Sent-clause-written
 returns-in_ok-put-in-Sent-clause-written g c before first =
-    written_sent c.args.self.now.mux.run.schedule c.args.self.now.mux c.send_next.new.self c.unwrap-packet.result.now before (g.W.Sink.contents c.args.sink.now) (g.W.Sink.contents c.put.new.sink)
-    c.args.self.now.output.writer c.put.new.self.writer refl (lent_last c.args.self.now.mux c.send_next.new.self c.last.result c.unwrap-packet.result c.in-Sent.ensures.answer c.unwrap-packet.ensures c.last.ensures) first c.in_ok-put-in-Sent.ensures.written
-
-pub returns-in_ok-pull_at-in-NotReady-clause-runs :
-    goal.returns-in_ok-pull_at-in-NotReady-clause-runs
-returns-in_ok-pull_at-in-NotReady-clause-runs g c run limit starts is =
     let old = c.args.self.now in
-    let length_is : old.piece.len ≡ length old.piece.items = sym c.as_mut_slice-piece.ensures.len ∙ ap length c.as_mut_slice-piece.ensures.value in
-    let kept = length_refill old.piece.len old.piece.items c.pull_at.new.piece length_is in
-    let some = is.piece in
-    runs_pulled g.R.Source.remaining run limit starts old
-    (record old { mux = c.pull_at.new.mux; inputs = c.pull_at.new.inputs; piece = with_items old.piece c.pull_at.new.piece; output = c.pull_at.new.output })
-    c.send_next.new.self c.in-NotReady.input is c.in-NotReady.ensures.answer.1.within c.in-NotReady.ensures.answer.3 c.in-NotReady.ensures.answer.0 (omega (arith, some, length_is, kept)) c.pull_at.ensures.out.output
-    c.in_ok-pull_at-in-NotReady.ensures.event c.in_ok-pull_at-in-NotReady.ensures.fed c.pull_at.ensures.limited c.pull_at.ensures.order
+    written_sent old.mux.run.schedule old.mux c.take_step.new.mux c.unwrap-packet.result.now before (g.W.Sink.contents c.args.sink.now) (g.W.Sink.contents c.put.new.sink)
+    old.output.writer c.put.new.self.writer refl (lent_last old.mux c.take_step.new.mux c.last.result c.unwrap-packet.result c.in-Sent.ensures.steps.0 c.unwrap-packet.ensures c.last.ensures) first c.in_ok-put-in-Sent.ensures.written
 
-pub returns-in_ok-pull_at-in-NotReady-clause-fewer :
-    goal.returns-in_ok-pull_at-in-NotReady-clause-fewer
-returns-in_ok-pull_at-in-NotReady-clause-fewer g c e =
-    fewer_pulled c.args.self.now.mux c.send_next.new.self c.pull_at.new.mux c.in-NotReady.input c.in-NotReady.ensures.answer.0 c.in-NotReady.ensures.answer.3.input
-    c.in_ok-pull_at-in-NotReady.ensures.event c.in_ok-pull_at-in-NotReady.ensures.fewer
-
-pub returns-in_ok-pull_at-in-NotReady-clause-written :
-    goal.returns-in_ok-pull_at-in-NotReady-clause-written
-returns-in_ok-pull_at-in-NotReady-clause-written g c before first =
-    let old = c.args.self.now in
-    written_pulled old.mux.run.schedule old.mux c.send_next.new.self c.pull_at.new.mux c.in-NotReady.input before (g.W.Sink.contents c.args.sink.now) (g.W.Sink.contents c.pull_at.new.sink) old.output.writer c.pull_at.new.output.writer
-    c.in-NotReady.ensures.answer.0 c.in_ok-pull_at-in-NotReady.ensures.event first c.in_ok-pull_at-in-NotReady.ensures.out.written
-
-pub returns-in_err-pull_at-in-NotReady-clause-sent_begun :
-    goal.returns-in_err-pull_at-in-NotReady-clause-sent_begun
-returns-in_err-pull_at-in-NotReady-clause-sent_begun g c =
-    let old = c.args.self.now in
-    on_err_always c.from_residual-in_err-pull_at-in-NotReady.result
-    (λ before first.
-    begun_pulled old.mux.run.schedule old.mux c.pull_at.new.mux before (g.W.Sink.contents c.args.sink.now) (g.W.Sink.contents c.pull_at.new.sink) old.output.writer
-    (c.in_err-pull_at-in-NotReady.ensures.err ∙ c.in-NotReady.ensures.answer.0) first c.pull_at.ensures.out.begun)
+pub returns-in_ok-put-in-Sent-clause-failures_told : goal.returns-in_ok-put-in-Sent-clause-failures_told
+returns-in_ok-put-in-Sent-clause-failures_told g c befores all =
+    let T : List (SerialInput _) → Type 0 = AllTellFailures g.R.Source.failures befores in
+    subst T (sym c.in-Sent.ensures.steps.1) all
 
 pub returns-in_err-put-in-Sent-clause-halted : goal.returns-in_err-put-in-Sent-clause-halted
 returns-in_err-put-in-Sent-clause-halted g c =
     let old = c.args.self.now in
     let packet = c.unwrap-packet.result.now in
-    let answer = lent_last old.mux c.send_next.new.self c.last.result c.unwrap-packet.result c.in-Sent.ensures.answer c.unwrap-packet.ensures c.last.ensures in
+    let answer = lent_last old.mux c.take_step.new.mux c.last.result c.unwrap-packet.result c.in-Sent.ensures.steps.0 c.unwrap-packet.ensures c.last.ensures in
     on_err_always c.from_residual.result
-    (λ run limit starts is. (
-      halted_fed g.R.Source.remaining limit run.schedule c.send_next.new.self.events starts old.inputs.items
-          (fed_sent g.R.Source.remaining run.schedule old.mux c.send_next.new.self packet starts old.inputs.items answer is.fed) is.limited
-          (order_sent run.schedule old.mux c.send_next.new.self packet old.inputs.items answer is.in_order),
-      needed_sent run old.mux c.send_next.new.self packet answer is.needed,
+    (λ run limit starts is.
+    let H : List (SerialInput _) → Type 0 = AreHalted g.R.Source.remaining limit run.schedule c.take_step.new.mux.events starts in (
+      subst H (sym c.in-Sent.ensures.steps.1) (halted_fed g.R.Source.remaining limit run.schedule c.take_step.new.mux.events starts old.inputs.items
+          (fed_sent g.R.Source.remaining run.schedule old.mux c.take_step.new.mux packet starts old.inputs.items answer is.fed) is.limited),
+      needed_sent run old.mux c.take_step.new.mux packet answer is.needed,
     ))
 
-pub returns-in_err-put-in-Sent-clause-sent_begun :
-    goal.returns-in_err-put-in-Sent-clause-sent_begun
+pub returns-in_err-put-in-Sent-clause-sent_begun : goal.returns-in_err-put-in-Sent-clause-sent_begun
 returns-in_err-put-in-Sent-clause-sent_begun g c =
     let old = c.args.self.now in
     on_err_always c.from_residual.result
-    (λ before first. sent_begun old.mux.run.schedule old.mux c.send_next.new.self c.unwrap-packet.result.now before (g.W.Sink.contents c.args.sink.now) (g.W.Sink.contents c.put.new.sink) old.output.writer refl
-    (lent_last c.args.self.now.mux c.send_next.new.self c.last.result c.unwrap-packet.result c.in-Sent.ensures.answer c.unwrap-packet.ensures c.last.ensures) first c.in_err-put-in-Sent.ensures.begun)
-
-pub returns-in_err-pull_at-in-NotReady-clause-halted :
-    goal.returns-in_err-pull_at-in-NotReady-clause-halted
-returns-in_err-pull_at-in-NotReady-clause-halted g c =
-    let old = c.args.self.now in
-    let between = c.send_next.new.self in
-    let now = c.pull_at.new in
-    on_err_always c.from_residual-in_err-pull_at-in-NotReady.result
-    (λ run limit starts is.
-    let same : between ≡ old.mux = c.in-NotReady.ensures.answer.0 in
-    let schedule : between.run.schedule ≡ run.schedule = ap (λ (v : History). v.run.schedule) same ∙ ap (λ (r : Run). r.schedule) is.run_is in
-    let F : History → Type 0 = λ v. AreFed g.R.Source.remaining between.run.schedule v.events starts old.inputs.items in
-    let G : ScheduleValue → Type 0 = λ p. AreFed g.R.Source.remaining p old.mux.events starts old.inputs.items in
-    let T : History → Type 0 = λ v. TakesInOrder between.run.schedule v.events old.inputs.items in
-    let O : ScheduleValue → Type 0 = λ p. TakesInOrder p old.mux.events old.inputs.items in
-    let A : ScheduleValue → Type 0 = λ p. AreHalted g.R.Source.remaining limit p between.events starts now.inputs.items in
-    let B : History → Type 0 = λ v. AreHalted g.R.Source.remaining limit run.schedule v.events starts now.inputs.items in
-    let N : History → Type 0 = λ v. TakesAsNeeded run v.events in
-    let err = c.in_err-pull_at-in-NotReady.ensures.err in
-    let L : ScheduleValue → Type 0 = λ p. AreLimited limit p old.inputs.items in
-    let halted = c.in_err-pull_at-in-NotReady.ensures.halted limit starts (subst F (sym same) (subst G (sym schedule) is.fed)) (subst L (sym schedule) is.limited) (subst T (sym same) (subst O (sym schedule) is.in_order)) in
-    (subst B (sym err) (subst A schedule halted), subst N (sym err) (subst N (sym same) is.needed)))
-
-pub returns-in_err-pull_at-in-NotReady-clause-unrefused :
-    goal.returns-in_err-pull_at-in-NotReady-clause-unrefused
-returns-in_err-pull_at-in-NotReady-clause-unrefused g c e =
-    let old = c.args.self.now in
-    let between = c.send_next.new.self in
-    let goes = c.requires in
-    let is = goes.3 in
-    let same : between ≡ old.mux = c.in-NotReady.ensures.answer.0 in
-    let schedule : between.run.schedule ≡ goes.0.schedule = ap (λ (v : History). v.run.schedule) same ∙ ap (λ (r : Run). r.schedule) is.run_is in
-    let F : History → Type 0 = λ v. AreFed g.R.Source.remaining between.run.schedule v.events goes.2 old.inputs.items in
-    let G : ScheduleValue → Type 0 = λ p. AreFed g.R.Source.remaining p old.mux.events goes.2 old.inputs.items in
-    let answer = c.from_residual-in_err-pull_at-in-NotReady in
-    let passed = err_from_is_err_and answer.result answer.ensures.1 in
-    let write : passed.0 ≡ Write = same_err answer.result passed.0 Write passed.1 e in
-    c.pull_at.ensures.unrefused (c.in_err-pull_at-in-NotReady.was ∙ ap Err (sym passed.2 ∙ write)) goes.2 (subst F (sym same) (subst G (sym schedule) is.fed))
-
-pub returns-in-Memory-clause-halted : goal.returns-in-Memory-clause-halted
-returns-in-Memory-clause-halted g c run limit starts is =
-    let old = c.args.self.now in
-    let same = c.in-Memory.ensures.answer.0 in
-    let P : History → Type 0 = λ v. AreHalted g.R.Source.remaining limit run.schedule v.events starts old.inputs.items in
-    let N : History → Type 0 = λ v. TakesAsNeeded run v.events in
-    (subst P (sym same) (halted_running g.R.Source.remaining run limit starts old is), subst N (sym same) is.needed)
+    (λ before first. sent_begun old.mux.run.schedule old.mux c.take_step.new.mux c.unwrap-packet.result.now before (g.W.Sink.contents c.args.sink.now) (g.W.Sink.contents c.put.new.sink) old.output.writer refl
+    (lent_last old.mux c.take_step.new.mux c.last.result c.unwrap-packet.result c.in-Sent.ensures.steps.0 c.unwrap-packet.ensures c.last.ensures) first c.in_err-put-in-Sent.ensures.begun)
 
 pub returns-in_err-put-in-Sent-clause-unrefused : goal.returns-in_err-put-in-Sent-clause-unrefused
 returns-in_err-put-in-Sent-clause-unrefused g c e =
     let goes = c.requires in
-    unrefused_running g.R.Source.remaining goes.0 goes.1 goes.2 c.args.self.now goes.3
+    let A : List (SerialInput _) → Type 0 = AreUnrefused in
+    subst A (sym c.in-Sent.ensures.steps.1) (unrefused_running g.R.Source.remaining goes.0 goes.1 goes.2 c.args.self.now goes.3)
+
+pub returns-in_err-put-in-Sent-clause-failures_told : goal.returns-in_err-put-in-Sent-clause-failures_told
+returns-in_err-put-in-Sent-clause-failures_told g c befores all =
+    let T : List (SerialInput _) → Type 0 = AllTellFailures g.R.Source.failures befores in
+    subst T (sym c.in-Sent.ensures.steps.1) all
+
+-- the next plan came into force, or an input had its turn
+
+pub returns-in-Switched-clause-runs : goal.returns-in-Switched-clause-runs
+returns-in-Switched-clause-runs g c run limit starts is =
+    let old = c.args.self.now in
+    runs_unsent g.R.Source.remaining g.R.Source.failures run limit starts old (record old { mux = c.take_step.new.mux; inputs = c.take_step.new.entries }) is
+    (unsent_by g.R.Source.remaining g.R.Source.failures old.mux c.take_step.new.mux old.inputs.items c.take_step.new.entries.items c.take_step.result (subst IsMultiplexSchedule c.schedule.ensures c.known.ensures) (fed_of g.R.Source.remaining old c.requires) c.in-Switched.is c.take_step.ensures.steps) is.piece refl
+
+pub returns-in-Switched-clause-fewer : goal.returns-in-Switched-clause-fewer
+returns-in-Switched-clause-fewer g c e =
+    let old = c.args.self.now in
+    (unsent_by g.R.Source.remaining g.R.Source.failures old.mux c.take_step.new.mux old.inputs.items c.take_step.new.entries.items c.take_step.result (subst IsMultiplexSchedule c.schedule.ensures c.known.ensures) (fed_of g.R.Source.remaining old c.requires) c.in-Switched.is c.take_step.ensures.steps).fewer
+
+pub returns-in-Switched-clause-written : goal.returns-in-Switched-clause-written
+returns-in-Switched-clause-written g c before first =
+    let old = c.args.self.now in
+    let P : List (List ℕ) → Type 0 = λ v. Sends before (g.W.Sink.contents c.args.sink.now) (bytes_of v) old.output.writer in
+    subst P (sym (unsent_by g.R.Source.remaining g.R.Source.failures old.mux c.take_step.new.mux old.inputs.items c.take_step.new.entries.items c.take_step.result (subst IsMultiplexSchedule c.schedule.ensures c.known.ensures) (fed_of g.R.Source.remaining old c.requires) c.in-Switched.is c.take_step.ensures.steps).out) first
+
+pub returns-in-Switched-clause-failures_told : goal.returns-in-Switched-clause-failures_told
+returns-in-Switched-clause-failures_told g c befores all =
+    let old = c.args.self.now in
+    (unsent_by g.R.Source.remaining g.R.Source.failures old.mux c.take_step.new.mux old.inputs.items c.take_step.new.entries.items c.take_step.result (subst IsMultiplexSchedule c.schedule.ensures c.known.ensures) (fed_of g.R.Source.remaining old c.requires) c.in-Switched.is c.take_step.ensures.steps).tell befores all
+
+-- an input was read on, and had its turn
+
+pub read_on-requires-clause-unready : goal.read_on-requires-clause-unready
+read_on-requires-clause-unready g c =
+    let old = c.args.self.now in
+    let i = c.in-Waits.input in
+    let mid = c.index_mut.result.now in
+    let w = waits_at g.R.Source.remaining g.R.Source.failures old.mux c.take_step.new.mux old.inputs.items c.take_step.new.entries.items i mid c.in-Waits.ensures.steps c.index_mut.ensures.value in
+    still_unready g.R.Source.remaining g.R.Source.failures old.mux c.take_step.new.mux old.inputs.items c.take_step.new.entries.items i mid w
+
+pub read_on-requires-clause-feeds : goal.read_on-requires-clause-feeds
+read_on-requires-clause-feeds g c =
+    let old = c.args.self.now in
+    let i = c.in-Waits.input in
+    let mid = c.index_mut.result.now in
+    let w = waits_at g.R.Source.remaining g.R.Source.failures old.mux c.take_step.new.mux old.inputs.items c.take_step.new.entries.items i mid c.in-Waits.ensures.steps c.index_mut.ensures.value in
+    still_feeds g.R.Source.remaining g.R.Source.failures old.mux c.take_step.new.mux old.inputs.items c.take_step.new.entries.items i mid w (fed_of g.R.Source.remaining old c.requires)
+
+pub returns-in_ok-read_on-in-Waits-clause-runs :
+    goal.returns-in_ok-read_on-in-Waits-clause-runs
+returns-in_ok-read_on-in-Waits-clause-runs g c run limit starts is =
+    let old = c.args.self.now in
+    let i = c.in-Waits.input in
+    let mid = c.index_mut.result.now in
+    let w = waits_at g.R.Source.remaining g.R.Source.failures old.mux c.take_step.new.mux old.inputs.items c.take_step.new.entries.items i mid c.in-Waits.ensures.steps c.index_mut.ensures.value in
+    let length_is : old.piece.len ≡ length old.piece.items = sym c.as_mut_slice-piece.ensures.len ∙ ap length c.as_mut_slice-piece.ensures.value in
+    let kept = length_refill old.piece.len old.piece.items c.read_on.new.piece length_is in
+    let some = is.piece in
+    runs_unsent g.R.Source.remaining g.R.Source.failures run limit starts old
+    _ is
+    (unsent_read g.R.Source.remaining g.R.Source.failures old.mux c.take_step.new.mux c.read_on.new.mux old.inputs.items c.take_step.new.entries.items i mid c.read_on.new.input w c.in_ok-read_on-in-Waits.ensures.event c.in_ok-read_on-in-Waits.ensures.fewer c.in_ok-read_on-in-Waits.ensures.feeds c.read_on.ensures.limit c.read_on.ensures.failures)
+    (omega (arith, some, length_is, kept)) c.read_on.ensures.out.output
+
+pub returns-in_ok-read_on-in-Waits-clause-fewer :
+    goal.returns-in_ok-read_on-in-Waits-clause-fewer
+returns-in_ok-read_on-in-Waits-clause-fewer g c e =
+    let old = c.args.self.now in
+    let i = c.in-Waits.input in
+    let mid = c.index_mut.result.now in
+    let w = waits_at g.R.Source.remaining g.R.Source.failures old.mux c.take_step.new.mux old.inputs.items c.take_step.new.entries.items i mid c.in-Waits.ensures.steps c.index_mut.ensures.value in
+    (unsent_read g.R.Source.remaining g.R.Source.failures old.mux c.take_step.new.mux c.read_on.new.mux old.inputs.items c.take_step.new.entries.items i mid c.read_on.new.input w c.in_ok-read_on-in-Waits.ensures.event c.in_ok-read_on-in-Waits.ensures.fewer c.in_ok-read_on-in-Waits.ensures.feeds c.read_on.ensures.limit c.read_on.ensures.failures).fewer
+
+pub returns-in_ok-read_on-in-Waits-clause-written :
+    goal.returns-in_ok-read_on-in-Waits-clause-written
+returns-in_ok-read_on-in-Waits-clause-written g c before first =
+    let old = c.args.self.now in
+    let i = c.in-Waits.input in
+    let mid = c.index_mut.result.now in
+    let w = waits_at g.R.Source.remaining g.R.Source.failures old.mux c.take_step.new.mux old.inputs.items c.take_step.new.entries.items i mid c.in-Waits.ensures.steps c.index_mut.ensures.value in
+    let p = old.mux.run.schedule in
+    written_unsent (emitted p old.mux.events) (emitted p c.read_on.new.mux.events) before (g.W.Sink.contents c.args.sink.now) (g.W.Sink.contents c.read_on.new.sink) old.output.writer c.read_on.new.output.writer
+    (unsent_read g.R.Source.remaining g.R.Source.failures old.mux c.take_step.new.mux c.read_on.new.mux old.inputs.items c.take_step.new.entries.items i mid c.read_on.new.input w c.in_ok-read_on-in-Waits.ensures.event c.in_ok-read_on-in-Waits.ensures.fewer c.in_ok-read_on-in-Waits.ensures.feeds c.read_on.ensures.limit c.read_on.ensures.failures).out first c.in_ok-read_on-in-Waits.ensures.out.written
+
+pub returns-in_ok-read_on-in-Waits-clause-failures_told :
+    goal.returns-in_ok-read_on-in-Waits-clause-failures_told
+returns-in_ok-read_on-in-Waits-clause-failures_told g c =
+    let old = c.args.self.now in
+    let i = c.in-Waits.input in
+    let mid = c.index_mut.result.now in
+    let w = waits_at g.R.Source.remaining g.R.Source.failures old.mux c.take_step.new.mux old.inputs.items c.take_step.new.entries.items i mid c.in-Waits.ensures.steps c.index_mut.ensures.value in
+    tell_read g.R.Source.remaining g.R.Source.failures old.mux c.take_step.new.mux old.inputs.items c.take_step.new.entries.items i mid c.read_on.new.input w c.read_on.ensures.failures
+
+pub returns-in_err-read_on-in-Waits-clause-failures_told :
+    goal.returns-in_err-read_on-in-Waits-clause-failures_told
+returns-in_err-read_on-in-Waits-clause-failures_told g c =
+    let old = c.args.self.now in
+    let i = c.in-Waits.input in
+    let mid = c.index_mut.result.now in
+    let w = waits_at g.R.Source.remaining g.R.Source.failures old.mux c.take_step.new.mux old.inputs.items c.take_step.new.entries.items i mid c.in-Waits.ensures.steps c.index_mut.ensures.value in
+    tell_read g.R.Source.remaining g.R.Source.failures old.mux c.take_step.new.mux old.inputs.items c.take_step.new.entries.items i mid c.read_on.new.input w c.read_on.ensures.failures
+
+pub returns-in_err-read_on-in-Waits-clause-sent_begun :
+    goal.returns-in_err-read_on-in-Waits-clause-sent_begun
+returns-in_err-read_on-in-Waits-clause-sent_begun g c =
+    let old = c.args.self.now in
+    let i = c.in-Waits.input in
+    let mid = c.index_mut.result.now in
+    let w = waits_at g.R.Source.remaining g.R.Source.failures old.mux c.take_step.new.mux old.inputs.items c.take_step.new.entries.items i mid c.in-Waits.ensures.steps c.index_mut.ensures.value in
+    let p = old.mux.run.schedule in
+    on_err_always c.from_residual-in_err-read_on-in-Waits.result
+    (λ before first.
+    begun_unsent (emitted p old.mux.events) (emitted p c.read_on.new.mux.events) before (g.W.Sink.contents c.args.sink.now) (g.W.Sink.contents c.read_on.new.sink) old.output.writer
+    (ap (λ (v : History). emitted p v.events) (c.in_err-read_on-in-Waits.ensures.err ∙ w.waits.history)) first c.read_on.ensures.out.begun)
+
+pub returns-in_err-read_on-in-Waits-clause-halted :
+    goal.returns-in_err-read_on-in-Waits-clause-halted
+returns-in_err-read_on-in-Waits-clause-halted g c =
+    let old = c.args.self.now in
+    let i = c.in-Waits.input in
+    let mid = c.index_mut.result.now in
+    let w = waits_at g.R.Source.remaining g.R.Source.failures old.mux c.take_step.new.mux old.inputs.items c.take_step.new.entries.items i mid c.in-Waits.ensures.steps c.index_mut.ensures.value in
+    let y = c.read_on.new.input in
+    let stopped : OnErr c.read_on.result ((y.inlet.report.stopped ≡ Some Memory) ⊎ (y.inlet.report.stopped ≡ mid.inlet.report.stopped)) =
+    on_fault c.read_on.result (λ e. inl (c.read_on.ensures.refused e)) (λ e. inr (c.read_on.ensures.unrefused e)) in
+    let same : c.read_on.new.mux ≡ old.mux = c.in_err-read_on-in-Waits.ensures.err ∙ w.waits.history in
+    on_err_always c.from_residual-in_err-read_on-in-Waits.result
+    (λ run limit starts is.
+    let schedule : old.mux.run.schedule ≡ run.schedule = ap (λ (r : Run). r.schedule) is.run_is in
+    let A : ScheduleValue → Type 0 = λ p. AreFed g.R.Source.remaining p old.mux.events starts old.inputs.items × AreLimited limit p old.inputs.items in
+    let H : ScheduleValue × History → Type 0 = λ v. AreHalted g.R.Source.remaining limit v.0 v.1.events starts (set c.take_step.new.entries.items i y) in
+    let N : History → Type 0 = λ v. TakesAsNeeded run v.events in
+    let here = subst A (sym schedule) (is.fed, is.limited) in (
+      subst H (λ k. (schedule k, sym same k)) (halted_read g.R.Source.remaining g.R.Source.failures limit old.mux c.take_step.new.mux starts old.inputs.items c.take_step.new.entries.items i mid y w (stop_of c.read_on.result c.in_err-read_on-in-Waits.was stopped) c.in_err-read_on-in-Waits.ensures.given here.0 here.1),
+      subst N (sym same) is.needed,
+    ))
+
+pub returns-in_err-read_on-in-Waits-clause-unrefused :
+    goal.returns-in_err-read_on-in-Waits-clause-unrefused
+returns-in_err-read_on-in-Waits-clause-unrefused g c e =
+    let old = c.args.self.now in
+    let i = c.in-Waits.input in
+    let mid = c.index_mut.result.now in
+    let w = waits_at g.R.Source.remaining g.R.Source.failures old.mux c.take_step.new.mux old.inputs.items c.take_step.new.entries.items i mid c.in-Waits.ensures.steps c.index_mut.ensures.value in
+    let fed = fed_of g.R.Source.remaining old c.requires in
+    let answer = c.from_residual-in_err-read_on-in-Waits in
+    let passed = err_from_is_err_and answer.result answer.ensures.1 in
+    let write : passed.0 ≡ Write = same_err answer.result passed.0 Write passed.1 e in
+    unrefused_read g.R.Source.remaining g.R.Source.failures old.mux c.take_step.new.mux fed.0 old.inputs.items c.take_step.new.entries.items i mid c.read_on.new.input w (c.read_on.ensures.unrefused (c.in_err-read_on-in-Waits.was ∙ ap Err (sym passed.2 ∙ write))) fed.1
+
+-- the run is over
 
 pub returns-in-Done-clause-runs : goal.returns-in-Done-clause-runs
 returns-in-Done-clause-runs g c run limit starts is =
     let old = c.args.self.now in
-    let same = unsent_stays old.mux c.send_next.result c.send_next.new.self (elim c.in-Done.is [ inl e ↦ λ sent. cc | inr e ↦ λ sent. cc ]) (elim c.in-Done.is [ inl e ↦ λ switched. cc | inr e ↦ λ switched. cc ]) c.send_next.ensures.answer in
-    let P : History → Type 0 = λ v. IsRunning g.R.Source.remaining run limit starts (record old { mux = v }) in
-    subst P (sym same) is
+    runs_over g.R.Source.remaining run limit starts old (record old { mux = c.take_step.new.mux; inputs = c.take_step.new.entries }) is (over_by g.R.Source.remaining g.R.Source.failures old.mux c.take_step.new.mux old.inputs.items c.take_step.new.entries.items c.take_step.result c.in-Done.is c.take_step.ensures.steps) refl refl
 
-pub returns-in-Switched-clause-runs : goal.returns-in-Switched-clause-runs
-returns-in-Switched-clause-runs g c run limit starts is =
-    runs_switched g.R.Source.remaining run limit starts c.args.self.now c.send_next.new.self is c.in-Switched.ensures.answer c.send_next.ensures.run
+pub returns-in-Done-clause-over : goal.returns-in-Done-clause-over
+returns-in-Done-clause-over g c e =
+    let old = c.args.self.now in
+    (over_by g.R.Source.remaining g.R.Source.failures old.mux c.take_step.new.mux old.inputs.items c.take_step.new.entries.items c.take_step.result c.in-Done.is c.take_step.ensures.steps).over
 
-pub returns-in-Switched-clause-fewer : goal.returns-in-Switched-clause-fewer
-returns-in-Switched-clause-fewer g c e = fewer_switched c.args.self.now.mux c.send_next.new.self c.in-Switched.ensures.answer
+pub returns-in-Done-clause-written : goal.returns-in-Done-clause-written
+returns-in-Done-clause-written g c before first =
+    let old = c.args.self.now in
+    let P : History → Type 0 = λ v. Sends before (g.W.Sink.contents c.args.sink.now) (bytes_of (emitted old.mux.run.schedule v.events)) old.output.writer in
+    subst P (sym (over_by g.R.Source.remaining g.R.Source.failures old.mux c.take_step.new.mux old.inputs.items c.take_step.new.entries.items c.take_step.result c.in-Done.is c.take_step.ensures.steps).history) first
 
-pub returns-in-Switched-clause-written : goal.returns-in-Switched-clause-written
-returns-in-Switched-clause-written g c before first =
-    written_switched c.args.self.now.mux.run.schedule c.args.self.now.mux c.send_next.new.self before (g.W.Sink.contents c.args.sink.now) c.args.self.now.output.writer refl c.in-Switched.ensures.answer first
+pub returns-in-Done-clause-failures_told : goal.returns-in-Done-clause-failures_told
+returns-in-Done-clause-failures_told g c befores all =
+    let old = c.args.self.now in
+    let T : List (SerialInput _) → Type 0 = AllTellFailures g.R.Source.failures befores in
+    subst T (sym (over_by g.R.Source.remaining g.R.Source.failures old.mux c.take_step.new.mux old.inputs.items c.take_step.new.entries.items c.take_step.result c.in-Done.is c.take_step.ensures.steps).inputs) all

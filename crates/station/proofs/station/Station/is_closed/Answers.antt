@@ -8,7 +8,7 @@ use Rattle.station.proofs.station.Station.is_closed.Goals as goal
 pub returns : goal.returns
 returns c =
     let x = c.index.result.now in
-    let xs = c.self.inside.inlets.items in
+    let xs = c.self.inside.entries.items in
     let i = c.args.input in
     let is : x ≡ get_or xs i x = search rules in
     let inputs = ap (λ (s : StationValue). input_count s.history.run.schedule) c.self.view_is in

@@ -6,11 +6,11 @@ use Rattle.station.proofs.station.Station.tick.Goals as goal
 
 pub invariant_of-self : goal.invariant_of-self
 invariant_of-self c = (
-  lawful_sent c.move_all.new.mux c.send_next.new.self c.send_next.result c.move_all.new.inlets.items c.send_next.ensures.answer c.move_all.ensures.lawful,
+  lawful_sent c.move_all.new.mux c.send_next.new.self c.send_next.result c.move_all.new.entries.items c.send_next.ensures.answer c.move_all.ensures.lawful,
   c.self.invariant.1 ∙ ap (λ (r : Run). r.schedule.first.request.ring) (sym (c.send_next.ensures.run ∙ c.move_all.ensures.run)),
 )
 
 pub returns-clause-rings : goal.returns-clause-rings
 returns-clause-rings c =
-    rings_stay 0 c.self.inside.ring c.self.inside.mux c.self.inside.inlets.items c.move_all.new.mux c.move_all.new.inlets.items c.move_all.ensures.moves
+    rings_stay 0 c.self.inside.ring c.self.inside.mux c.self.inside.entries.items c.move_all.new.mux c.move_all.new.entries.items c.move_all.ensures.moves
     ∙ ap (λ (s : StationValue). rings_of s.inputs) c.self.view_is

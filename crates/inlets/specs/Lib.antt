@@ -1,0 +1,4 @@
+pub mod Looking
+pub mod Turns
+pub mod Notes
+pub mod Stepping
