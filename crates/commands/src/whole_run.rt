@@ -5,9 +5,9 @@ ghost use Rattle.mux.specs.declared.event.Event.{Event};
 ghost use Rattle.mux.specs.Plans.{IsMultiplexSchedule};
 ghost use Rattle.reading.specs.Failures.{FailsOnce};
 ghost use Rattle.reading.specs.InputLimit.{IsAllowed};
-ghost use Rattle.serial.specs.Outcome.{HasRun as HasRunInOneThread, HasBegun as HasBegunInOneThread, FailuresAreTold};
-ghost use Rattle.serial.specs.Running.{TakesAsNeeded};
-ghost use Rattle.threaded.specs.Outcome.{HasRun as HasRunInThreads, HasBegun as HasBegunInThreads};
+ghost use Rattle.outcome.specs.Outcome.{HasRun as HasRunInThreads, FailuresAreTold};
+ghost use Rattle.serial.specs.Outcome.{HasRun as HasRunInOneThread, HasBegun as HasBegunInOneThread};
+ghost use Rattle.threaded.specs.Outcome.{HasBegun as HasBegunInThreads};
 
 use outlet::{RunFault, Sink};
 use reading::{InputLimit, Source};
@@ -47,16 +47,14 @@ pub(crate) fn run_schedule<
     ensures serial { is_serial ≡ true → IfOk result.1 (λ done. (h : List Event)
         × HasRunInOneThread (record { run = record { schedule = schedule; limit = slots }; events = h }) limit
         (map R.remaining readers.items) (map R.remaining done.1.items)
-        (W.contents writer) (W.contents result.0) done.0
-        × TakesAsNeeded (record { schedule = schedule; limit = slots }) h) }
+        (W.contents writer) (W.contents result.0) done.0) }
     ensures threads { is_serial ≡ false → IfOk result.1 (λ done. (h : List Event)
         × HasRunInThreads (record { run = record { schedule = schedule; limit = slots }; events = h }) limit
         (map R.remaining readers.items) (map R.remaining done.1.items)
         (W.contents writer) (W.contents result.0) done.0) }
     ensures serial_begins { is_serial ≡ true → IfErr result.1 (λ fault. (h : List Event)
         × HasBegunInOneThread R.remaining R.failures (record { run = record { schedule = schedule; limit = slots }; events = h }) limit
-        readers.items (W.contents writer) (W.contents result.0) fault
-        × TakesAsNeeded (record { schedule = schedule; limit = slots }) h) }
+        readers.items (W.contents writer) (W.contents result.0) fault) }
     ensures threads_begins { is_serial ≡ false → IfErr result.1 (λ fault. (h : List Event)
         × HasBegunInThreads R.remaining R.failures (record { run = record { schedule = schedule; limit = slots }; events = h }) limit
         readers.items (W.contents writer) (W.contents result.0) (W.failures writer) (W.failures result.0) fault) }

@@ -9,9 +9,9 @@ mod judging;
 mod lane;
 mod made_input;
 mod made_reader;
+mod measured_run;
 mod multiplex;
 mod off_air;
-mod outcome;
 mod packet_maker;
 mod pids;
 mod place;
@@ -29,7 +29,7 @@ mod turns;
 
 use crate::job::Job;
 use crate::judging::judge;
-use crate::outcome::print_outcome;
+use crate::measured_run::print_measured;
 use crate::running::run_multiplex;
 use anyhow::{Context, Result, bail};
 use std::env;
@@ -58,8 +58,8 @@ fn main(rt: HostRuntime) -> Result<()> {
     let mut out = rt.stdout();
     match job {
         Job::Multiplex(multiplex) => {
-            let outcome = run_multiplex(rt.alloc(), rt, multiplex, seed, seconds)?;
-            print_outcome(name.as_str(), &outcome, &mut out)?;
+            let measured = run_multiplex(rt.alloc(), rt, multiplex, seed, seconds)?;
+            print_measured(name.as_str(), &measured, &mut out)?;
         }
         Job::Judged => judge(rt.alloc(), name.as_str(), seed, seconds, &mut out)?,
     }

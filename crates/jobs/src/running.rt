@@ -5,8 +5,8 @@ ghost use Rattle.std.specs.Prelude.{◌≡◌, length};
 use crate::digest::Digest;
 use crate::made_input::MadeInput;
 use crate::made_reader::MadeReader;
+use crate::measured_run::{MeasuredRun, check};
 use crate::multiplex::Multiplex;
-use crate::outcome::{Outcome, check};
 use crate::planned::plan_of;
 use crate::stream_maker::StreamMaker;
 use anyhow::{Result, bail};
@@ -87,7 +87,7 @@ pub fn run_multiplex<T: Threads + Wait + Clock + Copy + Send + Drop + 'static>(
     multiplex: Multiplex,
     seed: u64,
     seconds: u64,
-) -> Result<Outcome> {
+) -> Result<MeasuredRun> {
     let inputs = inputs_of(alloc, multiplex, seed)?;
     let plan = plan_of(alloc, multiplex, &inputs)?;
     let readers = readers_of(alloc, &inputs, seconds)?;
@@ -103,11 +103,11 @@ pub fn run_multiplex<T: Threads + Wait + Clock + Copy + Send + Drop + 'static>(
     let Ok(summary) = result else {
         bail!("the run had a fault");
     };
-    let outcome = Outcome {
+    let measured = MeasuredRun {
         plan: kept,
         summary,
         digest,
     };
-    check(&outcome)?;
-    Ok(outcome)
+    check(&measured)?;
+    Ok(measured)
 }

@@ -1,14 +1,10 @@
 pub mod FailureLaws
-pub mod OrderLaws
 pub mod FeedingLaws
-pub mod GivingLaws
 pub mod RunningLaws
 pub mod WaitingLaws
 pub mod TurnLaws
 pub mod OpeningLaws
-pub mod FaultBounds
-pub mod SoundLaws
 pub mod OutcomeLaws
 pub mod HaltedLaws
-pub mod OutputLaws
 pub mod StepLaws
+pub mod GoingLaws

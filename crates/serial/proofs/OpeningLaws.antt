@@ -1,5 +1,5 @@
 -- The inputs of a run before anything is read.
-use Rattle.std.proofs.Common.{ℕ, zero, suc, ◌<◌, ◌≤◌, ◌≡◌, ◌⊎◌, List, [], ◌∷◌, ◌++◌, length, map, Option, Some, false, refl, ap, ◌∙◌, sym, subst, arith, inl, inr}
+use Rattle.std.proofs.Common.{ℕ, ◌<◌, ◌≤◌, ◌≡◌, List, [], ◌∷◌, ◌++◌, length, map, Option, Some, false, refl, ap, ◌∙◌, sym, subst, arith, inl, inr}
 use Rattle.std.specs.List.{slice_get}
 use Rattle.std.proofs.lemmas.List.{length-append}
 use Rattle.std.proofs.lemmas.Option.{same_Some, slice_get_within, slice_get_cases, slice_get-map}
@@ -25,21 +25,10 @@ use Rattle.serial.specs.Feeding.{SerialInput, AreLimited, AllTellFailures}
 use Rattle.inlets.proofs.NoteLaws.{notes_none}
 use Rattle.outlet.specs.Sending.{HasAnalysed}
 use Rattle.serial.specs.Opening.{IsOpened, AreOpened}
-use Rattle.serial.specs.Running.{AreFed, IsRunning, TakesAsNeeded}
+use Rattle.outcome.specs.Taking.{TakesAsNeeded}
+use Rattle.outcome.proofs.ListLaws.{push_cases, from_map}
+use Rattle.serial.specs.Running.{AreFed, IsRunning}
 use Rattle.serial.specs.declared.serial_run.SerialRun.{SerialRun}
-
--- an element of a list with one more stands in the list, or is the last
-pub push_cases : {X : Type 0} (xs : List X) (y : X) (i : ℕ) (x : X) → slice_get (xs ++ y ∷ []) i ≡ Some x → (slice_get xs i ≡ Some x) ⊎ ((i ≡ length xs) × (x ≡ y))
-push_cases [] y zero x at = inr (refl, sym (same_Some y x at))
-push_cases [] y (suc i) x at = cc
-push_cases (z ∷ xs) y zero x at = inl at
-push_cases (z ∷ xs) y (suc i) x at = elim (push_cases xs y i x at) [ inl h ↦ inl h | inr h ↦ inr (ap suc h.0, h.1) ]
-
--- what an element of a list with each element's image is of
-pub from_map : {X Y : Type 0} (f : X → Y) (xs : List X) (i : ℕ) (y : Y) → slice_get (map f xs) i ≡ Some y → (x : X) × (slice_get xs i ≡ Some x) × (f x ≡ y)
-from_map f [] i y at = cc
-from_map f (x ∷ xs) zero y at = (x, refl, same_Some (f x) y at)
-from_map f (x ∷ xs) (suc i) y at = from_map f xs i y at
 
 pub opened_push : {R : Type 0} (remaining : R → Option (List ℕ)) (failures : R → ℕ) (limit : InputLimit) (p : ScheduleValue) (readers : List R) (inputs : List (SerialInput R)) (reader : R) (x : SerialInput R)
     → AreOpened remaining failures limit p readers inputs → IsOpened remaining failures limit p (length inputs) reader x

@@ -1,40 +1,38 @@
 -- A run, step by step.
-use Rattle.std.proofs.Common.{ℕ, zero, suc, ◌+◌, ◌-◌, ◌*◌, ◌<◌, ◌≤◌, ◌≡◌, if◌then◌else◌, ◌||◌, Bool, true, List, [], ◌∷◌, ◌++◌, length, set, get_or, Option, None, Some, refl, ap, ◌∙◌, sym, subst, arith, inl, inr, append_assoc}
+use Rattle.std.proofs.Common.{ℕ, zero, suc, ◌+◌, ◌-◌, ◌*◌, ◌<◌, ◌≤◌, ◌≡◌, if◌then◌else◌, ◌||◌, Bool, true, List, [], ◌∷◌, ◌++◌, length, set, get_or, Option, Some, refl, ap, ◌∙◌, sym, subst, arith, inl, inr}
 use Rattle.std.specs.List.{slice_get, range_with_len, sum_by}
-use Rattle.std.specs.Io.KnownBytes.{Consumes, Appends}
 use Rattle.std.proofs.lemmas.Bool.{cases_eq, ne_eqb}
 use Rattle.std.proofs.lemmas.List.{length-set, append-nil}
 use Rattle.std.proofs.lemmas.Grind.{flat_map-append}
 use Rattle.std.proofs.Math.Nat.{suc-mul}
-use Rattle.std.proofs.lemmas.Option.{same_Some, slice_get-get_or, slice_get_within, slice_get_cases}
+use Rattle.std.proofs.lemmas.Option.{same_Some, slice_get-get_or}
 use Rattle.std.proofs.lemmas.List.Sums.{sum_by-cons}
-use Rattle.request.specs.Request.{InputValue}
 use Rattle.schedule.specs.Schedule.{ScheduleValue}
 use Rattle.mux.specs.declared.event.Event.{Event}
 use Rattle.mux.specs.declared.event.Event.TheVariants.{Took, Full, Early, Close, Slot, Switch}
 use Rattle.mux.specs.declared.content.Content.{Content}
-use Rattle.mux.specs.History.{Run, History, with_event, in_force, slots, emitted, packet_behind, taken, is_closed, full_noted, early_noted}
+use Rattle.mux.specs.History.{Run, History, in_force, slots, emitted, packet_behind, taken, is_closed, full_noted, early_noted}
 use Rattle.mux.specs.declared.slot.Slot.TheVariants.{Sent}
 use Rattle.mux.specs.declared.sending.Sending.{Sending}
 use Rattle.mux.specs.declared.sending.Sending.TheVariants as sending
-use Rattle.mux.specs.Answers.{SlotAnswers, SendAnswers, IsLeastUnready}
+use Rattle.mux.specs.Answers.{SlotAnswers, SendAnswers}
 use Rattle.mux.proofs.Force.{due_is}
 use Rattle.tspkt.specs.declared.stamped.Stamped.{Stamped}
 use Rattle.serial.specs.Feeding.{SerialInput, HasGiven, Feeds, AreLimited, turns_left}
 use Rattle.inlets.specs.Notes.{IsOfInput}
-use Rattle.inlets.proofs.EventLaws.{of_input, slot_spares, switch_spares, emitted_same}
+use Rattle.inlets.proofs.EventLaws.{of_input, slot_spares, switch_spares}
 use Rattle.inlets.proofs.NoteLaws.{notes_spared}
-use Rattle.serial.specs.Running.{AreFed, AreBegun, IsRunning, WaitsFor, IsNeeded, TakesAsNeeded, steps_left}
+use Rattle.outcome.specs.Taking.{TakesAsNeeded}
+use Rattle.serial.specs.Running.{AreFed, IsRunning, steps_left}
 use Rattle.outlet.specs.Sending.{bytes_of, HasAnalysed}
 use Rattle.outlet.specs.Written.{Sends, SendsBeginning}
-use Rattle.reading.specs.Takeable.{framed_at, takeable, origin_of, EndsAtTaken}
+use Rattle.reading.specs.Takeable.{EndsAtTaken}
 use Rattle.reading.specs.declared.input_limit.InputLimit.{InputLimit}
-use Rattle.reading.proofs.PacketLaws.{given_begins}
 use Rattle.tspkt.specs.declared.framer.TheConstants.{MAX_LIMIT}
 use Rattle.std.proofs.Common.{false}
 use Rattle.outlet.specs.declared.slot_writer.SlotWriter.{SlotWriter}
 use Rattle.serial.specs.declared.serial_run.SerialRun.{SerialRun}
-use Rattle.outlet.proofs.KnownLaws.{appends_on}
+use Rattle.outcome.proofs.WrittenLaws.{sends_on}
 use Rattle.serial.proofs.FeedingLaws.{taken_other}
 
 pub slots_same : (i : ℕ) (e : Event) (h : List Event) → IsOfInput i e → slots (e ∷ h) ≡ slots h
@@ -299,14 +297,6 @@ fewer_sent old new packet answer =
     let P : List Event → Type 0 = λ h. steps_left old.run h < steps_left old.run old.events in
     subst P (sym sent.events) (fewer_by_slot old.run old.events sent.content answer.0.within)
 
--- what waited and the packet went on
-pub sends_on : (a b c : Option (List ℕ)) (given waiting packet now : List ℕ) → Sends a b given waiting → Sends b c (waiting ++ packet) now → Sends a c (given ++ packet) now
-sends_on a b c given waiting packet now first second = (
-  first.0 ++ second.0,
-  appends_on a b c first.0 second.0 first.1 second.1,
-  ap (λ v. v ++ packet) first.2 ∙ append_assoc first.0 waiting packet ∙ ap (λ v. first.0 ++ v) second.2 ∙ sym (append_assoc first.0 second.0 now),
-)
-
 bytes_push : (packets : List (List ℕ)) (packet : List ℕ) → bytes_of (packets ++ packet ∷ []) ≡ bytes_of packets ++ packet
 bytes_push packets packet =
     flat_map-append (λ (q : List ℕ). q) packets (packet ∷ []) ∙ ap (λ v. bytes_of packets ++ v) (append-nil packet)
@@ -319,42 +309,7 @@ written_sent p old new packet before a b waiting now schedule answer first secon
     subst P (sym (ap bytes_of sent.out ∙ bytes_push (emitted p old.events) packet))
     (sends_on before a b (bytes_of (emitted p old.events)) waiting packet now first second)
 
--- what comes of the input that the multiplex waits for is needed
-pub needed_of : (run : Run) (i : ℕ) (e : Event) (h : List Event) → IsOfInput i e → WaitsFor run h i → IsNeeded run e h
-needed_of run i (Took j item) h is waits = subst (WaitsFor run h) (sym is) waits
-needed_of run i (Full j st) h is waits = subst (WaitsFor run h) (sym is) waits
-needed_of run i (Early j) h is waits = subst (WaitsFor run h) (sym is) waits
-needed_of run i (Switch number) h is waits = absurd is
-needed_of run i (Close j) h is waits = subst (WaitsFor run h) (sym is) waits
-needed_of run i (Slot c) h is waits = absurd is
-
 -- A run that ends with a fault.
-
-consumed : (start rest : Option (List ℕ)) (bytes all : List ℕ) → start ≡ Some all → Consumes start rest bytes → (more : List ℕ) × (all ≡ bytes ++ more)
-consumed None rest bytes all e used = cc
-consumed (Some first) None bytes all e used = absurd used
-consumed (Some first) (Some more) bytes all e used = (more, sym (same_Some first all e) ∙ used)
-
--- what was taken of an input begins what can be taken of it
-pub begun_one : {R : Type 0} (remaining : R → Option (List ℕ)) (p : ScheduleValue) (h : List Event) (i : ℕ) (input : InputValue) (start : Option (List ℕ)) (all : List ℕ) (x : SerialInput R)
-    → slice_get p.first.request.inputs i ≡ Some input → start ≡ Some all → HasGiven remaining p i start x (taken i h)
-    → (later : List Stamped) × (taken i h ++ later ≡ takeable p (origin_of i input) (framed_at (origin_of i input) all))
-begun_one remaining p h i input start all x at known has =
-    let o = has.origin in
-    let b = has.read in
-    let more = consumed start (remaining x.inlet.stream.source) b.0 all known b.1 in
-    let later = given_begins remaining p x.inlet b.0 (taken i h) b.2 more.0 in
-    let same : o.0 ≡ input = same_Some o.0 input (sym o.1 ∙ at) in
-    (later.0, later.1 ∙ ap (λ v. takeable p v (framed_at v (b.0 ++ more.0))) (o.3 ∙ ap (origin_of i) same) ∙ ap (λ v. takeable p (origin_of i input) (framed_at (origin_of i input) v)) (sym more.1))
-
-pub begun : {R : Type 0} (remaining : R → Option (List ℕ)) (p : ScheduleValue) (h : List Event) (starts : List (Option (List ℕ))) (inputs : List (SerialInput R)) → AreFed remaining p h starts inputs → AreBegun p h starts
-begun remaining p h starts inputs fed i input all at start =
-    elim (slice_get_cases inputs i).1 [
-      | inl found ↦
-          (let f = fed.each i found.0 found.2 in
-          begun_one remaining p h i input f.0 all found.0 at (same_Some f.0 (Some all) (sym f.1 ∙ start)) f.2.given)
-      | inr past ↦ absurd (omega (arith, slice_get_within p.first.request.inputs i input at, past.0, fed.count))
-    ]
 
 -- what a slot leaves of the inputs
 pub fed_sent : {R : Type 0} (remaining : R → Option (List ℕ)) (p : ScheduleValue) (old new : History) (packet : List ℕ) (starts : List (Option (List ℕ))) (inputs : List (SerialInput R))
@@ -399,13 +354,3 @@ runs_flushed remaining run limit starts old output is same =
       needed = is.needed;
       analysed = subst O (sym same) (record { seen = a.seen; rate_is = a.rate_is; period_is = a.period_is; faults_are = a.faults_are; reported = a.reported });
     }
-
-pub all_sent : (before a b : Option (List ℕ)) (given waiting : List ℕ) → Sends before a given waiting → Appends a b waiting → Appends before b given
-all_sent before a b given waiting first second =
-    let P : List ℕ → Type 0 = Appends before b in
-    subst P (sym first.2) (appends_on before a b first.0 waiting first.1 second)
-
-pub part_sent : (before a b : Option (List ℕ)) (given waiting : List ℕ) → Sends before a given waiting → SendsBeginning a b waiting → SendsBeginning before b given
-part_sent before a b given waiting first second =
-    let last = second.1 in
-    (second.0, (first.0 ++ last.0, appends_on before a b first.0 last.0 first.1 last.1, first.2 ∙ ap (λ v. first.0 ++ v) last.2 ∙ sym (append_assoc first.0 last.0 second.0)))

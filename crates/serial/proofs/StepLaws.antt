@@ -1,12 +1,10 @@
 -- A step of a run that sends no slot: the next plan comes into force, or an input has its turn, read on or not.
-use Rattle.std.proofs.Common.{ℕ, ◌<◌, ◌≡◌, ◌≢◌, ◌⊎◌, List, ◌∷◌, ◌++◌, length, set, get_or, Option, Some, refl, ap, ◌∙◌, sym, subst, arith, inl, inr, append_assoc}
+use Rattle.std.proofs.Common.{ℕ, ◌<◌, ◌≡◌, ◌≢◌, ◌⊎◌, List, ◌∷◌, ◌++◌, length, set, get_or, Option, Some, refl, ap, ◌∙◌, sym, subst, inl, inr, append_assoc}
 use Rattle.std.specs.List.{slice_get}
-use Rattle.std.specs.Io.KnownBytes.{Appends}
 use Rattle.std.proofs.lemmas.List.{set-set, get_or-set_same}
 use Rattle.std.proofs.lemmas.Option.{slice_get_within, get_or_from_slice_get}
 use Rattle.schedule.specs.Schedule.{ScheduleValue}
 use Rattle.mux.specs.declared.event.Event.{Event}
-use Rattle.mux.specs.declared.event.Event.TheVariants.{Switch}
 use Rattle.mux.specs.declared.sending.Sending.TheVariants as sending
 use Rattle.mux.specs.History.{Run, History, with_event, emitted}
 use Rattle.mux.specs.Plans.{IsMultiplexSchedule}
@@ -27,11 +25,13 @@ use Rattle.outlet.specs.declared.slot_writer.SlotWriter.{SlotWriter}
 use Rattle.outlet.proofs.KnownLaws.{appends_on}
 use Rattle.serial.specs.declared.serial_run.SerialRun.{SerialRun}
 use Rattle.serial.specs.Feeding.{SerialInput, Feeds, FeedsOn, HasFed, AreLimited, AreUnrefused, AllTellFailures, turns_left}
-use Rattle.serial.specs.Running.{AreFed, AreHalted, IsRunning, IsOver, TakesAsNeeded, WaitsFor, steps_left}
+use Rattle.outcome.specs.Taking.{IsOver, TakesAsNeeded}
+use Rattle.serial.specs.Running.{AreFed, AreHalted, IsRunning, steps_left}
 use Rattle.serial.proofs.FailureLaws.{all_tell}
 use Rattle.serial.proofs.FeedingLaws.{feeds_on}
 use Rattle.serial.proofs.HaltedLaws.{all_limited, halted_looked, unrefused_looked}
-use Rattle.serial.proofs.RunningLaws.{fed_input, fed_switch, fewer_by_input, fewer_switched, is_switched, needed_of}
+use Rattle.serial.proofs.RunningLaws.{fed_input, fed_switch, fewer_by_input, fewer_switched, is_switched}
+use Rattle.outcome.proofs.NeededLaws.{needed_of}
 use Rattle.serial.proofs.TurnLaws.{ReaderHasTurn, ReaderSteps, WaitsOn, waits_on, pulled_at_once}
 
 -- the inputs of a run are fed
@@ -181,16 +181,16 @@ tell_read {R} remaining failures h between xs ys i mid y w tells befores all =
 
 -- it was read on, and that ended the run
 pub halted_read : {R : Type 0} (remaining : R → Option (List ℕ)) (failures : R → ℕ) (limit : InputLimit) (h between : History) (starts : List (Option (List ℕ))) (xs ys : List (SerialInput R)) (i : ℕ) (mid y : SerialInput R) → WaitsAt remaining failures h between xs ys i mid
-    → ((y.inlet.report.stopped ≡ Some Memory) ⊎ (y.inlet.report.stopped ≡ mid.inlet.report.stopped)) → ((start : Option (List ℕ)) → FeedsOn remaining between.run.schedule between.events i start mid → HasFed remaining between.run.schedule between.events i start y)
+    → ((y.inlet.report.stopped ≡ Some Memory) ⊎ (y.inlet.report.stopped ≡ mid.inlet.report.stopped)) → y.inlet.stream.items.limit ≡ mid.inlet.stream.items.limit → ((start : Option (List ℕ)) → FeedsOn remaining between.run.schedule between.events i start mid → HasFed remaining between.run.schedule between.events i start y)
     → AreFed remaining h.run.schedule h.events starts xs → AreLimited limit h.run.schedule xs → AreHalted remaining limit h.run.schedule h.events starts (set ys i y)
-halted_read {R} remaining failures limit h between starts xs ys i mid y w stop given fed limited =
+halted_read {R} remaining failures limit h between starts xs ys i mid y w stop size given fed limited =
     let x = w.before in
     let F : History → Type 0 = λ v. (start : Option (List ℕ)) → FeedsOn remaining v.run.schedule v.events i start mid → HasFed remaining v.run.schedule v.events i start y in
     let on = subst F w.waits.history given in
     let H : List (SerialInput R) → Type 0 = AreHalted remaining limit h.run.schedule h.events starts in
     let own : (y.inlet.report.stopped ≡ Some Memory) ⊎ (y.inlet.report.stopped ≡ x.inlet.report.stopped) = elim stop [ inl memory ↦ inl memory | inr same ↦ inr (same ∙ w.waits.stopped) ] in
     subst H (sym (w.entries y))
-    (halted_looked remaining limit h.run.schedule h.events i starts xs x y (sym (get_or_from_slice_get xs i x x w.there)) (slice_get_within xs i x w.there) w.unready.unready own fed limited (λ start own. on start (w.waits.feeds start own)))
+    (halted_looked remaining limit h.run.schedule h.events i starts xs x y (sym (get_or_from_slice_get xs i x x w.there)) (slice_get_within xs i x w.there) w.unready.unready own (size ∙ w.waits.limit) fed limited (λ start own. on start (w.waits.feeds start own)))
 
 pub unrefused_read : {R : Type 0} (remaining : R → Option (List ℕ)) (failures : R → ℕ) (h between : History) (starts : List (Option (List ℕ))) (xs ys : List (SerialInput R)) (i : ℕ) (mid y : SerialInput R) → WaitsAt remaining failures h between xs ys i mid
     → y.inlet.report.stopped ≡ mid.inlet.report.stopped → AreFed remaining h.run.schedule h.events starts xs → AreUnrefused (set ys i y)
@@ -238,19 +238,19 @@ begun_unsent old new before a b waiting same first second =
 pub record IsAtEnd {R : Type 0} (h new : History) (xs ys : List (SerialInput R)) : Type 0 where
   pub history : new ≡ h
   pub inputs : ys ≡ xs
-  pub over : IsOver h.run new.events
+  pub over : IsOver new.run new.events
 
 pub over_by : {R : Type 0} (remaining : R → Option (List ℕ)) (failures : R → ℕ) (h new : History) (xs ys : List (SerialInput R)) (answer : Step) → (answer ≡ steps.Done) ⊎ (answer ≡ steps.RunFull) → ReaderSteps remaining failures h xs answer new ys
     → IsAtEnd h new xs ys
 over_by remaining failures h new xs ys answer (inl e) is =
     let P : Step → Type 0 = λ v. ReaderSteps remaining failures h xs v new ys in
     let s = subst P e is in
-    let O : History → Type 0 = λ v. IsOver h.run v.events in
+    let O : History → Type 0 = λ v. IsOver v.run v.events in
     record { history = s.0.0; inputs = s.1; over = subst O (sym s.0.0) (inr s.0.1) }
 over_by remaining failures h new xs ys answer (inr e) is =
     let P : Step → Type 0 = λ v. ReaderSteps remaining failures h xs v new ys in
     let s = subst P e is in
-    let O : History → Type 0 = λ v. IsOver h.run v.events in
+    let O : History → Type 0 = λ v. IsOver v.run v.events in
     record { history = s.0.0; inputs = s.1; over = subst O (sym s.0.0) (inl s.0.2) }
 
 pub runs_over : {R : Type 0} (remaining : R → Option (List ℕ)) (run : Run) (limit : InputLimit) (starts : List (Option (List ℕ))) (old new : SerialRun R) → IsRunning remaining run limit starts old → IsAtEnd old.mux new.mux old.inputs.items new.inputs.items

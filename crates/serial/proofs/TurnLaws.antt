@@ -1,8 +1,7 @@
 -- A turn of an input: it was read on, and its next packet was taken or is held back, or it was closed.
-use Rattle.std.proofs.Common.{ℕ, ◌<◌, ◌≤◌, ◌≡◌, ◌≢◌, ◌⊎◌, true, false, List, ◌++◌, ◌∷◌, [], length, Option, Some, None, if◌then◌else◌, refl, ap, ◌∙◌, sym, subst, arith, inl, inr}
+use Rattle.std.proofs.Common.{ℕ, ◌<◌, ◌≡◌, ◌≢◌, ◌⊎◌, true, false, List, ◌++◌, ◌∷◌, [], Option, Some, None, if◌then◌else◌, refl, ap, ◌∙◌, sym, subst, arith, inl, inr}
 use Rattle.std.specs.Prelude.{IsSome, Ok, Result}
 use Rattle.std.proofs.lemmas.Bool.{false≢true}
-use Rattle.std.proofs.lemmas.Option.{none-some}
 use Rattle.tspkt.specs.declared.stamped.Stamped.{Stamped}
 use Rattle.schedule.specs.Schedule.{ScheduleValue}
 use Rattle.mux.specs.declared.event.Event.{Event}
@@ -25,8 +24,9 @@ use Rattle.inlets.specs.declared.taking.Taking.{Taking}
 use Rattle.inlets.specs.declared.taking.Taking.TheVariants as turn
 use Rattle.inlets.specs.Notes.{IsOfInput}
 use Rattle.inlets.proofs.NoteLaws.{notes_seen}
+use Rattle.outcome.proofs.NextLaws.{next_in_order}
 use Rattle.serial.specs.Feeding.{SerialInput, HasGiven, Feeds, FeedsOn, HasFed, IsGivenOrHeld, turns_left}
-use Rattle.serial.proofs.FeedingLaws.{has_fed, given_on, given_released, inside_given, next_in_order, waited_for, feeds_closed, feeds_given, given_event, given_limit, given_failures, given_source, fewer, fewer_closed, few_given}
+use Rattle.serial.proofs.FeedingLaws.{has_fed, given_on, given_released, inside_given, waited_for, feeds_closed, feeds_given, given_event, given_limit, given_failures, given_source, fewer, fewer_closed, few_given}
 
 -- Looks among what was read, and reads, lead from the one to the other. A packet that is held stays so.
 pub record IsLed {R : Type 0} (remaining : R → Option (List ℕ)) (failures : R → ℕ) (s : ScheduleValue) (old new : PacketReader R) : Type 0 where

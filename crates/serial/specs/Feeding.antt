@@ -1,5 +1,5 @@
 -- How the packets of an input come into a multiplex (profile).
-use Rattle.std.specs.Prelude.{◌≡◌, ◌⊎◌, ℕ, ◌+◌, ◌-◌, ◌≤◌, true, false, if◌then◌else◌, List, [], length, Option, Some, None, IsSome}
+use Rattle.std.specs.Prelude.{◌≡◌, ◌⊎◌, ℕ, ◌+◌, ◌-◌, ◌≤◌, true, false, if◌then◌else◌, List, length, Option, Some, None}
 use Rattle.std.specs.List.{slice_get}
 use Rattle.std.specs.Io.KnownBytes.{Consumes}
 use Rattle.tspkt.specs.declared.framer.TheConstants.{MAX_LIMIT}
@@ -8,11 +8,10 @@ use Rattle.request.specs.Request.{InputValue, IsInput}
 use Rattle.request.specs.declared.stream.Stream.{Stream}
 use Rattle.schedule.specs.Schedule.{ScheduleValue}
 use Rattle.mux.specs.declared.event.Event.{Event}
-use Rattle.mux.specs.declared.event.Event.TheVariants.{Took, Full, Early, Close, Slot, Switch}
+use Rattle.mux.specs.declared.event.Event.TheVariants.{Took, Full, Early}
 use Rattle.mux.specs.History.{History, with_event, is_mapped_to, taken, is_closed, full_noted, early_noted}
 use Rattle.mux.specs.Lawful.{is_early}
-use Rattle.mux.specs.Faithful.{PacketLists}
-use Rattle.reading.specs.Takeable.{OriginValue, origin_of, framed_at, takeable, EndsAtTaken}
+use Rattle.reading.specs.Takeable.{OriginValue, origin_of, EndsAtTaken}
 use Rattle.reading.specs.InputLimit.{limit_of_input}
 use Rattle.reading.specs.PacketReading.{HasRead, IsSpent, TellsFailures}
 use Rattle.reading.specs.declared.input_limit.InputLimit.{InputLimit}
@@ -65,20 +64,6 @@ pub record HasFed {R : Type 0} (remaining : R → Option (List ℕ)) (schedule :
 pub record FeedsOn {R : Type 0} (remaining : R → Option (List ℕ)) (schedule : ScheduleValue) (h : List Event) (i : ℕ) (start : Option (List ℕ)) (x : SerialInput R) : Type 0 where
   pub fed : HasFed remaining schedule h i start x
   pub own : IsOwnStop x.inlet.report.stopped
-
--- the packets that an input gives, as far as the bytes of its source are known
-abbrev pub packet_list : ScheduleValue → ℕ → Option InputValue → Option (Option (List ℕ)) → List Stamped
-packet_list schedule i (Some input) (Some (Some all)) = takeable schedule (origin_of i input) (framed_at (origin_of i input) all)
-packet_list schedule i (Some input) (Some None) = []
-packet_list schedule i (Some input) None = []
-packet_list schedule i None start = []
-
-abbrev pub packet_lists : ScheduleValue → List (Option (List ℕ)) → PacketLists
-packet_lists schedule starts i = packet_list schedule i (slice_get schedule.first.request.inputs i) (slice_get starts i)
-
--- the bytes of all sources are known
-abbrev pub AreKnown : List (Option (List ℕ)) → Type 0
-AreKnown starts = (i : ℕ) (start : Option (List ℕ)) → slice_get starts i ≡ Some start → IsSome start
 
 -- no input was given up for want of memory
 abbrev pub AreUnrefused : {R : Type 0} → List (SerialInput R) → Type 0

@@ -1,10 +1,6 @@
-pub mod Order
 pub mod Feeding
-pub mod Giving
 pub mod Sending
 pub mod Running
 pub mod Opening
 pub mod Ending
 pub mod Outcome
-pub mod OutputFaults
-pub mod EqualOutput

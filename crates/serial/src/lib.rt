@@ -3,12 +3,10 @@
 
 mod ending;
 mod feeding;
-pub mod laws;
 mod opening;
 mod run;
 mod serial_run;
-mod summary;
 
+pub use outcome::{InputSummary, Summary};
 pub use outlet::{RunFault, Sink, SlotWriter, WriteSink};
 pub use run::{run_serial, run_serial_within};
-pub use summary::{InputSummary, Summary};

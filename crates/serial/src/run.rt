@@ -6,11 +6,11 @@ ghost use Rattle.mux.specs.Plans.{IsMultiplexSchedule};
 ghost use Rattle.reading.specs.Failures.{FailsOnce};
 ghost use Rattle.reading.specs.InputLimit.{IsAllowed};
 ghost use Rattle.reading.specs.declared.input_limit.InputLimit.TheVariants.{OfFormat};
-ghost use Rattle.serial.specs.Outcome.{HasRun, HasBegun, FailuresAreTold};
-ghost use Rattle.serial.specs.Running.{TakesAsNeeded};
+ghost use Rattle.outcome.specs.Outcome.{FailuresAreTold};
+ghost use Rattle.serial.specs.Outcome.{HasRun, HasBegun};
 
 use crate::serial_run::SerialRun;
-use crate::summary::Summary;
+use outcome::Summary;
 use outlet::{RunFault, Sink};
 use reading::{InputLimit, Source};
 use schedule::Schedule;
@@ -36,12 +36,10 @@ pub fn run_serial<R: Source + Drop, W: Sink>(
     ensures runs { IfOk result.1 (λ done. (h : List Event)
         × HasRun (record { run = record { schedule = schedule; limit = slots }; events = h }) OfFormat
         (map R.remaining readers.items) (map R.remaining done.1.items)
-        (W.contents writer) (W.contents result.0) done.0
-        × TakesAsNeeded (record { schedule = schedule; limit = slots }) h) }
+        (W.contents writer) (W.contents result.0) done.0) }
     ensures begins { IfErr result.1 (λ fault. (h : List Event)
         × HasBegun R.remaining R.failures (record { run = record { schedule = schedule; limit = slots }; events = h }) OfFormat
-        readers.items (W.contents writer) (W.contents result.0) fault
-        × TakesAsNeeded (record { schedule = schedule; limit = slots }) h) }
+        readers.items (W.contents writer) (W.contents result.0) fault) }
     ensures readers { IfOk result.1 (λ done. length done.1.items ≡ length readers.items) }
     ensures read_failed { IfOk result.1 (λ done.
         FailuresAreTold R.failures readers.items done.1.items done.0.inputs.items) }
@@ -74,12 +72,10 @@ pub fn run_serial_within<R: Source + Drop, W: Sink>(
     ensures runs { IfOk result.1 (λ done. (h : List Event)
         × HasRun (record { run = record { schedule = schedule; limit = slots }; events = h }) limit
         (map R.remaining readers.items) (map R.remaining done.1.items)
-        (W.contents writer) (W.contents result.0) done.0
-        × TakesAsNeeded (record { schedule = schedule; limit = slots }) h) }
+        (W.contents writer) (W.contents result.0) done.0) }
     ensures begins { IfErr result.1 (λ fault. (h : List Event)
         × HasBegun R.remaining R.failures (record { run = record { schedule = schedule; limit = slots }; events = h }) limit
-        readers.items (W.contents writer) (W.contents result.0) fault
-        × TakesAsNeeded (record { schedule = schedule; limit = slots }) h) }
+        readers.items (W.contents writer) (W.contents result.0) fault) }
     ensures readers { IfOk result.1 (λ done. length done.1.items ≡ length readers.items) }
     ensures read_failed { IfOk result.1 (λ done.
         FailuresAreTold R.failures readers.items done.1.items done.0.inputs.items) }
@@ -114,12 +110,10 @@ fn run_to<R: Source + Drop, W: Sink>(
     ensures runs { IfOk result (λ done. (h : List Event)
         × HasRun (record { run = record { schedule = schedule; limit = slots }; events = h }) limit
         (map R.remaining readers.items) (map R.remaining done.1.items)
-        (W.contents sink.old) (W.contents sink.new) done.0
-        × TakesAsNeeded (record { schedule = schedule; limit = slots }) h) }
+        (W.contents sink.old) (W.contents sink.new) done.0) }
     ensures begins { IfErr result (λ fault. (h : List Event)
         × HasBegun R.remaining R.failures (record { run = record { schedule = schedule; limit = slots }; events = h }) limit
-        readers.items (W.contents sink.old) (W.contents sink.new) fault
-        × TakesAsNeeded (record { schedule = schedule; limit = slots }) h) }
+        readers.items (W.contents sink.old) (W.contents sink.new) fault) }
     ensures readers { IfOk result (λ done. length done.1.items ≡ length readers.items) }
     ensures read_failed { IfOk result (λ done.
         FailuresAreTold R.failures readers.items done.1.items done.0.inputs.items) }

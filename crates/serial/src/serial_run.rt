@@ -1,12 +1,12 @@
 //! The serial run.
 
-use crate::ending::end_run;
+use crate::ending::end_inputs;
 use crate::feeding::read_on;
 use crate::opening::open_inputs;
 use crate::run::known;
-use crate::summary::Summary;
 use inlets::{Entry, Step, take_step};
 use mux::Mux;
+use outcome::{Summary, end_run};
 use outlet::{RunFault, Sink, SlotWriter};
 use reading::{InputLimit, PacketReader, Source};
 use schedule::Schedule;
@@ -25,19 +25,16 @@ pub(crate) struct SerialRun<R> {
 }
 
 impl<R: Source + Drop> SerialRun<R> {
-    ghost use Rattle.std.specs.Prelude.{◌≡◌, ◌^◌, ◌<◌, ◌≤◌, ◌++◌, ℕ, List, [], Option, Ok, Err, true, false, length, map, IfOk, OnOk, OnErr};
-    ghost use Rattle.mux.specs.History.{Run, slots, emitted};
-    ghost use Rattle.std.specs.Io.KnownBytes.{Appends};
-    ghost use Rattle.reading.specs.Failures.{FailsOnce};
-    ghost use Rattle.outlet.specs.Written.{Sends, SendsBeginning};
-    ghost use Rattle.outlet.specs.Sending.{bytes_of};
+    ghost use Rattle.std.specs.Prelude.{◌≡◌, ◌^◌, ◌<◌, ◌≤◌, ℕ, List, [], Option, Ok, true, false, length, map, IfOk, OnOk};
+    ghost use Rattle.mux.specs.History.{Run, slots};
     ghost use Rattle.mux.specs.Headline.{IsSound};
-    ghost use Rattle.mux.specs.Totals.{IsCounts};
-    ghost use Rattle.serial.specs.Feeding.{AreUnrefused, AllTellFailures};
-    ghost use Rattle.serial.specs.Ending.{AreReported, ArePeaks};
+    ghost use Rattle.outcome.specs.Taking.{IsOver};
+    ghost use Rattle.outcome.specs.Ending.{IsTold};
+    ghost use Rattle.serial.specs.Feeding.{AllTellFailures};
+    ghost use Rattle.serial.specs.Ending.{ended_of};
     ghost use Rattle.reading.specs.InputLimit.{IsAllowed};
     ghost use Rattle.reading.specs.declared.input_limit.InputLimit.{InputLimit as Limit};
-    ghost use Rattle.serial.specs.Running.{TakesAsNeeded, IsRunning, IsOver, AreHalted, steps_left};
+    ghost use Rattle.serial.specs.Running.{IsRunning, GoesOn, steps_left};
 
     /// A run of a schedule for at most this many slots, whose inputs may have as many bytes as `limit` says at their formats, and of
     /// which nothing was taken or sent.
@@ -80,11 +77,7 @@ impl<R: Source + Drop> SerialRun<R> {
     /// What became of the run, and its readers.
     pub fn finish(self, alloc: Global) -> Result<(Summary, Vec<R>), AllocError>
         requires { length self.inputs.items ≡ length self.mux.run.schedule.first.request.inputs }
-        ensures inputs { IfOk result (λ done. AreReported self.mux.run.schedule self.mux.events self.inputs.items done.0.inputs.items done.1.items) }
-        ensures streams { IfOk result (λ done. ArePeaks self.mux.run.schedule self.mux.events done.0.streams.items) }
-        ensures counts { IfOk result (λ done. IsCounts self.mux.events done.0.counts) }
-        ensures faults { IfOk result (λ done. done.0.faults ≡ self.output.faults) }
-        ensures report { IfOk result (λ done. done.0.fault_report ≡ self.output.report) }
+        ensures { IfOk result (λ done. IsTold self.mux.run.schedule self.mux.events (map ended_of self.inputs.items) self.output done.0 done.1.items) }
     {
         let SerialRun {
             mux,
@@ -92,34 +85,16 @@ impl<R: Source + Drop> SerialRun<R> {
             output,
             ..
         } = self;
-        end_run(alloc, &mux, inputs, output)
+        let ended = end_inputs(alloc, inputs)?;
+        end_run(alloc, &mux, ended, output)
     }
 
     /// Sends slots until nothing is left to send or the run has all its slots, and writes what is in the buffer.
     pub fn drive<W: Sink>(&mut self, sink: &mut W) -> Result<(), RunFault>
         requires { (run : Run) × (limit : Limit) × (starts : List (Option (List ℕ))) × IsRunning R.remaining run limit starts self.old }
-        ensures runs { OnOk result ((run : Run) (limit : Limit) (starts : List (Option (List ℕ)))
-            → IsRunning R.remaining run limit starts self.old → IsRunning R.remaining run limit starts self.new) }
-        ensures over { OnOk result (IsOver self.old.mux.run self.new.mux.events) }
-        ensures failures { OnOk result (W.failures sink.new ≡ W.failures sink.old) }
-        ensures written { OnOk result ((before : Option (List ℕ))
-            → Sends before (W.contents sink.old) (bytes_of (emitted self.old.mux.run.schedule self.old.mux.events)) self.old.output.writer
-            → Appends before (W.contents sink.new) (bytes_of (emitted self.old.mux.run.schedule self.new.mux.events))) }
-        ensures halted { OnErr result ((run : Run) (limit : Limit) (starts : List (Option (List ℕ)))
-            → IsRunning R.remaining run limit starts self.old
-            → AreHalted R.remaining limit run.schedule self.new.mux.events starts self.new.inputs.items
-            × TakesAsNeeded run self.new.mux.events) }
-        ensures unrefused { result ≡ Err RunFault.Write → AreUnrefused self.new.inputs.items }
-        ensures failures_told { (befores : List ℕ)
-            → AllTellFailures R.failures befores self.old.inputs.items
-            → AllTellFailures R.failures befores self.new.inputs.items }
-        ensures run { self.new.mux.run ≡ self.old.mux.run }
-        ensures sent_begun { OnErr result ((before : Option (List ℕ))
-            → Sends before (W.contents sink.old) (bytes_of (emitted self.old.mux.run.schedule self.old.mux.events)) self.old.output.writer
-            → SendsBeginning before (W.contents sink.new) (bytes_of (emitted self.old.mux.run.schedule self.new.mux.events))) }
-        ensures memory { result ≡ Err RunFault.Memory → W.failures sink.new ≡ W.failures sink.old }
-        ensures failed { result ≡ Err RunFault.Write
-            → FailsOnce (W.failures sink.old) (W.failures sink.new) }
+        ensures goes { GoesOn R.remaining R.failures W.contents W.failures self.old sink.old result self.new sink.new }
+        ensures over { OnOk result (IsOver self.new.mux.run self.new.mux.events) }
+        ensures flushed { OnOk result (self.new.output.writer ≡ []) }
     {
         loop {
             if self.step(sink)? {
@@ -133,30 +108,10 @@ impl<R: Source + Drop> SerialRun<R> {
     /// that input is read what waits is written. True is answered where the run is over.
     fn step<W: Sink>(&mut self, sink: &mut W) -> Result<bool, RunFault>
         requires { (run : Run) × (limit : Limit) × (starts : List (Option (List ℕ))) × IsRunning R.remaining run limit starts self.old }
-        ensures runs { OnOk result ((run : Run) (limit : Limit) (starts : List (Option (List ℕ)))
-            → IsRunning R.remaining run limit starts self.old → IsRunning R.remaining run limit starts self.new) }
+        ensures goes { GoesOn R.remaining R.failures W.contents W.failures self.old sink.old result self.new sink.new }
         ensures fewer { result ≡ Ok false
             → steps_left self.old.mux.run self.new.mux.events < steps_left self.old.mux.run self.old.mux.events }
-        ensures over { result ≡ Ok true → IsOver self.old.mux.run self.new.mux.events }
-        ensures written { OnOk result ((before : Option (List ℕ))
-            → Sends before (W.contents sink.old) (bytes_of (emitted self.old.mux.run.schedule self.old.mux.events)) self.old.output.writer
-            → Sends before (W.contents sink.new) (bytes_of (emitted self.old.mux.run.schedule self.new.mux.events)) self.new.output.writer) }
-        ensures halted { OnErr result ((run : Run) (limit : Limit) (starts : List (Option (List ℕ)))
-            → IsRunning R.remaining run limit starts self.old
-            → AreHalted R.remaining limit run.schedule self.new.mux.events starts self.new.inputs.items
-            × TakesAsNeeded run self.new.mux.events) }
-        ensures unrefused { result ≡ Err RunFault.Write → AreUnrefused self.new.inputs.items }
-        ensures failures_told { (befores : List ℕ)
-            → AllTellFailures R.failures befores self.old.inputs.items
-            → AllTellFailures R.failures befores self.new.inputs.items }
-        ensures run { self.new.mux.run ≡ self.old.mux.run }
-        ensures sent_begun { OnErr result ((before : Option (List ℕ))
-            → Sends before (W.contents sink.old) (bytes_of (emitted self.old.mux.run.schedule self.old.mux.events)) self.old.output.writer
-            → SendsBeginning before (W.contents sink.new) (bytes_of (emitted self.old.mux.run.schedule self.new.mux.events))) }
-        ensures failures { OnOk result (W.failures sink.new ≡ W.failures sink.old) }
-        ensures memory { result ≡ Err RunFault.Memory → W.failures sink.new ≡ W.failures sink.old }
-        ensures failed { result ≡ Err RunFault.Write
-            → FailsOnce (W.failures sink.old) (W.failures sink.new) }
+        ensures over { result ≡ Ok true → IsOver self.new.mux.run self.new.mux.events }
     {
         known(self.mux.schedule());
         let SerialRun {

@@ -145,6 +145,13 @@ impl Station {
         advance_behind(&mut self.mux, &mut self.entries, most, sent)
     }
 
+    /// The multiplex.
+    pub fn mux(&self) -> &Mux
+        ensures { result.now ≡ self.now.history }
+    {
+        &self.mux
+    }
+
     /// How many slots were sent. What every station keeps is known with it.
     pub fn slots(&self) -> u64
         ensures count { result ≡ slots self.now.history.events }

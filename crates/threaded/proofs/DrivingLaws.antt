@@ -1,15 +1,14 @@
 -- How a run goes on, and breaks off.
-use Rattle.std.proofs.Common.{◌≡◌, ℕ, zero, suc, ◌⊎◌, List, Bool, true, false, Option, refl, sym, subst, ◌∙◌, inl, inr, if◌then◌else◌}
+use Rattle.std.proofs.Common.{ℕ, zero, suc, ◌⊎◌, List, Bool, true, false, Option, refl, sym, subst, ◌∙◌, inl, inr}
 use Rattle.std.specs.Prelude.{Result, Ok, Err, OnOk, OnErr}
 use Rattle.tspkt.specs.declared.stamped.Stamped.{Stamped}
-use Rattle.mux.specs.declared.event.Event.{Event}
 use Rattle.mux.specs.declared.event.Event.TheVariants.{Took, Close}
 use Rattle.mux.specs.History.{History}
 use Rattle.inlets.proofs.NoteLaws.{IsOneOf, put_off_one}
-use Rattle.serial.specs.Running.{WaitsFor, TakesAsNeeded}
+use Rattle.outcome.specs.Taking.{WaitsFor, TakesAsNeeded}
 use Rattle.outlet.specs.declared.slot_writer.SlotWriter.{SlotWriter}
-use Rattle.serial.proofs.RunningLaws.{needed_of}
-use Rattle.serial.proofs.OutcomeLaws.{all_begun}
+use Rattle.outcome.proofs.NeededLaws.{needed_of}
+use Rattle.outcome.proofs.WrittenLaws.{all_begun}
 use Rattle.station.specs.Stations.{Input, StationValue}
 use Rattle.station.specs.Moving.{TakesNext, ComesUntaken, EndsBy, Ending, Nothing, Mark, HeldBack, IsHeldBack}
 use Rattle.station.specs.Advancing.{IsStep, Steps}

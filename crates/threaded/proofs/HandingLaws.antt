@@ -7,13 +7,12 @@ use Rattle.std.specs.Io.KnownBytes.{Appends}
 use Rattle.mux.specs.History.{Run}
 use Rattle.relay.specs.Relays.{RelayId, SenderValue, ReceiverValue, FinishedValue}
 use Rattle.relay.specs.Receiving.{IsLeft}
-use Rattle.serial.specs.Running.{IsOver}
+use Rattle.outcome.specs.Taking.{IsOver}
 use Rattle.outlet.specs.Sending.{bytes_of, HasAnalysed}
 use Rattle.outlet.specs.Written.{Sends, SendsBeginning}
 use Rattle.outlet.specs.declared.run_fault.RunFault.{RunFault}
 use Rattle.outlet.proofs.KnownLaws.{beginning_on}
-use Rattle.serial.proofs.RunningLaws.{sends_on}
-use Rattle.serial.proofs.OutcomeLaws.{all_begun}
+use Rattle.outcome.proofs.WrittenLaws.{sends_on, all_begun}
 use Rattle.station.specs.Stations.{StationValue}
 use Rattle.threaded.specs.Driving.{output_of, IsSameRun, BreaksOff, IsDriven}
 use Rattle.threaded.specs.Handing.{sent_of, HandsAll, HandsSome, HandsAllBut, IsHandedOn}

@@ -5,11 +5,6 @@ pub mod WritingLaws
 pub mod HandingLaws
 pub mod CrewLaws
 pub mod ReportLaws
-pub mod InputsLaws
+pub mod SentLaws
 pub mod OutcomeLaws
-pub mod InputLaws
-pub mod GivenLaws
-pub mod SummaryLaws
-pub mod OutputLaws
-pub mod ComingLaws
 pub mod BegunLaws

@@ -1,13 +1,8 @@
 -- Lists that grow by one, and that are gone through.
-use Rattle.std.proofs.Common.{◌≡◌, ℕ, zero, suc, ◌<◌, List, [], ◌∷◌, ◌++◌, length, drop, map, Some, option_map, refl, ap, sym, ◌∙◌, arith, length-append}
+use Rattle.std.proofs.Common.{◌≡◌, ℕ, zero, suc, List, [], ◌∷◌, ◌++◌, length, drop, Some, option_map, ap, sym, ◌∙◌, arith, length-append}
 use Rattle.std.specs.List.{slice_get, zip}
 use Rattle.std.proofs.lemmas.Option.{slice_get-map}
 use Rattle.std.proofs.lemmas.Slice.Zip.{firsts-zip, seconds-zip}
-
--- one more of a list
-pub map_push : {X Y : Type 0} (f : X → Y) (xs : List X) (x : X) → map f (xs ++ x ∷ []) ≡ map f xs ++ f x ∷ []
-map_push f [] x = refl
-map_push f (y ∷ xs) x = ap (λ v. f y ∷ v) (map_push f xs x)
 
 -- what comes next of a list of which so many are gone
 pub drop_next : {X : Type 0} (n : ℕ) (all : List X) (x : X) (rest : List X) → drop n all ≡ x ∷ rest → (slice_get all n ≡ Some x) × (drop (suc n) all ≡ rest)
@@ -19,12 +14,6 @@ pub drop_more : {X H : Type 0} (xs : List H) (y : H) (all rest : List X) → dro
 drop_more xs y all rest e =
     let grown : length (xs ++ y ∷ []) ≡ suc (length xs) = omega (arith, length-append xs (y ∷ [])) in
     ap (λ n. drop n all) grown ∙ e
-
--- what stands within a list
-pub get_within : {X : Type 0} (xs : List X) (i : ℕ) → i < length xs → (x : X) × (slice_get xs i ≡ Some x)
-get_within [] i l = absurd (omega (arith, l))
-get_within (x ∷ xs) zero l = (x, refl)
-get_within (x ∷ xs) (suc i) l = get_within xs i (omega (arith, l))
 
 -- what stands in both of two lists
 

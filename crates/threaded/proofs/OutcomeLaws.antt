@@ -1,54 +1,53 @@
 -- What comes of a run in threads.
 use Rattle.std.proofs.Common.{◌≡◌, ℕ, ◌<◌, ◌≤◌, List, [], length, map, Option, Some, option_map, refl, ap, sym, subst, ◌∙◌, arith, inl, inr, ◌⊎◌}
+use Rattle.std.specs.Prelude.{Result, Err, OnOk, OnErr}
 use Rattle.std.specs.List.{slice_get, zip}
-use Rattle.std.proofs.lemmas.Option.{slice_get_within, same_Some, slice_get-map}
+use Rattle.std.proofs.lemmas.Option.{slice_get_within, slice_get-map}
 use Rattle.std.proofs.lemmas.List.{length-map}
-use Rattle.std.proofs.Math.Nat.{min-eq_left}
 use Rattle.std.proofs.lemmas.Slice.Zip.{length-zip}
 use Rattle.std.specs.Io.KnownBytes.{Appends}
-use Rattle.request.specs.Request.{InputValue}
+use Rattle.request.specs.Request.{IsInput}
 use Rattle.schedule.specs.Schedule.{ScheduleValue}
-use Rattle.reading.specs.Takeable.{origin_of, framed_at, takeable}
+use Rattle.reading.specs.Failures.{FailsOnce}
 use Rattle.reading.specs.InputLimit.{limit_of_input}
 use Rattle.reading.specs.declared.input_limit.InputLimit.{InputLimit}
+use Rattle.reading.specs.declared.stop.Stop.{Stop}
 use Rattle.mux.specs.declared.event.Event.{Event}
-use Rattle.mux.specs.History.{Run, History, slots, emitted}
+use Rattle.mux.specs.History.{Run, History, emitted}
+use Rattle.mux.specs.Headline.{IsSound}
 use Rattle.mux.specs.Plans.{IsMultiplexSchedule}
-use Rattle.mux.proofs.Emitted.{length-emitted}
-use Rattle.analyse.specs.Faults.{faults}
-use Rattle.analyse.specs.ReportValue.{ReportValue}
-use Rattle.analyse.specs.FaultReport.{IsReportOf}
+use Rattle.mux.proofs.Plans.{first_request}
 use Rattle.port.specs.Rings.{RingId, PortValue}
-use Rattle.worker.specs.declared.worker.Worker.{Worker}
+use Rattle.worker.proofs.PlanLaws.{all_at}
 use Rattle.station.specs.Stations.{Input, StationValue, IsLawfulStation, rings_of}
 use Rattle.station.specs.Opening.{IsOpened, IsFresh}
-use Rattle.serial.specs.Running.{AreBegun, IsOver, TakesAsNeeded}
-use Rattle.serial.proofs.SoundLaws.{sound_nothing}
-use Rattle.serial.proofs.OutcomeLaws.{nothing_sent, finished}
-use Rattle.serial.proofs.FaultBounds.{few_faults}
-use Rattle.serial.proofs.OpeningLaws.{from_map}
-use Rattle.threaded.specs.Crews.{AreUnsent, AreSeated, AreStarted, AreEnded, HaveWorked, HadMemory, WantedMemory}
-use Rattle.mux.specs.Totals.{IsCounts}
-use Rattle.mux.specs.Headline.{IsSound}
-use Rattle.serial.specs.Ending.{ArePeaks}
-use Rattle.outlet.specs.Sending.{bytes_of, fault_count, HasAnalysed}
+use Rattle.outlet.specs.Sending.{bytes_of, HasAnalysed}
 use Rattle.outlet.specs.Written.{Sends, SendsBeginning}
 use Rattle.outlet.specs.declared.run_fault.RunFault.{RunFault}
 use Rattle.outlet.specs.declared.run_fault.RunFault.TheVariants as run_faults
 use Rattle.outlet.specs.declared.slot_writer.SlotWriter.{SlotWriter}
-use Rattle.serial.specs.declared.summary.Summary.{Summary}
+use Rattle.outcome.specs.Taking.{IsOver, TakesAsNeeded}
+use Rattle.outcome.specs.Ending.{HadMemory, IsTold}
+use Rattle.outcome.specs.Outcome.{HasRun, FailuresAreTold}
+use Rattle.outcome.specs.declared.ended.Ended.{Ended}
+use Rattle.outcome.specs.declared.summary.Summary.{Summary}
+use Rattle.outcome.proofs.ListLaws.{get_within}
+use Rattle.outcome.proofs.SoundLaws.{sound_nothing}
+use Rattle.outcome.proofs.WrittenLaws.{nothing_sent}
+use Rattle.outcome.proofs.OutcomeLaws as outcome
+use Rattle.outcome.proofs.OutcomeLaws.{AreRead, IsDone, IsBroken, left_of, broken_taking, unread, read_nothing, unread_had_memory}
+use Rattle.threaded.specs.Crews.{AreUnsent, AreSeated, AreStarted, AreEnded, HaveWorked, WantedMemory}
 use Rattle.threaded.specs.Opening.{IsReady}
 use Rattle.threaded.specs.Driving.{output_of, HasAnalysedAll, IsSameRun, BreaksOff, IsDriven}
-use Rattle.reading.specs.Failures.{FailsOnce}
-use Rattle.serial.specs.Outcome.{FailuresAreTold}
-use Rattle.threaded.specs.Outcome.{HasRun, HasBegun, RunsThrough, IsCutShort}
-use Rattle.threaded.specs.declared.ended.Ended.{Ended}
+use Rattle.threaded.specs.Outcome.{HasBegun, RunsThrough, IsCutShort}
+use Rattle.threaded.proofs.ListLaws.{firsts_at, seconds_at}
+use Rattle.outcome.proofs.ResultLaws.{not_write}
+use Rattle.threaded.proofs.ResultLaws.{either_part, unless_write, fine_part}
+use Rattle.threaded.proofs.CrewLaws.{have_worked}
+use Rattle.threaded.proofs.DrivingLaws.{breaks_either}
 use Rattle.threaded.specs.declared.run_gate.RunGate.{RunGate}
-use Rattle.threaded.proofs.ListLaws.{get_within, firsts_at, seconds_at}
-use Rattle.threaded.proofs.ResultLaws.{not_write}
-use Rattle.threaded.proofs.CrewLaws.{served, served_begins}
-use Rattle.threaded.proofs.BegunLaws.{AreLeft, nothing_left, all_left}
-use Rattle.threaded.proofs.InputsLaws.{IsServedAt, IsServedRun, IsToldOfInputs, told_of_inputs, all_failures_told}
+use Rattle.worker.specs.declared.worker.Worker.{Worker}
+use Rattle.threaded.proofs.SentLaws.{settled_input, served}
 
 -- readers, gates and ports of as many inputs
 pub record AreOfInputs {R G : Type 0} (n : ℕ) (readers : List R) (gates : List G) (ports : List PortValue) : Type 0 where
@@ -121,59 +120,9 @@ ready_seated {R} {G} p slots readers gates opened seats ready of_readers of_gate
     let N : ℕ → Type 0 = λ k. slice_get (rings_of opened.inputs) k ≡ Some seat.1.ring in
     subst N (sym f.2.number) there
 
-served_at : {R G : Type 0} (remaining : R → Option (List ℕ)) (failures : R → ℕ) (p : ScheduleValue) (slots : ℕ) (limit : InputLimit) (opened station : StationValue) (readers : List R) (gates : List G) (ports : List PortValue) (workers : List (Worker R (RunGate G))) (ended : List (Ended R G))
-    → IsOpened p slots opened ports → AreOfInputs (length p.first.request.inputs) readers gates ports → AreStarted limit p (seats_of readers gates ports) workers → length workers ≡ length p.first.request.inputs → length ended ≡ length workers
-    → AreEnded remaining failures station workers ended → (i : ℕ) (input : InputValue) → slice_get p.first.request.inputs i ≡ Some input → IsServedAt remaining failures limit p station readers ended i input
-served_at {R} {G} remaining failures p slots limit opened station readers gates ports workers ended is are started all_started all_ended ends i input at =
-    let n = length p.first.request.inputs in
-    let inside : i < n = slice_get_within p.first.request.inputs i input at in
-    let seat = get_within (seats_of readers gates ports) i (omega (arith, inside, seats_are n readers gates ports are)) in
-    let w = get_within workers i (omega (arith, inside, all_started)) in
-    let e = get_within ended i (omega (arith, inside, all_started, all_ended)) in
-    let f = fresh_at p slots opened ports i seat.0.1 is (port_at n readers gates ports i seat.0 are seat.1) in
-    let start = started.each i seat.0 w.0 seat.1 w.1 in
-    let end = ends i w.0 e.0 w.1 e.1 in
-    let source : failures w.0.source ≡ failures seat.0.0.0 = ap failures start.source_is in
-    record {
-      reader = seat.0.0.0;
-      reader_is = reader_at n readers gates ports i seat.0 are seat.1;
-      end = e.0;
-      end_is = e.1;
-      served = served remaining failures limit p station i input seat.0.0.0 seat.0.1 w.0 e.0 start f.2.number at end;
-      failed = λ stopped. subst (λ v. FailsOnce v (failures e.0.reader)) source (end.work.failed stopped);
-      unfailed = λ other. end.work.unfailed other ∙ source;
-    }
-
--- What was taken of each input begins what can be taken of it.
-begun : {R G : Type 0} (remaining : R → Option (List ℕ)) (failures : R → ℕ) (limit : InputLimit) (p : ScheduleValue) (station : StationValue) (readers : List R) (ended : List (Ended R G))
-    → ((i : ℕ) (input : InputValue) → slice_get p.first.request.inputs i ≡ Some input → IsServedAt remaining failures limit p station readers ended i input) → AreBegun p station.history.events (map remaining readers)
-begun remaining failures limit p station readers ended each i input all at start =
-    let x = each i input at in
-    let r = from_map remaining readers i (Some all) start in
-    let same : r.0 ≡ x.reader = same_Some r.0 x.reader (sym r.1 ∙ x.reader_is) in
-    served_begins remaining (limit_of_input limit input.format) p station i input x.reader x.end.reader x.end.report all x.served (ap remaining (sym same) ∙ r.2)
-
--- a run that took nothing
-pub begun_nothing : {R : Type 0} (remaining : R → Option (List ℕ)) (failures : R → ℕ) (run : Run) (limit : InputLimit) (readers : List R) (before : Option (List ℕ)) (failed : ℕ) (fault : RunFault) → IsMultiplexSchedule run.schedule → run.limit ≤ 1099511627776
-    → HasBegun remaining failures (record { run = run; events = [] }) limit readers before before failed failed fault
-begun_nothing remaining failures run limit readers before failed fault schedule few =
-    let inputs = nothing_left remaining failures limit run.schedule readers failed failed fault refl in
-    record {
-      sound = sound_nothing run.schedule run.limit schedule few;
-      begun = λ i input all at start. (takeable run.schedule (origin_of i input) (framed_at (origin_of i input) all), refl);
-      needed = tt;
-      written = ([], nothing_sent run.schedule [] before [] refl refl);
-      lefts = inputs.lefts;
-      count = inputs.count;
-      left = inputs.left;
-      faithful = inputs.faithful;
-      refused = inputs.refused;
-      wanted = inputs.wanted;
-    }
-
 -- The run's schedule and slots are those of its station.
 
-run_is : (p : ScheduleValue) (slots : ℕ) (opened station : StationValue) (ports : List PortValue) → IsOpened p slots opened ports → IsSameRun opened station → station.history.run ≡ record { schedule = p; limit = slots }
+pub run_is : (p : ScheduleValue) (slots : ℕ) (opened station : StationValue) (ports : List PortValue) → IsOpened p slots opened ports → IsSameRun opened station → station.history.run ≡ record { schedule = p; limit = slots }
 run_is p slots opened station ports is same = same.run ∙ ap (λ (h : History). h.run) is.history
 
 -- nothing was taken when it was opened
@@ -196,145 +145,110 @@ analysed_yet p slots opened ports output is analysed =
     let P : History → Type 0 = HasAnalysedAll output in
     subst P (sym is.history) analysed
 
--- what the workers of the inputs served
-pub all_served : {R G : Type 0} (remaining : R → Option (List ℕ)) (failures : R → ℕ) (p : ScheduleValue) (slots : ℕ) (limit : InputLimit) (opened station : StationValue) (readers : List R) (gates : List G) (seats : List ((R × G) × PortValue)) (ended : List (Ended R G))
-    → IsReady p slots readers gates opened seats → length readers ≡ length p.first.request.inputs → length gates ≡ length p.first.request.inputs → HaveWorked remaining failures limit p station seats ended
-    → (i : ℕ) (input : InputValue) → slice_get p.first.request.inputs i ≡ Some input → IsServedAt remaining failures limit p station readers ended i input
-all_served {R} {G} remaining failures p slots limit opened station readers gates seats ended ready of_readers of_gates have =
-    let S : List ((R × G) × PortValue) → Type 0 = λ v. AreStarted limit p v have.workers in
-    let are = are_inputs p slots readers gates opened seats ready of_readers of_gates in
-    served_at remaining failures p slots limit opened station readers gates ready.ports have.workers ended ready.opened are (subst S ready.seats_are have.started)
-    (have.all ∙ ready_count p slots readers gates opened seats ready of_readers of_gates) have.count have.became
-
--- what was taken of inputs that had their workers
-begun_worked : {R G : Type 0} (remaining : R → Option (List ℕ)) (failures : R → ℕ) (p : ScheduleValue) (slots : ℕ) (limit : InputLimit) (opened station : StationValue) (readers : List R) (gates : List G) (seats : List ((R × G) × PortValue)) (ended : List (Ended R G))
-    → IsReady p slots readers gates opened seats → length readers ≡ length p.first.request.inputs → length gates ≡ length p.first.request.inputs → HaveWorked remaining failures limit p station seats ended
-    → AreBegun p station.history.events (map remaining readers)
-begun_worked remaining failures p slots limit opened station readers gates seats ended ready of_readers of_gates have =
-    begun remaining failures limit p station readers ended (all_served remaining failures p slots limit opened station readers gates seats ended ready of_readers of_gates have)
-
--- some workers weren't started: then nothing was taken
-pub begun_stopped : {R G : Type 0} (remaining : R → Option (List ℕ)) (failures : R → ℕ) (p : ScheduleValue) (slots : ℕ) (limit : InputLimit) (opened station : StationValue) (readers : List R) (gates : List G) (seats : List ((R × G) × PortValue))
-    → IsReady p slots readers gates opened seats → length readers ≡ length p.first.request.inputs → length gates ≡ length p.first.request.inputs
-    → ((ended : List (Ended R G)) × HaveWorked remaining failures limit p station seats ended) ⊎ (station ≡ opened) → AreBegun p station.history.events (map remaining readers)
-begun_stopped remaining failures p slots limit opened station readers gates seats ready of_readers of_gates (inl have) =
-    begun_worked remaining failures p slots limit opened station readers gates seats have.0 ready of_readers of_gates have.1
-begun_stopped remaining failures p slots limit opened station readers gates seats ready of_readers of_gates (inr same) =
-    let none : station.history.events ≡ [] = ap (λ (s : StationValue). s.history.events) same ∙ ap (λ (h : History). h.events) ready.opened.history in
-    let P : List Event → Type 0 = λ h. AreBegun p h (map remaining readers) in
-    subst P (sym none) (λ i input all at start. (takeable p (origin_of i input) (framed_at (origin_of i input) all), refl))
-
--- as many inputs are told of as the schedule has
-pub worked_count : {R G : Type 0} (remaining : R → Option (List ℕ)) (failures : R → ℕ) (p : ScheduleValue) (slots : ℕ) (limit : InputLimit) (opened station : StationValue) (readers : List R) (gates : List G) (seats : List ((R × G) × PortValue)) (ended : List (Ended R G))
-    → IsReady p slots readers gates opened seats → length readers ≡ length p.first.request.inputs → length gates ≡ length p.first.request.inputs → HaveWorked remaining failures limit p station seats ended
-    → length ended ≡ length p.first.request.inputs
-worked_count remaining failures p slots limit opened station readers gates seats ended ready of_readers of_gates have =
-    have.count ∙ (have.all ∙ ready_count p slots readers gates opened seats ready of_readers of_gates)
-
--- What is left of the inputs of a run that failed.
-
-module _ {R G : Type 0} (remaining : R → Option (List ℕ)) (failures : R → ℕ) (p : ScheduleValue) (slots : ℕ) (limit : InputLimit) (opened station : StationValue) (readers : List R) (gates : List G) (seats : List ((R × G) × PortValue)) (failed_before failed_after : ℕ)
+-- The workers of all inputs worked.
+module _ {R G : Type 0} (remaining : R → Option (List ℕ)) (failures : R → ℕ) (p : ScheduleValue) (slots : ℕ) (limit : InputLimit) (opened station : StationValue) (readers : List R) (gates : List G) (seats : List ((R × G) × PortValue)) (ended : List (Ended (R × G)))
     (ready : IsReady p slots readers gates opened seats) (of_readers : length readers ≡ length p.first.request.inputs) (of_gates : length gates ≡ length p.first.request.inputs)
-    (plan_is : station.history.run.schedule ≡ p) (sound : IsSound station.history) (kept : IsLawfulStation station.history station.inputs) where
-  abbrev LeftAt : RunFault → Type 0
-  LeftAt fault = AreLeft remaining failures limit p station.history.events readers failed_before failed_after fault
+    (same : IsSameRun opened station) (sound : IsSound station.history) (kept : IsLawfulStation station.history station.inputs) (have : HaveWorked remaining failures limit p station seats ended) where
+  plan_is : station.history.run.schedule ≡ p
+  plan_is = ap (λ (r : Run). r.schedule) (run_is p slots opened station ready.ports ready.opened same)
 
-  left_worked : (fault : RunFault) (ended : List (Ended R G)) → HaveWorked remaining failures limit p station seats ended → (HadMemory ended ⊎ (fault ≡ run_faults.Memory))
-      → (fault ≡ run_faults.Memory → (failed_after ≡ failed_before) ⊎ WantedMemory ended) → LeftAt fault
-  left_worked fault ended have had wanted =
-      all_left remaining failures limit p station readers ended (all_served remaining failures p slots limit opened station readers gates seats ended ready of_readers of_gates have) plan_is sound kept
-      failed_before failed_after fault (worked_count remaining failures p slots limit opened station readers gates seats ended ready of_readers of_gates have ∙ sym of_readers) had wanted
+  worked_count : length have.workers ≡ length p.first.request.inputs
+  worked_count = have.all ∙ ready_count p slots readers gates opened seats ready of_readers of_gates
+
+  -- as many inputs are told of as the schedule has
+  ended_count : length ended ≡ length p.first.request.inputs
+  ended_count = have.count ∙ worked_count
+
+  all_read : AreRead remaining failures (λ (l : R × G). l.0) limit p station.history.events readers ended
+  all_read i input at =
+      let n = length p.first.request.inputs in
+      let ports = ready.ports in
+      let are = are_inputs p slots readers gates opened seats ready of_readers of_gates in
+      let S : List ((R × G) × PortValue) → Type 0 = λ v. AreStarted limit p v have.workers in
+      let started = subst S ready.seats_are have.started in
+      let inside : i < n = slice_get_within p.first.request.inputs i input at in
+      let seat = get_within (seats_of readers gates ports) i (omega (arith, inside, seats_are n readers gates ports are)) in
+      let w = get_within have.workers i (omega (arith, inside, worked_count)) in
+      let e = get_within ended i (omega (arith, inside, ended_count)) in
+      let f = fresh_at p slots opened ports i seat.0.1 ready.opened (port_at n readers gates ports i seat.0 are seat.1) in
+      let start = started.each i seat.0 w.0 seat.1 w.1 in
+      let end = have.became i w.0 e.0 w.1 e.1 in
+      let source : failures w.0.source ≡ failures seat.0.0.0 = ap failures start.source_is in
+      let x = settled_input remaining failures limit p station i input seat.0.0.0 seat.0.1 w.0 e.0 start f.2.number at end in
+      let schedule : IsMultiplexSchedule p = subst IsMultiplexSchedule plan_is sound.schedule in
+      record {
+        reader = seat.0.0.0;
+        reader_is = reader_at n readers gates ports i seat.0 are seat.1;
+        end = e.0;
+        end_is = e.1;
+        closed = x.1;
+        served = served remaining (limit_of_input limit input.format) p station i input seat.0.0.0 e.0.lent.0 e.0.report x.0 (kept.each i x.0.entry x.0.entry_is) plan_is schedule (all_at IsInput p.first.request.inputs i input (first_request p schedule).inputs at);
+        told = (λ stopped. subst (λ v. FailsOnce v (failures e.0.lent.0)) source (end.work.failed stopped), λ other. end.work.unfailed other ∙ source);
+      }
+
+-- A run that failed.
+
+-- of whose inputs nothing was taken
+begun_still : {R : Type 0} (remaining : R → Option (List ℕ)) (failures : R → ℕ) (run : Run) (limit : InputLimit) (readers : List R) (before after : Option (List ℕ)) (failed_before failed_after : ℕ) (fault : RunFault)
+    → length readers ≡ length run.schedule.first.request.inputs → IsBroken run [] before after → failed_after ≡ failed_before → HasBegun remaining failures (record { run = run; events = [] }) limit readers before after failed_before failed_after fault
+begun_still {R} remaining failures run limit readers before after failed_before failed_after fault size broken unfailed =
+    let one : R → Ended R = unread in
+    record {
+      run = (broken_taking remaining failures (λ (v : R). v) limit run [] readers (map one readers) before after fault (read_nothing remaining failures limit run.schedule readers size) (length-map readers one) broken
+          (λ i e at wanted. absurd (unread_had_memory readers i e at wanted))).0;
+      wanted = λ is. inl unfailed;
+    }
+
+-- that could not be opened
+pub begun_nothing : {R : Type 0} (remaining : R → Option (List ℕ)) (failures : R → ℕ) (run : Run) (limit : InputLimit) (readers : List R) (before : Option (List ℕ)) (failed : ℕ) (fault : RunFault)
+    → length readers ≡ length run.schedule.first.request.inputs → IsMultiplexSchedule run.schedule → run.limit ≤ 1099511627776 → HasBegun remaining failures (record { run = run; events = [] }) limit readers before before failed failed fault
+begun_nothing remaining failures run limit readers before failed fault size schedule few =
+    begun_still remaining failures run limit readers before before failed failed fault size
+    (record { sound = sound_nothing run.schedule run.limit schedule few; needed = tt; written = ([], nothing_sent run.schedule [] before [] refl refl) }) refl
+
+-- that was opened
+module _ {R G : Type 0} (remaining : R → Option (List ℕ)) (failures : R → ℕ) (p : ScheduleValue) (slots : ℕ) (limit : InputLimit) (opened station : StationValue) (readers : List R) (gates : List G) (seats : List ((R × G) × PortValue)) (before after : Option (List ℕ)) (failed_before failed_after : ℕ)
+    (ready : IsReady p slots readers gates opened seats) (of_readers : length readers ≡ length p.first.request.inputs) (of_gates : length gates ≡ length p.first.request.inputs)
+    (same : IsSameRun opened station) (sound : IsSound station.history) (kept : IsLawfulStation station.history station.inputs) (broken : IsBroken (record { schedule = p; limit = slots }) station.history.events before after) where
+  abbrev BegunAt : List Event → RunFault → Type 0
+  BegunAt h fault = HasBegun remaining failures (record { run = record { schedule = p; limit = slots }; events = h }) limit readers before after failed_before failed_after fault
+
+  begun_worked : (fault : RunFault) (ended : List (Ended (R × G))) → HaveWorked remaining failures limit p station seats ended → (HadMemory ended ⊎ (fault ≡ run_faults.Memory))
+      → (fault ≡ run_faults.Memory → (failed_after ≡ failed_before) ⊎ WantedMemory ended) → BegunAt station.history.events fault
+  begun_worked fault ended have had wanted =
+      let reader_of : R × G → R = λ l. l.0 in
+      let one : Ended (R × G) → R × Option Stop = left_of reader_of in
+      let b = broken_taking remaining failures reader_of limit (record { schedule = p; limit = slots }) station.history.events readers ended before after fault
+      (all_read remaining failures p slots limit opened station readers gates seats ended ready of_readers of_gates same sound kept have)
+      (ended_count remaining failures p slots limit opened station readers gates seats ended ready of_readers of_gates same sound kept have ∙ sym of_readers) broken
+      (λ i e at is. elim had [ inl all ↦ absurd (all i e at is) | inr memory ↦ memory ]) in
+      record {
+        run = b.0;
+        wanted = λ is.
+            elim (wanted is) [
+              | inl unfailed ↦ inl unfailed
+              | inr w ↦ inr (w.0, one w.1, ap (λ (xs : List (R × Option Stop)). slice_get xs w.0) b.1 ∙ slice_get-map one ended w.0 ∙ ap (option_map one) w.2, w.3)
+            ];
+      }
 
   -- no write failed
-  left_unfailed : failed_after ≡ failed_before → ((ended : List (Ended R G)) × HaveWorked remaining failures limit p station seats ended) ⊎ (station ≡ opened) → LeftAt run_faults.Memory
-  left_unfailed unfailed (inl have) = left_worked run_faults.Memory have.0 have.1 (inr refl) (λ is. inl unfailed)
-  left_unfailed unfailed (inr same) =
-      let none : station.history.events ≡ [] = ap (λ (s : StationValue). s.history.events) same ∙ ap (λ (h : History). h.events) ready.opened.history in
-      let P : List Event → Type 0 = λ h. AreLeft remaining failures limit p h readers failed_before failed_after run_faults.Memory in
-      subst P (sym none) (nothing_left remaining failures limit p readers failed_before failed_after run_faults.Memory unfailed)
+  begun_unfailed : failed_after ≡ failed_before → ((ended : List (Ended (R × G))) × HaveWorked remaining failures limit p station seats ended) ⊎ (station ≡ opened) → BegunAt station.history.events run_faults.Memory
+  begun_unfailed unfailed (inl have) = begun_worked run_faults.Memory have.0 have.1 (inr refl) (λ is. inl unfailed)
+  begun_unfailed unfailed (inr still) =
+      let none : station.history.events ≡ [] = ap (λ (s : StationValue). s.history.events) still ∙ ap (λ (h : History). h.events) ready.opened.history in
+      let B : List Event → Type 0 = λ h. IsBroken (record { schedule = p; limit = slots }) h before after in
+      subst (λ h. BegunAt h run_faults.Memory) (sym none) (begun_still remaining failures (record { schedule = p; limit = slots }) limit readers before after failed_before failed_after run_faults.Memory of_readers (subst B none broken) unfailed)
 
-  left_memory : ((ended : List (Ended R G)) × HaveWorked remaining failures limit p station seats ended) ⊎ (station ≡ opened)
-      → ((failed_after ≡ failed_before) ⊎ ((ended : List (Ended R G)) × HaveWorked remaining failures limit p station seats ended × WantedMemory ended)) → LeftAt run_faults.Memory
-  left_memory stopped (inl unfailed) = left_unfailed unfailed stopped
-  left_memory stopped (inr have) = left_worked run_faults.Memory have.0 have.1 (inr refl) (λ is. inr have.2)
+  begun_memory : ((ended : List (Ended (R × G))) × HaveWorked remaining failures limit p station seats ended) ⊎ (station ≡ opened)
+      → ((failed_after ≡ failed_before) ⊎ ((ended : List (Ended (R × G))) × HaveWorked remaining failures limit p station seats ended × WantedMemory ended)) → BegunAt station.history.events run_faults.Memory
+  begun_memory stopped (inl unfailed) = begun_unfailed unfailed stopped
+  begun_memory stopped (inr have) = begun_worked run_faults.Memory have.0 have.1 (inr refl) (λ is. inr have.2)
 
-  pub left_stopped : (fault : RunFault) → ((ended : List (Ended R G)) × HaveWorked remaining failures limit p station seats ended) ⊎ (station ≡ opened)
-      → (fault ≡ run_faults.Write → (ended : List (Ended R G)) × HaveWorked remaining failures limit p station seats ended × HadMemory ended)
-      → (fault ≡ run_faults.Memory → (failed_after ≡ failed_before) ⊎ ((ended : List (Ended R G)) × HaveWorked remaining failures limit p station seats ended × WantedMemory ended)) → LeftAt fault
-  left_stopped run_faults.Write stopped unwanted wanted =
-      let have = unwanted refl in
-      left_worked run_faults.Write have.0 have.1 (inl have.2) (λ is. absurd (not_write (sym is)))
-  left_stopped run_faults.Memory stopped unwanted wanted = left_memory stopped (wanted refl)
-
--- a run that failed
-has_begun : {R : Type 0} (remaining : R → Option (List ℕ)) (failures : R → ℕ) (p : ScheduleValue) (slots : ℕ) (limit : InputLimit) (opened station : StationValue) (ports : List PortValue) (output : SlotWriter) (readers : List R) (before after : Option (List ℕ)) (failed_before failed_after : ℕ) (fault : RunFault)
-    → IsOpened p slots opened ports → output.writer ≡ [] → BreaksOff opened station output before after → IsSound station.history → AreBegun p station.history.events (map remaining readers)
-    → AreLeft remaining failures limit p station.history.events readers failed_before failed_after fault
-    → HasBegun remaining failures (record { run = record { schedule = p; limit = slots }; events = station.history.events }) limit readers before after failed_before failed_after fault
-has_begun remaining failures p slots limit opened station ports output readers before after failed_before failed_after fault is waiting broken sound taken inputs =
-    let same = run_is p slots opened station ports is broken.same in
-    let S : Run → Type 0 = λ r. IsSound (record { run = r; events = station.history.events }) in
-    let W : Run → Type 0 = λ r. SendsBeginning before after (bytes_of (emitted r.schedule station.history.events)) in
-    record {
-      sound = subst S same sound;
-      begun = taken;
-      needed = needed_run p slots opened station ports is broken.same;
-      written = subst W same (broken.begun before (nothing_yet p slots opened ports output before is waiting));
-      lefts = inputs.lefts;
-      count = inputs.count;
-      left = inputs.left;
-      faithful = inputs.faithful;
-      refused = inputs.refused;
-      wanted = inputs.wanted;
-    }
-
--- so many faults fit into 64 bits
-faults_exact : (run : Run) (h : List Event) (told : ℕ) → slots h ≤ run.limit → run.limit ≤ 1099511627776 → told ≡ fault_count run.schedule.first.request.rate run.schedule.first.request.watch (emitted run.schedule h)
-    → told ≡ length (faults run.schedule.first.request.rate run.schedule.first.request.watch (emitted run.schedule h))
-faults_exact run h told within few is =
-    let bound = few_faults run.schedule.first.request.rate run.schedule.first.request.watch (emitted run.schedule h) in
-    let count = length-emitted run.schedule h in
-    let all = length (faults run.schedule.first.request.rate run.schedule.first.request.watch (emitted run.schedule h)) in
-    let fits : all ≤ 18446744073709551615 = omega (arith, bound, count, within, few) in
-    is ∙ min-eq_left fits
-
--- a run that ended by itself
-has_run : (p : ScheduleValue) (slots : ℕ) (limit : InputLimit) (opened station : StationValue) (ports : List PortValue) (a b : SlotWriter) (starts lefts : List (Option (List ℕ))) (before after : Option (List ℕ)) (s : Summary)
-    → slots ≤ 1099511627776 → IsOpened p slots opened ports → a.writer ≡ [] → HasAnalysed a p.first.request.rate p.first.request.watch [] → IsDriven opened station a b before after → IsSound station.history
-    → AreBegun p station.history.events starts → IsToldOfInputs limit p station.history.events starts lefts s.inputs.items
-    → length s.inputs.items ≡ length p.first.request.inputs → ArePeaks station.history.run.schedule station.history.events s.streams.items → IsCounts station.history.events s.counts → s.faults ≡ b.faults → s.fault_report ≡ b.report
-    → HasRun (record { run = record { schedule = p; limit = slots }; events = station.history.events }) limit starts lefts before after s
-has_run p slots limit opened station ports a b starts lefts before after s few is waiting analysed driven sound taken told_inputs count peaks counts told same_report =
-    let same = run_is p slots opened station ports is driven.same in
-    let h = station.history.events in
-    let run : Run = record { schedule = p; limit = slots } in
-    let S : Run → Type 0 = λ r. IsSound (record { run = r; events = h }) in
-    let W : Run → Type 0 = λ r. Appends before after (bytes_of (emitted r.schedule h)) in
-    let O : Run → Type 0 = λ r. IsOver r h in
-    let K : Run → Type 0 = λ r. ArePeaks r.schedule h s.streams.items in
-    let F : Run → Type 0 = λ r. b.faults ≡ fault_count r.schedule.first.request.rate r.schedule.first.request.watch (emitted r.schedule h) in
-    let sound_run = subst S same sound in
-    let within = sound_run.run.within in
-    let analysed_all = driven.analysed (analysed_yet p slots opened ports a is analysed) in
-    let Q : Run → Type 0 = λ r. IsReportOf b.report (faults r.schedule.first.request.rate r.schedule.first.request.watch (emitted r.schedule h)) in
-    let T : ReportValue → Type 0 = λ v. IsReportOf v (faults p.first.request.rate p.first.request.watch (emitted p h)) in
-    record {
-      sound = sound_run;
-      finished = finished run h within (subst O same driven.over);
-      written = subst W same (driven.written before (nothing_yet p slots opened ports a before is waiting));
-      begun = taken;
-      needed = needed_run p slots opened station ports is driven.same;
-      faithful = told_inputs.faithful;
-      summary = record {
-        length_is = count;
-        inputs = told_inputs.summaries;
-        streams = subst K same peaks;
-        counts = counts;
-        faults = faults_exact run h s.faults within few (told ∙ subst F same analysed_all.faults_are);
-        reported = subst T (sym same_report) (subst Q same analysed_all.reported);
-      };
-      read = told_inputs.read;
-    }
+  begun_stopped : (fault : RunFault) → ((ended : List (Ended (R × G))) × HaveWorked remaining failures limit p station seats ended) ⊎ (station ≡ opened)
+      → (fault ≡ run_faults.Write → (ended : List (Ended (R × G))) × HaveWorked remaining failures limit p station seats ended × HadMemory ended)
+      → (fault ≡ run_faults.Memory → (failed_after ≡ failed_before) ⊎ ((ended : List (Ended (R × G))) × HaveWorked remaining failures limit p station seats ended × WantedMemory ended)) → BegunAt station.history.events fault
+  begun_stopped run_faults.Write stopped unwanted wanted = (let have = unwanted refl in begun_worked run_faults.Write have.0 have.1 (inl have.2) (λ is. absurd (not_write (sym is))))
+  begun_stopped run_faults.Memory stopped unwanted wanted = begun_memory stopped (wanted refl)
 
 -- What a run makes that was ready to be started, as it ends.
 
@@ -343,59 +257,93 @@ pub run_failed : {R G : Type 0} (remaining : R → Option (List ℕ)) (failures 
     → IsCutShort remaining failures limit p opened seats output before after failed_before failed_after fault
     → (h : List Event) × HasBegun remaining failures (record { run = record { schedule = p; limit = slots }; events = h }) limit readers before after failed_before failed_after fault
 run_failed remaining failures p slots limit opened readers gates seats output before after failed_before failed_after fault ready of_readers of_gates waiting f =
-    let plan_is = ap (λ (r : Run). r.schedule) (run_is p slots opened f.station ready.ports ready.opened f.broken.same) in (
-      f.station.history.events,
-      has_begun remaining failures p slots limit opened f.station ready.ports output readers before after failed_before failed_after fault ready.opened waiting f.broken f.sound
-          (begun_stopped remaining failures p slots limit opened f.station readers gates seats ready of_readers of_gates f.stopped)
-          (left_stopped remaining failures p slots limit opened f.station readers gates seats failed_before failed_after ready of_readers of_gates plan_is f.sound f.lawful fault f.stopped f.unwanted f.wanted),
-    )
+    let h = f.station.history.events in
+    let same = run_is p slots opened f.station ready.ports ready.opened f.broken.same in
+    let S : Run → Type 0 = λ r. IsSound (record { run = r; events = h }) in
+    let W : Run → Type 0 = λ r. SendsBeginning before after (bytes_of (emitted r.schedule h)) in
+    let broken : IsBroken (record { schedule = p; limit = slots }) h before after = record {
+      sound = subst S same f.sound;
+      needed = needed_run p slots opened f.station ready.ports ready.opened f.broken.same;
+      written = subst W same (f.broken.begun before (nothing_yet p slots opened ready.ports output before ready.opened waiting));
+    } in
+    (h, begun_stopped remaining failures p slots limit opened f.station readers gates seats before after failed_before failed_after ready of_readers of_gates f.broken.same f.sound f.lawful broken fault f.stopped f.unwanted f.wanted)
 
-served_run : {R G : Type 0} (remaining : R → Option (List ℕ)) (failures : R → ℕ) (p : ScheduleValue) (slots : ℕ) (limit : InputLimit) (opened : StationValue) (readers : List R) (gates : List G) (seats : List ((R × G) × PortValue)) (output : SlotWriter) (before after : Option (List ℕ)) (s : Summary) (lent : List (R × G))
-    → IsReady p slots readers gates opened seats → length readers ≡ length p.first.request.inputs → length gates ≡ length p.first.request.inputs → (e : RunsThrough remaining failures limit p opened seats output before after s lent)
-    → IsServedRun remaining failures limit p e.station readers e.ended s.inputs.items lent
-served_run remaining failures p slots limit opened readers gates seats output before after s lent ready of_readers of_gates e = record {
-  each = all_served remaining failures p slots limit opened e.station readers gates seats e.ended ready of_readers of_gates e.worked;
-  plan_is = ap (λ (r : Run). r.schedule) (run_is p slots opened e.station ready.ports ready.opened e.driven.same);
-  sound = e.sound;
-  kept = e.lawful;
-  had_memory = e.had_memory;
-  reported = e.reported;
-  count = worked_count remaining failures p slots limit opened e.station readers gates seats e.ended ready of_readers of_gates e.worked;
-}
+module _ {R G : Type 0} (remaining : R → Option (List ℕ)) (failures : R → ℕ) (p : ScheduleValue) (slots : ℕ) (limit : InputLimit) (opened : StationValue) (readers : List R) (gates : List G) (seats : List ((R × G) × PortValue)) (output : SlotWriter) (before after : Option (List ℕ)) (s : Summary) (lent : List (R × G))
+    (ready : IsReady p slots readers gates opened seats) (of_readers : length readers ≡ length p.first.request.inputs) (of_gates : length gates ≡ length p.first.request.inputs) (e : RunsThrough remaining failures limit p opened seats output before after s lent) where
+  abbrev events : List Event
+  events = e.station.history.events
 
-pub run_ended : {R G : Type 0} (remaining : R → Option (List ℕ)) (failures : R → ℕ) (p : ScheduleValue) (slots : ℕ) (limit : InputLimit) (opened : StationValue) (readers : List R) (gates : List G) (seats : List ((R × G) × PortValue)) (output : SlotWriter) (before after : Option (List ℕ)) (s : Summary) (lent : List (R × G))
-    → slots ≤ 1099511627776 → IsReady p slots readers gates opened seats → length readers ≡ length p.first.request.inputs → length gates ≡ length p.first.request.inputs → output.writer ≡ []
-    → HasAnalysed output p.first.request.rate p.first.request.watch [] → RunsThrough remaining failures limit p opened seats output before after s lent
-    → (h : List Event) × HasRun (record { run = record { schedule = p; limit = slots }; events = h }) limit (map remaining readers) (map (λ l. remaining l.0) lent) before after s
-run_ended {R} {G} remaining failures p slots limit opened readers gates seats output before after s lent few ready of_readers of_gates waiting analysed e =
-    let each = all_served remaining failures p slots limit opened e.station readers gates seats e.ended ready of_readers of_gates e.worked in
-    let count = worked_count remaining failures p slots limit opened e.station readers gates seats e.ended ready of_readers of_gates e.worked in (
-      e.station.history.events,
-      has_run p slots limit opened e.station ready.ports output e.left (map remaining readers) (map (λ l. remaining l.0) lent) before after s few ready.opened waiting analysed e.driven e.sound
-          (begun remaining failures limit p e.station readers e.ended each)
-          (told_of_inputs remaining failures limit p e.station readers e.ended s.inputs.items lent (served_run remaining failures p slots limit opened readers gates seats output before after s lent ready of_readers of_gates e))
-          (e.reported.length_is ∙ count) e.peaks e.counts e.faults e.fault_report,
-    )
+  read_all : AreRead remaining failures (λ (l : R × G). l.0) limit p events readers e.ended
+  read_all = all_read remaining failures p slots limit opened e.station readers gates seats e.ended ready of_readers of_gates e.driven.same e.sound e.lawful e.worked
 
--- a failed read is told of an input exactly where its reader failed
-pub failures_told : {R G : Type 0} (remaining : R → Option (List ℕ)) (failures : R → ℕ) (p : ScheduleValue) (slots : ℕ) (limit : InputLimit) (opened : StationValue) (readers : List R) (gates : List G) (seats : List ((R × G) × PortValue)) (output : SlotWriter) (before after : Option (List ℕ)) (s : Summary) (lent : List (R × G))
-    → IsReady p slots readers gates opened seats → length readers ≡ length p.first.request.inputs → length gates ≡ length p.first.request.inputs → RunsThrough remaining failures limit p opened seats output before after s lent
-    → FailuresAreTold failures readers (map (λ l. l.0) lent) s.inputs.items
-failures_told remaining failures p slots limit opened readers gates seats output before after s lent ready of_readers of_gates e =
-    all_failures_told remaining failures limit p e.station readers e.ended s.inputs.items lent (served_run remaining failures p slots limit opened readers gates seats output before after s lent ready of_readers of_gates e)
+  count_all : length e.ended ≡ length p.first.request.inputs
+  count_all = ended_count remaining failures p slots limit opened e.station readers gates seats e.ended ready of_readers of_gates e.driven.same e.sound e.lawful e.worked
 
--- as many readers and gates come back as there were
-pub lent_count : {R G : Type 0} (remaining : R → Option (List ℕ)) (failures : R → ℕ) (p : ScheduleValue) (slots : ℕ) (limit : InputLimit) (opened : StationValue) (readers : List R) (gates : List G) (seats : List ((R × G) × PortValue)) (output : SlotWriter) (before after : Option (List ℕ)) (s : Summary) (lent : List (R × G))
-    → IsReady p slots readers gates opened seats → length readers ≡ length p.first.request.inputs → length gates ≡ length p.first.request.inputs
-    → RunsThrough remaining failures limit p opened seats output before after s lent → length lent ≡ length readers
-lent_count {R} {G} remaining failures p slots limit opened readers gates seats output before after s lent ready of_readers of_gates e =
-    let lent_of : Ended R G → R × G = λ x. (x.reader, x.gate) in
-    ap length e.reported.lent_is ∙ (length-map e.ended lent_of ∙ (worked_count remaining failures p slots limit opened e.station readers gates seats e.ended ready of_readers of_gates e.worked ∙ sym of_readers))
+  told_all : IsTold p events e.ended e.left s lent
+  told_all = (let T : ScheduleValue → Type 0 = λ v. IsTold v events e.ended e.left s lent in subst T (plan_is remaining failures p slots limit opened e.station readers gates seats e.ended ready of_readers of_gates e.driven.same e.sound e.lawful e.worked) e.told)
 
--- what is told of as many inputs as there are seats is told of all
-pub told_count : {R G : Type 0} (remaining : R → Option (List ℕ)) (failures : R → ℕ) (limit : InputLimit) (p : ScheduleValue) (opened station : StationValue) (seats : List ((R × G) × PortValue)) (ended : List (Ended R G)) (a b : SlotWriter) (before after : Option (List ℕ))
-    → opened.history.run.schedule ≡ p → length seats ≡ length p.first.request.inputs → HaveWorked remaining failures limit p station seats ended → IsDriven opened station a b before after
-    → length ended ≡ length station.history.run.schedule.first.request.inputs
-told_count remaining failures limit p opened station seats ended a b before after plan_is size have driven =
-    let same : station.history.run.schedule ≡ p = ap (λ (r : Run). r.schedule) driven.same.run ∙ plan_is in
-    have.count ∙ (have.all ∙ (size ∙ sym (ap (λ (v : ScheduleValue). length v.first.request.inputs) same)))
+  pub run_ended : slots ≤ 1099511627776 → output.writer ≡ [] → HasAnalysed output p.first.request.rate p.first.request.watch []
+      → (h : List Event) × HasRun (record { run = record { schedule = p; limit = slots }; events = h }) limit (map remaining readers) (map (λ l. remaining l.0) lent) before after s
+  run_ended few waiting analysed =
+      let run : Run = record { schedule = p; limit = slots } in
+      let same = run_is p slots opened e.station ready.ports ready.opened e.driven.same in
+      let S : Run → Type 0 = λ r. IsSound (record { run = r; events = events }) in
+      let O : Run → Type 0 = λ r. IsOver r events in
+      let W : Run → Type 0 = λ r. Appends before after (bytes_of (emitted r.schedule events)) in
+      let A : Run → Type 0 = λ r. HasAnalysed e.left r.schedule.first.request.rate r.schedule.first.request.watch (emitted r.schedule events) in
+      let done : IsDone run events e.left before after = record {
+        few = few;
+        sound = subst S same e.sound;
+        over = subst O same e.driven.over;
+        needed = needed_run p slots opened e.station ready.ports ready.opened e.driven.same;
+        analysed = subst A same (e.driven.analysed (analysed_yet p slots opened ready.ports output ready.opened analysed));
+        written = subst W same (e.driven.written before (nothing_yet p slots opened ready.ports output before ready.opened waiting));
+      } in
+      (events, outcome.has_run remaining failures (λ (l : R × G). l.0) limit run events readers e.ended e.left before after s lent read_all count_all e.had_memory done told_all)
+
+  -- a failed read is told of an input exactly where its reader failed
+  pub failures_told : FailuresAreTold failures readers (map (λ l. l.0) lent) s.inputs.items
+  failures_told = outcome.failures_told remaining failures (λ (l : R × G). l.0) limit p events readers e.ended read_all s.inputs.items lent told_all.inputs count_all
+
+  -- as many readers and gates come back as there were
+  pub lent_count : length lent ≡ length readers
+  lent_count = (let back : Ended (R × G) → R × G = λ x. x.lent in ap length told_all.inputs.lent_is ∙ (length-map e.ended back ∙ (count_all ∙ sym of_readers)))
+
+-- What a run did that was driven so, whose workers were joined behind it.
+module _ {R G : Type 0} (remaining : R → Option (List ℕ)) (failures : R → ℕ) (limit : InputLimit) (p : ScheduleValue) (opened driven joined : StationValue) (seats : List ((R × G) × PortValue)) (workers : List (Worker R (RunGate G))) (ended : List (Ended (R × G))) (count : ℕ) (a b : SlotWriter) (before after : Option (List ℕ)) (failed_before failed_after : ℕ) (result : Result (Unit {0}) RunFault)
+    (started : AreStarted limit p seats workers) (size : length workers ≡ count) (all : OnOk result (count ≡ length seats)) (some : OnErr result ((count ≡ length seats) ⊎ (driven ≡ opened))) (crewed : result ≡ Err run_faults.Write → count ≡ length seats)
+    (goes : OnOk result (IsDriven opened driven a b before after)) (broken : OnErr result (BreaksOff opened driven a before after)) (unfailed : OnOk result (failed_after ≡ failed_before)) (memory : result ≡ Err run_faults.Memory → failed_after ≡ failed_before)
+    (same : joined ≡ driven) (became : AreEnded remaining failures driven workers ended) (counted : length ended ≡ count) (sound : IsSound joined.history) (lawful : IsLawfulStation joined.history joined.inputs) where
+  worked : count ≡ length seats → HaveWorked remaining failures limit p joined seats ended
+  worked seated = have_worked remaining failures limit p driven joined seats workers ended started (size ∙ seated) (counted ∙ sym size) became same
+
+  -- it went on to its end, and this was told of it
+  pub runs_through : (s : Summary) (lent : List (R × G)) → OnErr result ⊥ → HadMemory ended → IsTold joined.history.run.schedule joined.history.events ended b s lent → RunsThrough remaining failures limit p opened seats a before after s lent
+  runs_through s lent fine had told =
+      let D : StationValue → Type 0 = λ v. IsDriven opened v a b before after in
+      record { station = joined; left = b; ended = ended; worked = worked (fine_part result fine all); had_memory = had; driven = subst D (sym same) (fine_part result fine goes); sound = sound; lawful = lawful; told = told }
+
+  -- it failed, and this fault was told
+  pub is_cut_short : (fault : RunFault) → (fault ≡ run_faults.Write → (result ≡ Err run_faults.Write) × HadMemory ended) → (fault ≡ run_faults.Memory → (result ≡ Err run_faults.Write → ⊥) ⊎ WantedMemory ended)
+      → IsCutShort remaining failures limit p opened seats a before after failed_before failed_after fault
+  is_cut_short fault write wanted =
+      let B : StationValue → Type 0 = λ v. BreaksOff opened v a before after in
+      record {
+        station = joined;
+        stopped = elim (either_part result all some) [
+          | inl seated ↦ inl (ended, worked seated)
+          | inr still ↦ inr (same ∙ still)
+        ];
+        unwanted = λ e. (let t = write e in (ended, worked (crewed t.0), t.1));
+        wanted = λ e.
+            elim (unless_write result unfailed memory (λ is. is)) [
+              | inl well ↦ inl well
+              | inr is ↦ elim (wanted e) [
+                | inl unwritten ↦ absurd (unwritten is)
+                | inr one ↦ inr (ended, worked (crewed is), one)
+              ]
+            ];
+        broken = subst B (sym same) (breaks_either result opened driven a b before after goes broken);
+        sound = sound;
+        lawful = lawful;
+      }

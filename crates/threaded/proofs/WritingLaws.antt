@@ -13,11 +13,11 @@ use Rattle.outlet.specs.declared.run_fault.RunFault.{RunFault}
 use Rattle.outlet.specs.declared.run_fault.RunFault.TheVariants.{Memory, Write}
 use Rattle.outlet.specs.declared.slot_writer.SlotWriter.{SlotWriter}
 use Rattle.outlet.proofs.KnownLaws.{appends_nothing, beginning_on}
-use Rattle.serial.proofs.RunningLaws.{sends_on, all_sent, part_sent}
+use Rattle.outcome.proofs.WrittenLaws.{sends_on, all_sent, part_sent}
 use Rattle.outlet.proofs.SendingLaws.{on_ok_always, on_err_weaker, same_err}
 use Rattle.threaded.specs.Outputs.{packets_in, IsPut, IsWritten}
 use Rattle.outlet.specs.declared.outlet.Outlet.{Outlet}
-use Rattle.threaded.proofs.ResultLaws.{ok_no_err, not_write, not_ok, is_failed, is_fine}
+use Rattle.outcome.proofs.ResultLaws.{ok_no_err, not_write, not_ok, is_failed, is_fine}
 
 pub bytes_behind : (xs ys : List (List ℕ)) → bytes_of (xs ++ ys) ≡ bytes_of xs ++ bytes_of ys
 bytes_behind xs ys = flat_map-append (λ (q : List ℕ). q) xs ys

@@ -1,5 +1,5 @@
 -- The workers of a run, and what they leave (profile).
-use Rattle.std.specs.Prelude.{◌≡◌, ℕ, ◌≤◌, List, [], length, Option, Some}
+use Rattle.std.specs.Prelude.{◌≡◌, ℕ, ◌≤◌, List, [], length, Bool, true, false, Option, Some, None}
 use Rattle.std.specs.List.{slice_get}
 use Rattle.schedule.specs.Schedule.{ScheduleValue}
 use Rattle.port.specs.Rings.{PortValue, FinishedValue}
@@ -9,8 +9,10 @@ use Rattle.station.specs.declared.settled.Settled.{Settled}
 use Rattle.worker.specs.declared.worker.Worker.{Worker}
 use Rattle.reading.specs.declared.input_limit.InputLimit.{InputLimit}
 use Rattle.threaded.specs.Working.{IsWorkOf}
-use Rattle.reading.specs.declared.stop.Stop.TheVariants.{Memory}
-use Rattle.threaded.specs.declared.ended.Ended.{Ended}
+use Rattle.mux.specs.History.{is_closed}
+use Rattle.reading.specs.declared.stop.Stop.{Stop}
+use Rattle.reading.specs.declared.stop.Stop.TheVariants.{Gate, ReadFailed, TooMuch, Memory}
+use Rattle.outcome.specs.declared.ended.Ended.{Ended}
 use Rattle.threaded.specs.declared.run_gate.RunGate.{RunGate}
 
 -- the ports sent nothing yet
@@ -37,17 +39,18 @@ AreOfStation {R} {G} station workers =
     (i : ℕ) (worker : Worker R G) → slice_get workers i ≡ Some worker
     → slice_get (rings_of station.inputs) worker.port.ring.input ≡ Some worker.port.ring
 
--- the worker did its work, and this became of what its port sent
-pub record IsEnded {R G : Type 0} (remaining : R → Option (List ℕ)) (failures : R → ℕ) (station : StationValue) (worker : Worker R (RunGate G)) (ended : Ended R G) : Type 0 where
+-- The worker did its work, and this became of what its port sent. It is told whether the input is closed.
+pub record IsEnded {R G : Type 0} (remaining : R → Option (List ℕ)) (failures : R → ℕ) (station : StationValue) (worker : Worker R (RunGate G)) (ended : Ended (R × G)) : Type 0 where
   pub finished : FinishedValue
-  pub work : IsWorkOf remaining failures worker ended.report finished ended.reader
+  pub work : IsWorkOf remaining failures worker ended.report finished ended.lent.0
+  pub closed_is : ended.is_closed ≡ is_closed finished.port.ring.input station.history.events
   pub settled : Settled
   pub settles : IsSettled station finished settled
 
 -- the same of the workers at the places of these
-abbrev pub AreEnded : {R G : Type 0} → (R → Option (List ℕ)) → (R → ℕ) → StationValue → List (Worker R (RunGate G)) → List (Ended R G) → Type 0
+abbrev pub AreEnded : {R G : Type 0} → (R → Option (List ℕ)) → (R → ℕ) → StationValue → List (Worker R (RunGate G)) → List (Ended (R × G)) → Type 0
 AreEnded {R} {G} remaining failures station workers ended =
-    (i : ℕ) (worker : Worker R (RunGate G)) (e : Ended R G) → slice_get workers i ≡ Some worker → slice_get ended i ≡ Some e
+    (i : ℕ) (worker : Worker R (RunGate G)) (e : Ended (R × G)) → slice_get workers i ≡ Some worker → slice_get ended i ≡ Some e
     → IsEnded remaining failures station worker e
 
 -- the port at each input's seat is of the ring that the input comes through
@@ -56,16 +59,20 @@ AreSeated {R} {G} station seats =
     (i : ℕ) (seat : (R × G) × PortValue) → slice_get seats i ≡ Some seat
     → slice_get (rings_of station.inputs) seat.1.ring.input ≡ Some seat.1.ring
 
--- no worker wanted memory
-abbrev pub HadMemory : {R G : Type 0} → List (Ended R G) → Type 0
-HadMemory {R} {G} ended = (i : ℕ) (e : Ended R G) → slice_get ended i ≡ Some e → e.report.stopped ≡ Some Memory → ⊥
+-- a worker with this report was stopped for want of memory
+abbrev pub wants_memory : Option Stop → Bool
+wants_memory None = false
+wants_memory (Some Gate) = false
+wants_memory (Some ReadFailed) = false
+wants_memory (Some TooMuch) = false
+wants_memory (Some Memory) = true
 
 -- a worker wanted memory
-abbrev pub WantedMemory : {R G : Type 0} → List (Ended R G) → Type 0
-WantedMemory {R} {G} ended = (i : ℕ) × (e : Ended R G) × (slice_get ended i ≡ Some e) × (e.report.stopped ≡ Some Memory)
+abbrev pub WantedMemory : {R G : Type 0} → List (Ended (R × G)) → Type 0
+WantedMemory {R} {G} ended = (i : ℕ) × (e : Ended (R × G)) × (slice_get ended i ≡ Some e) × (e.report.stopped ≡ Some Memory)
 
 -- The input at each seat had a worker, and this became of them.
-pub record HaveWorked {R G : Type 0} (remaining : R → Option (List ℕ)) (failures : R → ℕ) (limit : InputLimit) (schedule : ScheduleValue) (station : StationValue) (seats : List ((R × G) × PortValue)) (ended : List (Ended R G)) : Type 0 where
+pub record HaveWorked {R G : Type 0} (remaining : R → Option (List ℕ)) (failures : R → ℕ) (limit : InputLimit) (schedule : ScheduleValue) (station : StationValue) (seats : List ((R × G) × PortValue)) (ended : List (Ended (R × G))) : Type 0 where
   pub workers : List (Worker R (RunGate G))
   pub started : AreStarted limit schedule seats workers
   pub all : length workers ≡ length seats

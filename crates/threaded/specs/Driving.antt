@@ -2,7 +2,7 @@
 use Rattle.std.specs.Prelude.{◌≡◌, ℕ, List, Option}
 use Rattle.std.specs.Io.KnownBytes.{Appends}
 use Rattle.mux.specs.History.{History, emitted}
-use Rattle.serial.specs.Running.{IsOver, TakesAsNeeded}
+use Rattle.outcome.specs.Taking.{IsOver, TakesAsNeeded}
 use Rattle.outlet.specs.Written.{Sends, SendsBeginning}
 use Rattle.outlet.specs.Sending.{bytes_of, HasAnalysed}
 use Rattle.outlet.specs.declared.slot_writer.SlotWriter.{SlotWriter}

@@ -2,7 +2,7 @@
 use Rattle.std.specs.Prelude.{◌≡◌, ℕ, List, ◌++◌, true}
 use Rattle.mux.specs.History.{emitted}
 use Rattle.relay.specs.Relays.{RelayId, FinishedValue}
-use Rattle.serial.specs.Running.{IsOver}
+use Rattle.outcome.specs.Taking.{IsOver}
 use Rattle.station.specs.Stations.{StationValue}
 use Rattle.threaded.specs.Driving.{IsSameRun}
 use Rattle.threaded.specs.Outputs.{packets_in}

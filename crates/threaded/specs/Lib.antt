@@ -4,7 +4,4 @@ pub mod Opening
 pub mod Driving
 pub mod Outputs
 pub mod Handing
-pub mod Ending
-pub mod Giving
 pub mod Outcome
-pub mod EqualOutput

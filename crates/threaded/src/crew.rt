@@ -1,14 +1,15 @@
 //! The workers of a run, from their start to their end.
 
 ghost use Rattle.std.specs.Prelude.{◌≡◌, ◌≤◌, List, ℕ, [], length, map, vec_len, vec_capacity, OnOk};
+ghost use Rattle.std.specs.List.{list_any};
 ghost use Rattle.reading.specs.InputLimit.{IsAllowed};
-ghost use Rattle.threaded.specs.Crews.{AreUnsent, AreStarted, AreOfStation, AreEnded};
+ghost use Rattle.threaded.specs.Crews.{AreUnsent, AreStarted, AreOfStation, AreEnded, wants_memory};
 
-use crate::ended::Ended;
 use crate::run_gate::RunGate;
 use crate::work::{WorkHandle, start};
+use outcome::Ended;
 use port::Port;
-use reading::{InputLimit, Source};
+use reading::{InputLimit, Report, Source, Stop};
 use schedule::Schedule;
 use station::Station;
 use std::alloc::{AllocError, Global};
@@ -60,7 +61,7 @@ pub(crate) fn join_all<T: Threads, R: Source + Drop, G: Gate + Drop>(
     rt: &T,
     station: &mut Station,
     handles: Vec<WorkHandle<R, G>>,
-    ended: &mut Vec<Ended<R, G>>,
+    ended: &mut Vec<Ended<(R, G)>>,
 )
     requires none { ended.old.items ≡ [] }
     requires room { vec_len handles ≤ vec_capacity ended.old }
@@ -70,15 +71,32 @@ pub(crate) fn join_all<T: Threads, R: Source + Drop, G: Gate + Drop>(
     ensures ended { AreEnded R.remaining R.failures station.old
         (map (λ h. h.promise.worker.value) handles.items) ended.new.items }
 {
+    // What every station keeps is known with this.
+    let _ = station.slots();
     for handle in handles {
         let (report, port, reader, gate) = handle.join(rt);
+        let is_closed = station.is_closed(port.input());
         let _ = station.settle(port);
         let Ok(()) = ended.push(Ended {
             report,
-            reader,
-            gate: gate.given,
+            is_closed,
+            lent: (reader, gate.given),
         }) else {
             unreachable!()
         };
     }
+}
+
+/// Whether a worker was stopped for want of memory.
+fn wants_memory(report: &Report) -> bool
+    ensures { result ≡ wants_memory report.now.stopped }
+{
+    matches!(report.stopped, Some(Stop::Memory))
+}
+
+/// Whether one of these workers was.
+pub(crate) fn wanted_memory<R: Drop, G: Drop>(ended: &[Ended<(R, G)>]) -> bool
+    ensures { result ≡ list_any (λ e. wants_memory e.report.stopped) ended.now }
+{
+    ended.iter().any(|input| wants_memory(&input.report))
 }

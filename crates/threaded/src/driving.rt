@@ -1,7 +1,7 @@
 //! How a run goes on, and how what goes out of it is handed on.
 
 ghost use Rattle.std.specs.Prelude.{◌≡◌, ◌⊎◌, ◌≤◌, ◌++◌, ◌∷◌, [], ℕ, List, true, MatchBool, vec_capacity};
-ghost use Rattle.serial.specs.Running.{IsOver};
+ghost use Rattle.outcome.specs.Taking.{IsOver};
 ghost use Rattle.station.specs.Stations.{StationValue};
 ghost use Rattle.threaded.specs.Handing.{HandsAllBut, HandsSome, IsHandedOn};
 ghost use Rattle.threaded.specs.Outputs.{packets_in};

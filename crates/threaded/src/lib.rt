@@ -8,9 +8,6 @@
 
 mod crew;
 mod driving;
-mod ended;
-mod ending;
-pub mod laws;
 mod opening;
 mod output_thread;
 mod output_worker;
@@ -18,6 +15,7 @@ mod passage;
 mod run;
 mod run_gate;
 mod seats;
+mod telling;
 mod turn;
 mod work;
 mod working;

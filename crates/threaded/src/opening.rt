@@ -1,11 +1,13 @@
 //! A run before its workers are started.
 
-ghost use Rattle.std.specs.Prelude.{◌≡◌, ◌^◌, ◌≤◌, [], IfOk};
+ghost use Rattle.std.specs.Prelude.{◌≡◌, ◌^◌, ◌≤◌, [], length, vec_capacity, IfOk};
 ghost use Rattle.outlet.specs.Sending.{HasAnalysed};
 ghost use Rattle.station.specs.Opening.{IsOpened};
 ghost use Rattle.threaded.specs.Opening.{IsReady};
 
 use crate::seats::seats;
+use crate::work::WorkHandle;
+use outcome::Ended;
 use outlet::SlotWriter;
 use port::Port;
 use reading::Source;
@@ -16,13 +18,15 @@ use std::sync::Arc;
 use std::sync::atomic::AtomicBool;
 use worker::Gate;
 
-/// A run before its workers are started: the station, what each worker is made of, what the output goes through, and whether the
-/// run is over.
+/// A run before its workers are started: the station, what each worker is made of, what the output goes through, whether the run is
+/// over, and room for the threads of the workers and for what they leave.
 pub(crate) struct Opening<R: Source + Drop, G: Gate + Drop> {
     pub station: Station,
     pub seats: Vec<((R, G), Port)>,
     pub output: SlotWriter,
     pub is_over: Arc<AtomicBool, Global>,
+    pub handles: Vec<WorkHandle<R, G>>,
+    pub ended: Vec<Ended<(R, G)>>,
 }
 
 /// What the output of a schedule goes through.
@@ -58,15 +62,23 @@ pub(crate) fn open<R: Source + Drop, G: Gate + Drop>(
     ensures ready { IfOk result (λ o. IsReady schedule.now slots readers.items gates.items o.station o.seats.items) }
     ensures analysed { IfOk result (λ o. HasAnalysed o.output schedule.now.first.request.rate schedule.now.first.request.watch []) }
     ensures waiting { IfOk result (λ o. o.output.writer ≡ []) }
+    ensures handles { IfOk result (λ o. (o.handles.items ≡ []) × (length o.seats.items ≤ vec_capacity o.handles)) }
+    ensures ended { IfOk result (λ o. (o.ended.items ≡ []) × (length o.seats.items ≤ vec_capacity o.ended)) }
 {
     let output = open_output(alloc, schedule)?;
     let is_over = Arc::new(alloc, AtomicBool::new(false))?;
     let (station, ports) = open_station(alloc, schedule, slots)?;
     let seats = seats(alloc, readers, gates, ports)?;
+    let (handles, ended) = (
+        Vec::with_capacity(alloc, seats.len())?,
+        Vec::with_capacity(alloc, seats.len())?,
+    );
     Ok(Opening {
         station,
         seats,
         output,
         is_over,
+        handles,
+        ended,
     })
 }

@@ -5,19 +5,20 @@ ghost use Rattle.mux.specs.declared.event.Event.{Event};
 ghost use Rattle.mux.specs.Plans.{IsMultiplexSchedule};
 ghost use Rattle.reading.specs.Failures.{FailsOnce};
 ghost use Rattle.reading.specs.InputLimit.{IsAllowed};
-ghost use Rattle.serial.specs.Outcome.{FailuresAreTold};
-ghost use Rattle.threaded.specs.Crews.{AreUnsent, AreSeated};
-ghost use Rattle.threaded.specs.Outcome.{HasRun, HasBegun, RunsThrough, IsCutShort};
+ghost use Rattle.outcome.specs.Outcome.{HasRun, FailuresAreTold};
+ghost use Rattle.threaded.specs.Outcome.{HasBegun};
 
-use crate::ending::end_run;
+use crate::crew::join_all;
 use crate::opening::{Opening, open};
-use crate::working::work_through;
+use crate::telling::tell;
+use crate::working::work;
+use outcome::Summary;
 use outlet::{Outlet, RunFault, Sink};
 use reading::{InputLimit, Source};
 use schedule::Schedule;
-use serial::Summary;
 use std::alloc::Global;
 use std::sync::Wait;
+use std::sync::atomic::Ordering;
 use std::thread::Threads;
 use std::time::Clock;
 use worker::Gate;
@@ -33,7 +34,6 @@ use worker::Gate;
 /// `Memory` is answered where memory or a thread was refused before any write failed, and where the worker of an input wanted
 /// memory, also where a write failed. `Write` is answered where the writer failed and no worker wanted memory. What was written is
 /// then a beginning of the output. A reader that fails ends its input, and the run goes on.
-#[tactic(none)]
 pub fn run_threads<
     T: Threads + Wait + Clock + Copy + Send + Drop + 'static,
     R: Source + Send + Drop + 'static,
@@ -72,7 +72,34 @@ pub fn run_threads<
     let Ok(opening) = open(alloc, &schedule, slots, readers, gates) else {
         return (writer, Err(RunFault::Memory));
     };
-    run_opened(alloc, rt, &schedule, limit, opening, writer)
+    let Opening {
+        mut station,
+        seats,
+        output,
+        is_over,
+        mut handles,
+        mut ended,
+    } = opening;
+    let outlet = Outlet {
+        output,
+        sink: writer,
+    };
+    let (outlet, driven) = work(
+        alloc,
+        rt,
+        &schedule,
+        limit,
+        &is_over,
+        seats,
+        &mut handles,
+        &mut station,
+        outlet,
+    );
+    is_over.store(true, Ordering::SeqCst);
+    join_all(&rt, &mut station, handles, &mut ended);
+    // What every station keeps is known with this.
+    let _ = station.slots();
+    tell(alloc, &station, driven, ended, outlet)
 }
 
 /// What every schedule keeps.
@@ -80,65 +107,4 @@ fn known(schedule: &Schedule)
     ensures { IsMultiplexSchedule schedule.now }
 {
     let _ = schedule.later_plans();
-}
-
-/// Runs what was opened, to its end.
-#[tactic(none)]
-fn run_opened<
-    T: Threads + Wait + Clock + Copy + Send + Drop + 'static,
-    R: Source + Send + Drop + 'static,
-    G: Gate + Send + Drop + 'static,
-    W: Sink + Send + Drop + 'static,
->(
-    alloc: Global,
-    rt: T,
-    schedule: &Schedule,
-    limit: InputLimit,
-    opening: Opening<R, G>,
-    sink: W,
-) -> (W, Result<(Summary, Vec<(R, G)>), RunFault>)
-    requires limit { IsAllowed limit }
-    requires schedule { opening.station.history.run.schedule ≡ schedule.now }
-    requires count { length opening.seats.items ≡ length schedule.now.first.request.inputs }
-    requires unsent { AreUnsent opening.seats.items }
-    requires seated { AreSeated opening.station opening.seats.items }
-    ensures ended { IfOk result.1 (λ done. RunsThrough R.remaining R.failures limit schedule.now
-        opening.station opening.seats.items opening.output (W.contents sink) (W.contents result.0) done.0 done.1.items) }
-    ensures failed { IfErr result.1 (λ fault. IsCutShort R.remaining R.failures limit schedule.now
-        opening.station opening.seats.items opening.output (W.contents sink) (W.contents result.0)
-        (W.failures sink) (W.failures result.0) fault) }
-    ensures wrote { OnOk result.1 (W.failures result.0 ≡ W.failures sink) }
-    ensures memory { result.1 ≡ Err RunFault.Memory → (W.failures result.0 ≡ W.failures sink)
-        ⊎ FailsOnce (W.failures sink) (W.failures result.0) }
-    ensures write_failed { result.1 ≡ Err RunFault.Write → FailsOnce (W.failures sink) (W.failures result.0) }
-{
-    let Opening {
-        mut station,
-        seats,
-        output,
-        is_over,
-    } = opening;
-    let outlet = Outlet { output, sink };
-    let (outlet, worked) = work_through(
-        alloc,
-        rt,
-        schedule,
-        limit,
-        &is_over,
-        seats,
-        &mut station,
-        outlet,
-    );
-    // What every station keeps is known with this.
-    let _ = station.slots();
-    let Outlet { output, sink } = outlet;
-    let ended = match worked {
-        Ok(ended) => ended,
-        Err(fault) => return (sink, Err(fault)),
-    };
-    let streams = schedule.streams().len();
-    match end_run(alloc, &station, ended, streams, output) {
-        Ok(done) => (sink, Ok(done)),
-        Err(_) => (sink, Err(RunFault::Memory)),
-    }
 }

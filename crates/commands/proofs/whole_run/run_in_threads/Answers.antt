@@ -21,7 +21,7 @@ returns-in-Ok-without_gates-clause-read_failed g c =
 pub returns-in_default-clause-begins : goal.returns-in_default-clause-begins
 returns-in_default-clause-begins g c =
     let run : Run = record { schedule = c.args.schedule; limit = c.args.slots } in
-    ([], begun_nothing g.R.Source.remaining g.R.Source.failures run c.args.limit c.args.readers.items (g.W.Sink.contents c.args.writer) (g.W.Sink.failures c.args.writer) run_faults.Memory c.known.ensures c.requires.slots)
+    ([], begun_nothing g.R.Source.remaining g.R.Source.failures run c.args.limit c.args.readers.items (g.W.Sink.contents c.args.writer) (g.W.Sink.failures c.args.writer) run_faults.Memory c.requires.readers c.known.ensures c.requires.slots)
 
 -- there was none for the list of the readers of a run that ended
 pub returns-in-Err-clause-begins : goal.returns-in-Err-clause-begins

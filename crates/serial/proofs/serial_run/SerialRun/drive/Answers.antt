@@ -1,86 +1,42 @@
-use Rattle.std.proofs.Common.{◌∙◌, ap, sym, subst}
-use Rattle.std.proofs.lemmas.Result.{on_ok_weaker}
-use Rattle.schedule.specs.Schedule.{ScheduleValue}
-use Rattle.mux.specs.History.{Run, emitted}
-use Rattle.outlet.specs.Written.{Sends, SendsBeginning}
-use Rattle.outlet.specs.Sending.{bytes_of}
-use Rattle.outlet.proofs.SendingLaws.{on_err_always, on_ok_always, on_err_weaker}
-use Rattle.serial.proofs.HaltedLaws.{halted_running, unrefused_running}
-use Rattle.serial.proofs.RunningLaws.{runs_flushed, all_sent, part_sent}
+use Rattle.std.proofs.Common.{Err, ap, ◌∙◌, sym, refl}
+use Rattle.std.proofs.lemmas.Result.{err_from_is_err_and}
+use Rattle.outlet.specs.declared.slot_writer.SlotWriter.{SlotWriter}
+use Rattle.outlet.proofs.SendingLaws.{on_ok_always}
+use Rattle.serial.proofs.GoingLaws.{fine, goes_nowhere, goes_then, goes_fine, goes_failed, goes_flushed}
 use Rattle.serial.proofs.serial_run.SerialRun.drive.Goals as goal
 
-pub returns-in_err-step-clause-halted : goal.returns-in_err-step-clause-halted
-returns-in_err-step-clause-halted g c =
-    on_err_always c.from_residual.result (λ run limit starts is. c.in_err-step.ensures.halted run limit starts (c.loop.invariant.runs run limit starts is))
-
-pub returns-in_err-step-clause-sent_begun : goal.returns-in_err-step-clause-sent_begun
-returns-in_err-step-clause-sent_begun g c =
-    let schedule = ap (λ (r : Run). r.schedule) c.loop.invariant.run in
-    on_err_always c.from_residual.result
-    (λ before first.
-    let P : ScheduleValue → Type 0 = λ p. Sends before (g.W.Sink.contents c.loop.sink) (bytes_of (emitted p c.loop.self.mux.events)) c.loop.self.output.writer in
-    let Q : ScheduleValue → Type 0 = λ p. SendsBeginning before (g.W.Sink.contents c.step.new.sink) (bytes_of (emitted p c.step.new.self.mux.events)) in
-    subst Q schedule (c.in_err-step.ensures.sent_begun before (subst P (sym schedule) (c.loop.invariant.written before first))))
+pub loop-init : goal.loop-init
+loop-init g c = record {
+  running = c.requires;
+  run = refl;
+  goes = goes_nowhere g.R.Source.remaining g.R.Source.failures g.W.Sink.contents g.W.Sink.failures c.args.self.now c.args.sink.now;
+}
 
 pub loop-preserved : goal.loop-preserved
 loop-preserved g c =
-    let schedule = ap (λ (r : Run). r.schedule) c.loop.invariant.run in
-    let goes = c.loop.invariant.goes in
+    let step = goes_fine g.R.Source.remaining g.R.Source.failures g.W.Sink.contents g.W.Sink.failures c.loop.self c.step.new.self c.loop.sink c.step.new.sink c.step.result c.in_ok-step.field-0 c.in_ok-step.was c.step.ensures.goes in
+    let is = c.loop.invariant.running in
     record {
-      goes = (goes.0, goes.1, goes.2, c.in_ok-step.ensures.runs goes.0 goes.1 goes.2 goes.3);
-      runs = λ run limit starts is. c.in_ok-step.ensures.runs run limit starts (c.loop.invariant.runs run limit starts is);
-      written = λ before first.
-          let P : ScheduleValue → Type 0 = λ p. Sends before (g.W.Sink.contents c.loop.sink) (bytes_of (emitted p c.loop.self.mux.events)) c.loop.self.output.writer in
-          let Q : ScheduleValue → Type 0 = λ p. Sends before (g.W.Sink.contents c.step.new.sink) (bytes_of (emitted p c.step.new.self.mux.events)) c.step.new.self.output.writer in
-          subst Q schedule (c.in_ok-step.ensures.written before (subst P (sym schedule) (c.loop.invariant.written before first)));
-      run = c.step.ensures.run ∙ c.loop.invariant.run;
-      failures_told = λ befores all. c.step.ensures.failures_told befores (c.loop.invariant.failures_told befores all);
-      failures = c.in_ok-step.ensures.failures ∙ c.loop.invariant.failures;
+      running = (is.0, is.1, is.2, step.runs is.0 is.1 is.2 is.3);
+      run = c.step.ensures.goes.run ∙ c.loop.invariant.run;
+      goes = goes_then g.R.Source.remaining g.R.Source.failures g.W.Sink.contents g.W.Sink.failures c.args.self.now c.loop.self c.step.new.self c.args.sink.now c.loop.sink c.step.new.sink fine c.loop.invariant.goes step;
     }
 
-pub returns-clause-runs : goal.returns-clause-runs
-returns-clause-runs g c =
-    on_ok_always c.flush.result
-    (λ run limit starts is.
-    runs_flushed g.R.Source.remaining run limit starts c.step.new.self c.flush.new.self
-    (c.in_ok-step.ensures.runs run limit starts (c.loop.invariant.runs run limit starts is)) c.flush.ensures.stays)
+pub returns-in_err-step-clause-goes : goal.returns-in_err-step-clause-goes
+returns-in_err-step-clause-goes g c =
+    let passed = err_from_is_err_and c.from_residual.result c.from_residual.ensures.1 in
+    let all = goes_then g.R.Source.remaining g.R.Source.failures g.W.Sink.contents g.W.Sink.failures c.args.self.now c.loop.self c.step.new.self c.args.sink.now c.loop.sink c.step.new.sink c.step.result c.loop.invariant.goes c.step.ensures.goes in
+    goes_failed g.R.Source.remaining g.R.Source.failures g.W.Sink.contents g.W.Sink.failures c.args.self.now c.step.new.self c.args.sink.now c.step.new.sink c.step.result c.from_residual.result passed.0 (c.in_err-step.was ∙ ap Err (sym passed.2)) passed.1 all
 
-pub returns-clause-written : goal.returns-clause-written
-returns-clause-written g c =
-    let schedule = ap (λ (r : Run). r.schedule) c.loop.invariant.run in
-    on_ok_weaker c.flush.result
-    (λ appended before first.
-    let P : ScheduleValue → Type 0 = λ p. Sends before (g.W.Sink.contents c.loop.sink) (bytes_of (emitted p c.loop.self.mux.events)) c.loop.self.output.writer in
-    let Q : ScheduleValue → Type 0 = λ p. Sends before (g.W.Sink.contents c.step.new.sink) (bytes_of (emitted p c.step.new.self.mux.events)) c.step.new.self.output.writer in
-    all_sent before (g.W.Sink.contents c.step.new.sink) (g.W.Sink.contents c.flush.new.sink) (bytes_of (emitted c.args.self.now.mux.run.schedule c.step.new.self.mux.events)) c.step.new.self.output.writer
-    (subst Q schedule (c.in_ok-step.ensures.written before (subst P (sym schedule) (c.loop.invariant.written before first)))) appended)
-    c.flush.ensures.ok
+pub returns-clause-goes : goal.returns-clause-goes
+returns-clause-goes g c =
+    let r = c.step.new.self in
+    let step = goes_fine g.R.Source.remaining g.R.Source.failures g.W.Sink.contents g.W.Sink.failures c.loop.self r c.loop.sink c.step.new.sink c.step.result c.in_ok-step.field-0 c.in_ok-step.was c.step.ensures.goes in
+    let all = goes_then g.R.Source.remaining g.R.Source.failures g.W.Sink.contents g.W.Sink.failures c.args.self.now c.loop.self r c.args.sink.now c.loop.sink c.step.new.sink fine c.loop.invariant.goes step in
+    let is = c.loop.invariant.running in
+    goes_then g.R.Source.remaining g.R.Source.failures g.W.Sink.contents g.W.Sink.failures c.args.self.now r _ c.args.sink.now c.step.new.sink c.flush.new.sink c.flush.result all
+    (goes_flushed g.R.Source.remaining g.R.Source.failures g.W.Sink.contents g.W.Sink.failures r c.flush.new.self c.step.new.sink c.flush.new.sink c.flush.result (is.0, is.1, is.2, step.runs is.0 is.1 is.2 is.3)
+    c.flush.ensures.stays c.flush.ensures.ok c.flush.ensures.begun c.flush.ensures.failures c.flush.ensures.failed)
 
-pub returns-clause-halted : goal.returns-clause-halted
-returns-clause-halted g c =
-    on_err_always c.flush.result
-    (λ run limit starts is.
-    let goes = c.in_ok-step.ensures.runs run limit starts (c.loop.invariant.runs run limit starts is) in
-    (halted_running g.R.Source.remaining run limit starts c.step.new.self goes, goes.needed))
-
-pub returns-clause-unrefused : goal.returns-clause-unrefused
-returns-clause-unrefused g c e =
-    let goes = c.loop.invariant.goes in
-    unrefused_running g.R.Source.remaining goes.0 goes.1 goes.2 c.step.new.self (c.in_ok-step.ensures.runs goes.0 goes.1 goes.2 goes.3)
-
-pub returns-clause-sent_begun : goal.returns-clause-sent_begun
-returns-clause-sent_begun g c =
-    let schedule = ap (λ (r : Run). r.schedule) c.loop.invariant.run in
-    on_err_weaker c.flush.result
-    (λ part before first.
-    let P : ScheduleValue → Type 0 = λ p. Sends before (g.W.Sink.contents c.loop.sink) (bytes_of (emitted p c.loop.self.mux.events)) c.loop.self.output.writer in
-    let Q : ScheduleValue → Type 0 = λ p. Sends before (g.W.Sink.contents c.step.new.sink) (bytes_of (emitted p c.step.new.self.mux.events)) c.step.new.self.output.writer in
-    part_sent before (g.W.Sink.contents c.step.new.sink) (g.W.Sink.contents c.flush.new.sink) (bytes_of (emitted c.args.self.now.mux.run.schedule c.step.new.self.mux.events)) c.step.new.self.output.writer
-    (subst Q schedule (c.in_ok-step.ensures.written before (subst P (sym schedule) (c.loop.invariant.written before first)))) part)
-    c.flush.ensures.begun
-
-pub returns-clause-failures_told : goal.returns-clause-failures_told
-returns-clause-failures_told g c befores all = c.step.ensures.failures_told befores (c.loop.invariant.failures_told befores all)
-
-pub returns-in_err-step-clause-failures_told : goal.returns-in_err-step-clause-failures_told
-returns-in_err-step-clause-failures_told g c befores all = c.step.ensures.failures_told befores (c.loop.invariant.failures_told befores all)
+pub returns-clause-flushed : goal.returns-clause-flushed
+returns-clause-flushed g c = on_ok_always c.flush.result (ap (λ (v : SlotWriter). v.writer) c.flush.ensures.stays)

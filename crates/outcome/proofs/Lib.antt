@@ -1,0 +1,14 @@
+pub mod ListLaws
+pub mod ResultLaws
+pub mod KnownLaws
+pub mod OrderLaws
+pub mod NextLaws
+pub mod NeededLaws
+pub mod SoundLaws
+pub mod FaultBounds
+pub mod ReportLaws
+pub mod ServedLaws
+pub mod GivenLaws
+pub mod WrittenLaws
+pub mod OutcomeLaws
+pub mod OutputLaws

@@ -1,5 +1,0 @@
-use Rattle.serial.proofs.OutputLaws.{only_what_was_taken}
-use Rattle.serial.proofs.laws.analyser_tells_only_what_was_taken.Goals as goal
-
-pub returns : goal.returns
-returns c = only_what_was_taken

@@ -1,5 +1,0 @@
-use Rattle.serial.proofs.OutputLaws.{equal_bytes}
-use Rattle.serial.proofs.laws.equal_inputs_give_equal_bytes.Goals as goal
-
-pub returns : goal.returns
-returns c = equal_bytes

@@ -1,5 +1,0 @@
-use Rattle.threaded.proofs.OutputLaws.{of_every_history}
-use Rattle.threaded.proofs.laws.bytes_are_of_every_history.Goals as goal
-
-pub returns : goal.returns
-returns c = of_every_history
