@@ -9,9 +9,11 @@ mod run_fault;
 mod sink;
 mod slot_writer;
 mod write_sink;
+mod writing;
 
 pub use outlet::Outlet;
 pub use run_fault::RunFault;
 pub use sink::Sink;
 pub use slot_writer::SlotWriter;
 pub use write_sink::WriteSink;
+pub use writing::write_all;

@@ -1,6 +1,7 @@
 //! Writing packets through a buffer.
 
 use crate::sink::Sink;
+use crate::writing::write_all;
 use std::alloc::{AllocError, Global};
 use std::io;
 use std::marker::Model;
@@ -10,7 +11,7 @@ use tspkt::Packet;
 const PACKET: usize = 188;
 
 /// The length of the buffer, in bytes: 348 packets.
-const ROOM: usize = 65_424;
+const BUFFER: usize = 65_424;
 
 /// Packets on their way to a sink: a buffer that is written where it has no room.
 #[derive(Drop)]
@@ -40,7 +41,7 @@ impl PacketWriter {
         ensures { IfOk result (λ writer. writer ≡ []) }
     {
         Ok(PacketWriter {
-            bytes: vec![in alloc; 0; ROOM]?,
+            bytes: vec![in alloc; 0; BUFFER]?,
             count: 0,
         })
     }
@@ -74,7 +75,7 @@ impl PacketWriter {
     fn has_room(&self) -> bool
         ensures { IsTrue result ↔ (length self.now + 188 ≤ 65424) }
     {
-        self.count + PACKET <= ROOM
+        self.count + PACKET <= BUFFER
     }
 
     /// One more packet in the buffer.
@@ -100,26 +101,4 @@ impl PacketWriter {
         self.count = 0;
         write_all(sink, &self.bytes[..count])
     }
-}
-
-ghost use Rattle.std.specs.Prelude.{◌≡◌, OnOk, OnErr};
-ghost use Rattle.std.specs.Io.KnownBytes.{Appends};
-ghost use Rattle.reading.specs.Failures.{FailsOnce};
-ghost use Rattle.outlet.specs.Written.{SendsBeginning};
-
-/// Writes all of these bytes, in as many writes as it takes.
-fn write_all<W: Sink>(sink: &mut W, bytes: &[u8]) -> io::Result<()>
-    ensures ok { OnOk result (Appends (W.contents sink.old) (W.contents sink.new) bytes.now) }
-    ensures err { OnErr result (SendsBeginning (W.contents sink.old) (W.contents sink.new) bytes.now) }
-    ensures failures { OnOk result (W.failures sink.new ≡ W.failures sink.old) }
-    ensures failed { OnErr result (FailsOnce (W.failures sink.old) (W.failures sink.new)) }
-{
-    let mut done = 0;
-    while done < bytes.len() {
-        match sink.write(&bytes[done..]) {
-            Ok(count) => done += count,
-            Err(e) => return Err(e),
-        }
-    }
-    Ok(())
 }

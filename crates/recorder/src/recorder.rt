@@ -6,10 +6,10 @@ ghost use Rattle.marks.specs.Marks.{Begins};
 ghost use Rattle.recorder.specs.Recording.{HasWritten, ReadsOn, HasMarked, EndsWithin, EndsWhole};
 
 use crate::record_fault::RecordFault;
-use crate::writing::{gather, write_all};
+use crate::writing::gather;
 use feed::{FeedReader, ReaderEnd, ReadingEnd};
 use marks::Mark;
-use outlet::Sink;
+use outlet::{Sink, write_all};
 use std::alloc::{AllocError, Global};
 use std::marker::Model;
 use std::snapshot::Snapshot;

@@ -1,6 +1,6 @@
 use Rattle.std.proofs.Common.{rules}
 use Rattle.outlet.proofs.KnownLaws.{front_sent, appends_part}
-use Rattle.outlet.proofs.packet_writer.write_all.Goals as goal
+use Rattle.outlet.proofs.writing.write_all.Goals as goal
 
 pub returns-in-Err-clause-err : goal.returns-in-Err-clause-err
 returns-in-Err-clause-err g c = front_sent _ _ _ c.args.bytes.now c.loop-done.done c.loop-done.invariant.sent c.in-Err.ensures.bytes
