@@ -46,7 +46,6 @@ unsent_emits : (a b : History) (answer : Sending) → SendAnswers a answer b →
 unsent_emits a b sending.Done is not_sent = silent a b is.0
 unsent_emits a b sending.RunFull is not_sent = silent a b is.0
 unsent_emits a b (sending.NotReady i) is not_sent = silent a b is.0
-unsent_emits a b sending.Memory is not_sent = silent a b is.0
 unsent_emits a b sending.Switched is not_sent = unsent a b (Switch (in_force a.events + 1)) refl is.2
 unsent_emits a b sending.Sent is not_sent = absurd (not_sent refl)
 

@@ -4,6 +4,7 @@ ghost use Rattle.std.specs.Prelude.{◌≡◌, ◌≢◌, ◌<◌, ◌≤◌, �
 ghost use Rattle.std.specs.List.{slice_get};
 ghost use Rattle.schedule.specs.Schedule.{single};
 ghost use Rattle.mux.specs.History.{slots};
+ghost use Rattle.mux.specs.declared.sending.Sending.{Sending as SlotAnswer};
 ghost use Rattle.mux.specs.Lawful.{input_count};
 ghost use Rattle.mux.specs.Totals.{IsTotals, IsCounts};
 ghost use Rattle.station.specs.Stations.{rings_of};
@@ -17,9 +18,10 @@ ghost use Rattle.broadcast.specs.Broadcasts.{IsLawfulBroadcast, LosesNothing, Pu
 use crate::feeding::{make_room, publish_on};
 use crate::sending;
 use crate::ticked::Ticked;
+use crate::ticked_slot::TickedSlot;
 use feed::{FeedReader, FeedWriter, Publisher, PublishingEnd};
 use marks::Mark;
-use mux::{Counts, Sending, Totals};
+use mux::{Counts, Totals};
 use plan::Plan;
 use port::{FinishedPort, Port};
 use schedule::Schedule;
@@ -106,8 +108,8 @@ impl<E: PublishingEnd> Broadcast<E> {
     /// memory. `behind` is how many packets that went out aren't published: each is published by a later call. Where the feed is
     /// sealed nothing is published, and `Memory` is never answered. It waits for readers that are reading.
     pub fn tick<R: Wait>(&mut self, rt: &R) -> Ticked
-        ensures ticks { result.slot ≢ Sending.Memory → Ticks self.old.station result.slot self.new.station }
-        ensures memory { result.slot ≡ Sending.Memory → (self.old.is_sealed ≡ false)
+        ensures ticks { (slot : SlotAnswer) → result.slot ≡ TickedSlot.Answered slot → Ticks self.old.station slot self.new.station }
+        ensures memory { result.slot ≡ TickedSlot.Memory → (self.old.is_sealed ≡ false)
             × (self.new.station ≡ self.old.station) × (behind_of self.old ≢ []) }
         ensures publishes { PublishesOn self.old self.new }
         ensures nothing_lost { LosesNothing self.new }
@@ -121,9 +123,9 @@ impl<E: PublishingEnd> Broadcast<E> {
     }
 
     /// The same without publishing.
-    fn tick_station(&mut self) -> Sending
-        ensures ticks { result ≢ Sending.Memory → Ticks self.old.station result self.new.station }
-        ensures memory { result ≡ Sending.Memory → (self.old.is_sealed ≡ false)
+    fn tick_station(&mut self) -> TickedSlot
+        ensures ticks { (slot : SlotAnswer) → result ≡ TickedSlot.Answered slot → Ticks self.old.station slot self.new.station }
+        ensures memory { result ≡ TickedSlot.Memory → (self.old.is_sealed ≡ false)
             × (self.new.station ≡ self.old.station) × (behind_of self.old ≢ []) }
         ensures feed { self.new ≡ record self.old { station = self.new.station } }
         ensures rings { rings_of self.new.station.inputs ≡ rings_of self.old.station.inputs }
@@ -136,9 +138,9 @@ impl<E: PublishingEnd> Broadcast<E> {
             appended,
         } = self;
         if !make_room(station, feed, sent, appended) {
-            return Sending::Memory;
+            return TickedSlot::Memory;
         }
-        sending::tick(station, sent)
+        TickedSlot::Answered(sending::tick(station, sent))
     }
 
     /// Lets the station go on as far as the rings show, by at most so many steps (at most 256), each of which sends the next slot or
@@ -146,10 +148,10 @@ impl<E: PublishingEnd> Broadcast<E> {
     /// `Station::advance` does, `Sent` where all steps were done, or as `Memory` where `tick` does so; and all else is as of `tick`.
     pub fn advance<R: Wait>(&mut self, rt: &R, most: usize) -> Ticked
         requires { most ≤ 256 }
-        ensures advances { result.slot ≢ Sending.Memory → (packets : List (List ℕ))
-            × Advances most self.old.station result.slot self.new.station packets
+        ensures advances { (slot : SlotAnswer) → result.slot ≡ TickedSlot.Answered slot → (packets : List (List ℕ))
+            × Advances most self.old.station slot self.new.station packets
             × (emitted_by self.new.station ≡ emitted_by self.old.station ++ packets) }
-        ensures memory { result.slot ≡ Sending.Memory → (self.old.is_sealed ≡ false)
+        ensures memory { result.slot ≡ TickedSlot.Memory → (self.old.is_sealed ≡ false)
             × (self.new.station ≡ self.old.station) × (behind_of self.old ≢ []) }
         ensures publishes { PublishesOn self.old self.new }
         ensures nothing_lost { LosesNothing self.new }
@@ -163,12 +165,12 @@ impl<E: PublishingEnd> Broadcast<E> {
     }
 
     /// The same without publishing.
-    fn advance_station(&mut self, most: usize) -> Sending
+    fn advance_station(&mut self, most: usize) -> TickedSlot
         requires { most ≤ 256 }
-        ensures advances { result ≢ Sending.Memory → (packets : List (List ℕ))
-            × Advances most self.old.station result self.new.station packets
+        ensures advances { (slot : SlotAnswer) → result ≡ TickedSlot.Answered slot → (packets : List (List ℕ))
+            × Advances most self.old.station slot self.new.station packets
             × (emitted_by self.new.station ≡ emitted_by self.old.station ++ packets) }
-        ensures memory { result ≡ Sending.Memory → (self.old.is_sealed ≡ false)
+        ensures memory { result ≡ TickedSlot.Memory → (self.old.is_sealed ≡ false)
             × (self.new.station ≡ self.old.station) × (behind_of self.old ≢ []) }
         ensures feed { self.new ≡ record self.old { station = self.new.station } }
         ensures rings { rings_of self.new.station.inputs ≡ rings_of self.old.station.inputs }
@@ -181,9 +183,9 @@ impl<E: PublishingEnd> Broadcast<E> {
             appended,
         } = self;
         if !make_room(station, feed, sent, appended) {
-            return Sending::Memory;
+            return TickedSlot::Memory;
         }
-        station.advance(most, sent)
+        TickedSlot::Answered(station.advance(most, sent))
     }
 
     /// Publishes what is behind, as far as there is memory, and answers how many packets still are. Where the feed is sealed nothing

@@ -11,6 +11,8 @@ mod feeding;
 pub mod laws;
 mod sending;
 mod ticked;
+mod ticked_slot;
 
 pub use broadcast::{Broadcast, MAX_STEPS};
 pub use ticked::Ticked;
+pub use ticked_slot::TickedSlot;

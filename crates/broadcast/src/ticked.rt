@@ -1,11 +1,10 @@
 //! What a tick did.
 
-use mux::Sending;
+use crate::ticked_slot::TickedSlot;
 
-/// What became of the next slot, and how many packets that went out aren't published yet. `Memory` says that a packet of an
-/// earlier call still waits for memory to be appended to the feed.
+/// What became of the next slot, and how many packets that went out aren't published yet.
 #[derive(Clone, Copy, Debug, PartialEq, Eq)]
 pub struct Ticked {
-    pub slot: Sending,
+    pub slot: TickedSlot,
     pub behind: u64,
 }

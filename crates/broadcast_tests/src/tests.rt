@@ -19,7 +19,7 @@ use crate::tests::asking::{
     delayed, ends, equals, is_refused, learns, reads, reads_the_pat, seals, sends, ticks, took,
 };
 use crate::tests::opening::{Seats, close, open};
-use broadcast::{Broadcast, Ticked};
+use broadcast::{Broadcast, Ticked, TickedSlot};
 use feed::FeedReader;
 use mux::Sending;
 use std::alloc::Global;
@@ -151,7 +151,7 @@ fn nothing_is_published_behind_the_seal(rt: HostRuntime) {
 /// All slots go out in one call, which publishes them.
 fn advances_to_the_end<T: Abort + Wait>(rt: &T, broadcast: &mut Broadcast) {
     let done = Ticked {
-        slot: Sending::Done,
+        slot: TickedSlot::Answered(Sending::Done),
         behind: 0,
     };
     assert_eq!(rt; broadcast.advance(rt, 256), done);
@@ -171,7 +171,7 @@ fn steps_are_published_at_once(rt: HostRuntime) {
 /// Many steps in one go do nothing, for want of a packet of input 0.
 fn waits<T: Abort + Wait>(rt: &T, broadcast: &mut Broadcast) {
     let waits = Ticked {
-        slot: Sending::NotReady(0),
+        slot: TickedSlot::Answered(Sending::NotReady(0)),
         behind: 0,
     };
     assert_eq!(rt; broadcast.advance(rt, 256), waits);

@@ -44,7 +44,7 @@ or_true : (a b : Bool) → b ≡ true → a || b ≡ true
 or_true true b e = refl
 or_true false b e = e
 
-same_number : (i j : ℕ) → (i == j) ≡ true → i ≡ j
+pub same_number : (i j : ℕ) → (i == j) ≡ true → i ≡ j
 same_number i j e = grind (arith, nat_tests)
 
 -- all that is taken begins the lists, and a closed input's list was taken

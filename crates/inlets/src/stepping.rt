@@ -28,6 +28,5 @@ pub fn take_step<I: Inlet>(mux: &mut Mux, entries: &mut Vec<Entry<I>>) -> Step
         },
         Sending::Done => Step::Done,
         Sending::RunFull => Step::RunFull,
-        Sending::Memory => unreachable!(),
     }
 }

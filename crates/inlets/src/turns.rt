@@ -1,6 +1,6 @@
 //! The turn of an input.
 
-ghost use Rattle.std.specs.Prelude.{◌≡◌, ◌≢◌, ◌<◌, true, false, Some, IsSome};
+ghost use Rattle.std.specs.Prelude.{◌≡◌, ◌<◌, true, false, Some, IsSome};
 ghost use Rattle.std.specs.List.{slice_get};
 ghost use Rattle.request.specs.declared.stream.Stream.{Stream};
 ghost use Rattle.schedule.specs.Streams.{all_streams};
@@ -19,6 +19,7 @@ use schedule::Schedule;
 use tspkt::Stamped;
 
 /// Takes the packet of an open input that comes next, or holds it back, or closes the input, as far as its inlet shows.
+#[inline(always)]
 pub fn take<I: Inlet>(mux: &mut Mux, number: usize, entry: &mut Entry<I>) -> Taking
     requires number { number < input_count mux.old.run.schedule }
     requires open { is_closed number mux.old.events ≡ false }
@@ -36,6 +37,7 @@ pub fn take<I: Inlet>(mux: &mut Mux, number: usize, entry: &mut Entry<I>) -> Tak
 }
 
 /// Offers the packet that an inlet shows, whose stream is said to be at this place.
+#[inline(always)]
 fn give<I: Inlet>(mux: &mut Mux, number: usize, place: usize, entry: &mut Entry<I>) -> Taking
     requires number { number < input_count mux.old.run.schedule }
     requires open { is_closed number mux.old.events ≡ false }
@@ -53,7 +55,7 @@ fn give<I: Inlet>(mux: &mut Mux, number: usize, place: usize, entry: &mut Entry<
             close(mux, number, entry);
             Taking::Closed
         }
-        Offered::Closed | Offered::Memory => unreachable!(),
+        Offered::Closed => unreachable!(),
     }
 }
 
@@ -63,7 +65,6 @@ fn offer(mux: &mut Mux, number: usize, place: usize, item: &Stamped) -> Offered
     requires { number < input_count mux.old.run.schedule }
     ensures answer { OfferAnswers mux.old number item.now result mux.new }
     ensures run { mux.new.run ≡ mux.old.run }
-    ensures unrefused { result ≢ Offered.Memory }
 {
     if goes_to(mux.schedule(), number, place, item) {
         mux.offer_to(place, item)
@@ -95,6 +96,6 @@ fn close<I>(mux: &mut Mux, number: usize, entry: &mut Entry<I>)
     ensures mux { mux.new ≡ with_event mux.old (Event.Close number) }
     ensures entry { entry.new ≡ record entry.old { is_closed = true } }
 {
-    let _ = mux.close(number);
+    mux.close_input(number);
     entry.is_closed = true;
 }

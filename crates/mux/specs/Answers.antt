@@ -25,7 +25,7 @@ NotesFull h i item new =
 abbrev pub NotesEarly : History → ℕ → History → Type 0
 NotesEarly h i new = new ≡ (if early_noted i h.events then h else with_event h (events.Early i))
 
--- what `offer` answers and leaves: the first reason against the item, or want of memory where an event is due
+-- what `offer` answers and leaves: the first reason against the item
 abbrev pub OfferAnswers : History → ℕ → Stamped → Offered → History → Type 0
 OfferAnswers h i item offered.Taken new =
     (refusal_of h.run.schedule h.events i item ≡ None) × (new ≡ with_event h (events.Took i item))
@@ -35,13 +35,8 @@ OfferAnswers h i item offered.Backward new = (refusal_of h.run.schedule h.events
 OfferAnswers h i item offered.Early new = (refusal_of h.run.schedule h.events i item ≡ Some Early) × NotesEarly h i new
 OfferAnswers h i item offered.Full new =
     (refusal_of h.run.schedule h.events i item ≡ Some Full) × NotesFull h i item new
-OfferAnswers h i item offered.Memory new =
-    ((refusal_of h.run.schedule h.events i item ≡ None)
-    ⊎ ((refusal_of h.run.schedule h.events i item ≡ Some Early) × (early_noted i h.events ≡ false))
-    ⊎ ((refusal_of h.run.schedule h.events i item ≡ Some Full) × (full_noted i h.events ≡ false)))
-    × (new ≡ h)
 
--- what `take` answers and leaves: as `offer`, and each refusal hands the item back
+-- what `take` answers and leaves: as `offer`, and each refusal hands the item back; it never wants memory
 abbrev pub TakeAnswers : History → ℕ → Stamped → Taken → History → Type 0
 TakeAnswers h i item taken.Ok new = OfferAnswers h i item offered.Taken new
 TakeAnswers h i item (taken.Closed back) new = (back ≡ item) × OfferAnswers h i item offered.Closed new
@@ -49,7 +44,7 @@ TakeAnswers h i item (taken.Stranger back) new = (back ≡ item) × OfferAnswers
 TakeAnswers h i item (taken.Backward back) new = (back ≡ item) × OfferAnswers h i item offered.Backward new
 TakeAnswers h i item (taken.Early back) new = (back ≡ item) × OfferAnswers h i item offered.Early new
 TakeAnswers h i item (taken.Full back) new = (back ≡ item) × OfferAnswers h i item offered.Full new
-TakeAnswers h i item (taken.Memory back) new = (back ≡ item) × OfferAnswers h i item offered.Memory new
+TakeAnswers h i item (taken.Memory back) new = ⊥
 
 -- neither Done nor RunFull is due
 pub record IsRunning (h : History) : Type 0 where
@@ -66,8 +61,7 @@ pub record IsLeastUnready (h : History) (i : ℕ) : Type 0 where
   pub unready : is_ready h.run.schedule i h.events ≡ false
   pub least : (j : ℕ) → j < i → IsTrue (is_ready h.run.schedule j h.events)
 
--- what `send_next` answers and leaves, in its order: done, the run is full, the next plan came into force, an input isn't ready, no
--- memory, sent
+-- what `send_next` answers and leaves, in its order: done, the run is full, the next plan came into force, an input isn't ready, sent
 abbrev pub SendAnswers : History → Sending → History → Type 0
 SendAnswers h sending.Done new = (new ≡ h) × IsDone h.run.schedule h.events
 SendAnswers h sending.RunFull new = (new ≡ h) × (IsDone h.run.schedule h.events → ⊥) × (h.run.limit ≤ slots h.events)
@@ -75,8 +69,6 @@ SendAnswers h sending.Switched new =
     IsRunning h × IsTrue (is_switch_due h.run.schedule h.events)
     × (new ≡ with_event h (events.Switch (in_force h.events + 1)))
 SendAnswers h (sending.NotReady i) new = (new ≡ h) × IsRunning h × IsUnswitched h × IsLeastUnready h i
-SendAnswers h sending.Memory new =
-    (new ≡ h) × IsRunning h × IsUnswitched h × AllReady h.run.schedule h.events
 SendAnswers h sending.Sent new =
     IsRunning h × ((c : Content) × MaySend h.run.schedule h.events c × (new ≡ with_event h (events.Slot c)))
 
@@ -85,12 +77,13 @@ abbrev pub SendsContent : History → Content → History → List ℕ → Type 
 SendsContent h c new packet =
     (new ≡ with_event h (events.Slot c)) × (packet ≡ packet_behind h.run.schedule h.events (emitted h.run.schedule h.events) c)
 
--- what `slot` answers and leaves: as `send_next`, and the packet that is sent
+-- what `slot` answers and leaves: as `send_next`, and the packet that is sent, for which it may want memory once all inputs are ready
 abbrev pub SlotAnswers : History → Slot → History → Type 0
 SlotAnswers h slot.Done new = SendAnswers h sending.Done new
 SlotAnswers h slot.RunFull new = SendAnswers h sending.RunFull new
 SlotAnswers h slot.Switched new = SendAnswers h sending.Switched new
 SlotAnswers h (slot.NotReady i) new = SendAnswers h (sending.NotReady i) new
-SlotAnswers h slot.Memory new = SendAnswers h sending.Memory new
+SlotAnswers h slot.Memory new =
+    (new ≡ h) × IsRunning h × IsUnswitched h × AllReady h.run.schedule h.events
 SlotAnswers h (slot.Sent packet) new =
     IsRunning h × ((c : Content) × MaySend h.run.schedule h.events c × SendsContent h c new packet)

@@ -13,6 +13,7 @@ ghost use Rattle.mux.specs.Peaks.{IsPeak};
 ghost use Rattle.mux.specs.Keeping.{new_state, empty_queue, no_peak};
 ghost use Rattle.mux.specs.Switching.{waiting_in};
 
+mod by_value;
 mod offering;
 mod sending;
 mod switching;

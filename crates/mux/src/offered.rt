@@ -15,6 +15,4 @@ pub enum Offered {
     Early,
     /// The queue of its stream is full.
     Full,
-    /// The memory for the event was refused.
-    Memory,
 }

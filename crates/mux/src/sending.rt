@@ -14,6 +14,4 @@ pub enum Sending {
     Done,
     /// The run has all its slots.
     RunFull,
-    /// The memory for the event was refused.
-    Memory,
 }

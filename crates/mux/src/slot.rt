@@ -20,7 +20,7 @@ pub enum Slot {
     Done,
     /// The run has all its slots.
     RunFull,
-    /// The memory for the event was refused.
+    /// The memory for its packet was refused, where packets are kept.
     Memory,
 }
 
@@ -35,6 +35,5 @@ pub(crate) fn without_packet(answer: Sending) -> Slot
         Sending::NotReady(input) => Slot::NotReady(input),
         Sending::Done => Slot::Done,
         Sending::RunFull => Slot::RunFull,
-        Sending::Memory => Slot::Memory,
     }
 }

@@ -17,6 +17,6 @@ pub enum Taken {
     Early(Stamped),
     /// The queue of its stream is full.
     Full(Stamped),
-    /// The memory for the event was refused.
+    /// Memory was refused: never answered, since nothing asks for it.
     Memory(Stamped),
 }

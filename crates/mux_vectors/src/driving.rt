@@ -3,7 +3,7 @@
 use crate::asking;
 use crate::item::Item;
 use anyhow::{Result, bail};
-use mux::{Mux, Offered, Sending, Slot, Taken};
+use mux::{Mux, Sending, Slot, Taken};
 use std::io;
 use std::io::Write;
 use tspkt::{Packet, Stamped};
@@ -13,16 +13,16 @@ fn print_packet<W: Write>(packet: &Packet, out: &mut W) -> io::Result<()> {
     write!(out, "0x{:04x} {}", packet.pid(), packet.counter())
 }
 
-/// Why a packet came back that was given away, and that packet; none where it was taken.
-fn back_of(taken: Taken) -> Option<(Offered, Stamped)> {
+/// Why a packet came back that was given away, in a word, and that packet; none where it was taken.
+fn back_of(taken: Taken) -> Option<(&'static str, Stamped)> {
     match taken {
         Taken::Ok => None,
-        Taken::Closed(back) => Some((Offered::Closed, back)),
-        Taken::Stranger(back) => Some((Offered::Stranger, back)),
-        Taken::Backward(back) => Some((Offered::Backward, back)),
-        Taken::Early(back) => Some((Offered::Early, back)),
-        Taken::Full(back) => Some((Offered::Full, back)),
-        Taken::Memory(back) => Some((Offered::Memory, back)),
+        Taken::Closed(back) => Some(("Closed", back)),
+        Taken::Stranger(back) => Some(("Stranger", back)),
+        Taken::Backward(back) => Some(("Backward", back)),
+        Taken::Early(back) => Some(("Early", back)),
+        Taken::Full(back) => Some(("Full", back)),
+        Taken::Memory(back) => Some(("Memory", back)),
     }
 }
 
@@ -53,7 +53,7 @@ pub fn take<W: Write>(mux: &mut Mux, input: usize, item: Item, out: &mut W) -> R
         None => write!(out, "Taken")?,
         Some((reason, back)) => {
             let (counter, stamp) = (back.packet.counter(), back.stamp);
-            write!(out, "{reason:?}, and packet {counter} of {stamp} came back")?;
+            write!(out, "{reason}, and packet {counter} of {stamp} came back")?;
         }
     }
     Ok(())

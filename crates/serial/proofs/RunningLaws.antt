@@ -336,7 +336,6 @@ unsent_stays old sending.Switched new unsent unswitched is = absurd (unswitched 
 unsent_stays old (sending.NotReady i) new unsent unswitched is = is.0
 unsent_stays old sending.Done new unsent unswitched is = is.0
 unsent_stays old sending.RunFull new unsent unswitched is = is.0
-unsent_stays old sending.Memory new unsent unswitched is = is.0
 
 -- The buffer is written at the end.
 

@@ -6,6 +6,7 @@ mod feeding;
 mod opening;
 mod run;
 mod serial_run;
+mod turn;
 
 pub use outcome::{InputSummary, Summary};
 pub use outlet::{RunFault, Sink, SlotWriter, WriteSink};

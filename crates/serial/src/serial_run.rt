@@ -4,6 +4,7 @@ use crate::ending::end_inputs;
 use crate::feeding::read_on;
 use crate::opening::open_inputs;
 use crate::run::known;
+use crate::turn::Turn;
 use inlets::{Entry, Step, take_step};
 use mux::Mux;
 use outcome::{Summary, end_run};
@@ -25,7 +26,7 @@ pub(crate) struct SerialRun<R> {
 }
 
 impl<R: Source + Drop> SerialRun<R> {
-    ghost use Rattle.std.specs.Prelude.{◌≡◌, ◌^◌, ◌<◌, ◌≤◌, ℕ, List, [], Option, Ok, true, false, length, map, IfOk, OnOk};
+    ghost use Rattle.std.specs.Prelude.{◌≡◌, ◌^◌, ◌<◌, ◌≤◌, ℕ, List, [], Option, Ok, length, map, IfOk, OnOk};
     ghost use Rattle.mux.specs.History.{Run, slots};
     ghost use Rattle.mux.specs.Headline.{IsSound};
     ghost use Rattle.outcome.specs.Taking.{IsOver};
@@ -97,21 +98,22 @@ impl<R: Source + Drop> SerialRun<R> {
         ensures flushed { OnOk result (self.new.output.writer ≡ []) }
     {
         loop {
-            if self.step(sink)? {
-                break;
+            match self.step(sink)? {
+                Turn::Goes => {}
+                Turn::Over => break,
             }
         }
         self.output.flush(sink)
     }
 
     /// One step: the next slot is sent, or the next plan comes into force, or the input for which the multiplex waits has its turn. Before
-    /// that input is read what waits is written. True is answered where the run is over.
-    fn step<W: Sink>(&mut self, sink: &mut W) -> Result<bool, RunFault>
+    /// that input is read what waits is written.
+    fn step<W: Sink>(&mut self, sink: &mut W) -> Result<Turn, RunFault>
         requires { (run : Run) × (limit : Limit) × (starts : List (Option (List ℕ))) × IsRunning R.remaining run limit starts self.old }
         ensures goes { GoesOn R.remaining R.failures W.contents W.failures self.old sink.old result self.new sink.new }
-        ensures fewer { result ≡ Ok false
+        ensures fewer { result ≡ Ok Turn.Goes
             → steps_left self.old.mux.run self.new.mux.events < steps_left self.old.mux.run self.old.mux.events }
-        ensures over { result ≡ Ok true → IsOver self.new.mux.run self.new.mux.events }
+        ensures over { result ≡ Ok Turn.Over → IsOver self.new.mux.run self.new.mux.events }
     {
         known(self.mux.schedule());
         let SerialRun {
@@ -124,15 +126,15 @@ impl<R: Source + Drop> SerialRun<R> {
             Step::Sent => {
                 let packet = mux.last().unwrap();
                 output.put(packet, sink)?;
-                Ok(false)
+                Ok(Turn::Goes)
             }
-            Step::Switched | Step::Turned => Ok(false),
+            Step::Switched | Step::Turned => Ok(Turn::Goes),
             Step::Waits(input) => {
                 let piece = piece.as_mut_slice();
                 read_on(mux, input, &mut inputs[input], piece, output, sink)?;
-                Ok(false)
+                Ok(Turn::Goes)
             }
-            Step::Done | Step::RunFull => Ok(true),
+            Step::Done | Step::RunFull => Ok(Turn::Over),
         }
     }
 }

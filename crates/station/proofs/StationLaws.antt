@@ -53,7 +53,6 @@ lawful_sent h new sending.Done xs is old = (let P : History → Type 0 = λ v. I
 lawful_sent h new sending.RunFull xs is old = (let P : History → Type 0 = λ v. IsLawfulStation v xs in subst P (sym is.0) old)
 lawful_sent h new (sending.NotReady i) xs is old = (let P : History → Type 0 = λ v. IsLawfulStation v xs in subst P (sym is.0) old)
 lawful_sent h new sending.Switched xs is old = (let P : History → Type 0 = λ v. IsLawfulStation v xs in subst P (sym is.2) (plan_switched h (in_force h.events + 1) xs old))
-lawful_sent h new sending.Memory xs is old = (let P : History → Type 0 = λ v. IsLawfulStation v xs in subst P (sym is.0) old)
 lawful_sent h new sending.Sent xs is old = (let P : History → Type 0 = λ v. IsLawfulStation v xs in subst P (sym is.1.2) (slot_sent h is.1.0 xs old))
 
 -- rings stay

@@ -1,6 +1,6 @@
 //! How a station goes on as far as its rings show.
 
-ghost use Rattle.std.specs.Prelude.{◌≡◌, ◌≢◌, ◌⊎◌, ◌+◌, ◌<◌, ◌≤◌, ◌++◌, ℕ, List, true, false, None, Some, IsSome, length, vec_len, vec_capacity, MatchOption};
+ghost use Rattle.std.specs.Prelude.{◌≡◌, ◌⊎◌, ◌+◌, ◌<◌, ◌≤◌, ◌++◌, ℕ, List, true, false, None, Some, IsSome, length, vec_len, vec_capacity, MatchOption};
 ghost use Rattle.station.specs.Stations.{IsLawfulStation};
 ghost use Rattle.station.specs.Advancing.{AdvancesBehind, IsStep, IsStuck};
 
@@ -24,7 +24,6 @@ fn step_behind(
         × IsStep (record { history = mux.old; inputs = entries.old.items }) (record { history = mux.new; inputs = entries.new.items }) packets)
         (λ answer. (mux.new ≡ mux.old) × (entries.new.items ≡ entries.old.items) × (sent.new.items ≡ sent.old.items)
         × IsStuck answer (record { history = mux.new; inputs = entries.new.items })) }
-    ensures unrefused { result ≢ Some Sending.Memory }
     ensures lawful { IsLawfulStation mux.new entries.new.items }
     ensures room { (vec_len sent.new ≤ vec_len sent.old + 1) × (vec_capacity sent.old ≤ vec_capacity sent.new) }
 {
@@ -56,7 +55,6 @@ pub(crate) fn advance_behind(
     requires room { vec_len sent.old + most ≤ vec_capacity sent.old }
     ensures advances { AdvancesBehind most (record { history = mux.old; inputs = entries.old.items }) sent.old.items result
         (record { history = mux.new; inputs = entries.new.items }) sent.new.items }
-    ensures unrefused { result ≢ Sending.Memory }
     ensures lawful { IsLawfulStation mux.new entries.new.items }
     ensures room { (vec_len sent.new ≤ vec_len sent.old + most) × (vec_capacity sent.old ≤ vec_capacity sent.new) }
 {

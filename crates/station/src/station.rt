@@ -1,6 +1,6 @@
 //! The station: its state, and its ticks.
 
-ghost use Rattle.std.specs.Prelude.{◌≡◌, ◌≢◌, ◌<◌, ◌≤◌, ◌^◌, ◌+◌, ◌-◌, ◌++◌, ℕ, List, Some, length, map, vec_len, vec_capacity, IfOk, option_copied};
+ghost use Rattle.std.specs.Prelude.{◌≡◌, ◌<◌, ◌≤◌, ◌^◌, ◌+◌, ◌-◌, ◌++◌, ℕ, List, Some, length, map, vec_len, vec_capacity, IfOk, option_copied};
 ghost use Rattle.std.specs.List.{slice_get};
 ghost use Rattle.request.specs.declared.stream.Stream.{Stream};
 ghost use Rattle.schedule.specs.Streams.{all_streams};
@@ -99,11 +99,9 @@ impl Station {
     /// Moves what the rings show into the multiplex, input 0 first, at most as many packets an input as a ring has room for,
     /// and then sends the next slot, or goes over to the next plan, where the multiplex can. A packet that isn't taken is held, and stays
     /// the next one of its input. An input is closed at its end mark, and where its next packet can never be taken: its plan has no
-    /// stream of its PID, or its time is before that of the packet taken before it. No memory is asked for, and `Memory` isn't
-    /// answered.
+    /// stream of its PID, or its time is before that of the packet taken before it. No memory is asked for.
     pub fn tick(&mut self) -> Sending
         ensures ticks { Ticks self.old result self.new }
-        ensures unrefused { result ≢ Sending.Memory }
         ensures rings { rings_of self.new.inputs ≡ rings_of self.old.inputs }
         ensures run { self.new.history.run ≡ self.old.history.run }
     {
@@ -114,12 +112,11 @@ impl Station {
     /// Goes on as far as the rings show, by at most so many steps, in one go: a step sends the next slot, or goes over to the next plan,
     /// or takes what comes next of the input that the multiplex waits for. So a packet is taken no sooner than it is needed. `Sent` is answered where all
     /// steps were done; else the answer says why there is no further one: the run is done, it has all its slots, or nothing is
-    /// seen in the ring of the input that isn't ready. `Memory` isn't answered. `sent` is left with the packets of the slots,
-    /// for which it needs room: no memory is asked for.
+    /// seen in the ring of the input that isn't ready. `sent` is left with the packets of the slots, for which it needs room: no memory is
+    /// asked for.
     pub fn advance(&mut self, most: usize, sent: &mut Vec<Packet>) -> Sending
         requires { most ≤ vec_capacity sent.old }
         ensures advances { Advances most self.old result self.new sent.new.items }
-        ensures unrefused { result ≢ Sending.Memory }
         ensures emitted { emitted self.new.history.run.schedule self.new.history.events
             ≡ emitted self.old.history.run.schedule self.old.history.events ++ sent.new.items }
         ensures rings { rings_of self.new.inputs ≡ rings_of self.old.inputs }
@@ -134,7 +131,6 @@ impl Station {
     pub fn advance_behind(&mut self, most: usize, sent: &mut Vec<Packet>) -> Sending
         requires { vec_len sent.old + most ≤ vec_capacity sent.old }
         ensures advances { AdvancesBehind most self.old sent.old.items result self.new sent.new.items }
-        ensures unrefused { result ≢ Sending.Memory }
         ensures emitted { (packets : List (List ℕ)) → sent.new.items ≡ sent.old.items ++ packets
             → emitted self.new.history.run.schedule self.new.history.events
             ≡ emitted self.old.history.run.schedule self.old.history.events ++ packets }

@@ -5,7 +5,7 @@ ghost use Rattle.std.specs.Prelude.{◌≡◌, ◌≤◌, ◌<◌, ◌^◌, leng
 ghost use Rattle.schedule.specs.Streams.{all_streams};
 ghost use Rattle.mux.specs.Lawful.{input_count};
 
-use broadcast::{Broadcast, Ticked};
+use broadcast::{Broadcast, Ticked, TickedSlot};
 use feed::{FeedReader, NotLetIn, PublishingEnd, ReadingEnd};
 use marks::Mark;
 use mux::Sending;
@@ -57,7 +57,22 @@ pub fn ticks<T: Abort + Wait, E: PublishingEnd>(
     ensures feed { broadcast.new.feed ≡ broadcast.old.feed }
     ensures run { broadcast.new.station.history.run ≡ broadcast.old.station.history.run }
 {
-    let ticked = Ticked { slot, behind };
+    let ticked = Ticked {
+        slot: TickedSlot::Answered(slot),
+        behind,
+    };
+    assert_eq!(rt; broadcast.tick(rt), ticked);
+}
+
+/// A tick wants memory for what an earlier one left behind, and publishes all of it.
+pub fn wants_memory<T: Abort + Wait, E: PublishingEnd>(rt: &T, broadcast: &mut Broadcast<E>)
+    ensures feed { broadcast.new.feed ≡ broadcast.old.feed }
+    ensures run { broadcast.new.station.history.run ≡ broadcast.old.station.history.run }
+{
+    let ticked = Ticked {
+        slot: TickedSlot::Memory,
+        behind: 0,
+    };
     assert_eq!(rt; broadcast.tick(rt), ticked);
 }
 

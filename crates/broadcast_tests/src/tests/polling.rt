@@ -2,7 +2,7 @@
 
 use crate::tests::asking::{item, piece_of, seals};
 use crate::tests::serial_bytes::serial_bytes;
-use broadcast::{Broadcast, MAX_STEPS};
+use broadcast::{Broadcast, MAX_STEPS, TickedSlot};
 use example::plan_with_rings;
 use feed::{FeedReader, PublishingEnd, ReadingEnd};
 use mux::Sending;
@@ -42,11 +42,11 @@ fn send_more(rt: &impl Abort, port: Port, packets: u32, sent: &mut u64) -> Optio
 /// What two threads lock and go on with.
 trait GoesOn {
     /// Goes on by a tick, or by so many steps.
-    fn goes_on<T: Wait>(&mut self, rt: &T, steps: Option<usize>) -> Sending;
+    fn goes_on<T: Wait>(&mut self, rt: &T, steps: Option<usize>) -> TickedSlot;
 }
 
 impl<E: PublishingEnd> GoesOn for Broadcast<E> {
-    fn goes_on<T: Wait>(&mut self, rt: &T, steps: Option<usize>) -> Sending {
+    fn goes_on<T: Wait>(&mut self, rt: &T, steps: Option<usize>) -> TickedSlot {
         match steps {
             Some(steps) => self.advance(rt, steps.min(MAX_STEPS)).slot,
             None => self.tick(rt).slot,
@@ -65,7 +65,7 @@ fn send_and_tick<T: Wait + Abort, B: GoesOn>(rt: &T, shared: &Mutex<B>, port: Po
         };
         let slot = shared.lock(rt).goes_on(rt, work.steps);
         match slot {
-            Sending::Sent | Sending::NotReady(_) => thread::yield_now(),
+            TickedSlot::Answered(Sending::Sent | Sending::NotReady(_)) => thread::yield_now(),
             _ => break,
         }
     }

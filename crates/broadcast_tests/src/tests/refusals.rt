@@ -2,7 +2,7 @@
 
 ghost use Rattle.std.specs.Prelude.{◌≡◌};
 
-use crate::tests::asking::{learns, publishes, reads, seals, sends, ticks};
+use crate::tests::asking::{learns, publishes, reads, seals, sends, ticks, wants_memory};
 use crate::tests::opening::{Seats, open};
 use crate::tests::refusing_end::RefusingEnd;
 use broadcast::Broadcast;
@@ -79,7 +79,7 @@ fn catches_up<T: Abort + Wait, E: PublishingEnd>(
     ticks(rt, broadcast, Sending::Sent, 2);
     assert!(rt; broadcast.seal(rt).is_none());
     assert!(rt; !broadcast.is_sealed());
-    ticks(rt, broadcast, Sending::Memory, 0);
+    wants_memory(rt, broadcast);
     sends(rt, broadcast, 1);
     first.learn(seals(rt, broadcast, 3));
     reads(rt, alloc, first, &[0x0000, 0x0200, 0x0100]);

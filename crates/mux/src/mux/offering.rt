@@ -1,8 +1,7 @@
-//! How a multiplex takes packets, and closes inputs.
+//! How a multiplex takes packets that are lent, and closes inputs.
 
-ghost use Rattle.std.specs.Prelude.{◌≡◌, ◌≢◌, ◌+◌, ◌-◌, ◌*◌, ◌<◌, ◌≤◌, ◌⊎◌, ◌==◌, true, false, IsOk, IfSome, IfNone, Some, None, length};
+ghost use Rattle.std.specs.Prelude.{◌≡◌, ◌≢◌, ◌+◌, ◌-◌, ◌*◌, ◌<◌, ◌≤◌, ◌⊎◌, ◌==◌, true, false, IfSome, IfNone, Some, None, length};
 ghost use Rattle.std.specs.List.{slice_get, Contains};
-ghost use Rattle.tspkt.specs.declared.stamped.Stamped.{Stamped as TakenPacket};
 ghost use Rattle.request.specs.declared.stream.Stream.{Stream};
 ghost use Rattle.mux.specs.declared.event.Event.{Event};
 ghost use Rattle.mux.specs.Plans.{IsMultiplexSchedule};
@@ -10,7 +9,7 @@ ghost use Rattle.schedule.specs.Schedule.{number_for};
 ghost use Rattle.schedule.specs.Streams.{all_streams};
 ghost use Rattle.mux.specs.History.{has_stream, with_event, in_force, plan_in_force, is_mapped_to, is_closed, last_stamp, queue};
 ghost use Rattle.mux.specs.Lawful.{input_count, is_mapped, is_early, Full, refusal_of, MayTake, MayNoteFull, MayNoteEarly, IsLawful};
-ghost use Rattle.mux.specs.Answers.{OfferAnswers, TakeAnswers};
+ghost use Rattle.mux.specs.Answers.{OfferAnswers};
 ghost use Rattle.mux.specs.Keeping.{state_of};
 
 use crate::event::Event;
@@ -18,9 +17,7 @@ use crate::input_state::InputState;
 use crate::mux::Mux;
 use crate::mux::switching::has_stream;
 use crate::offered::Offered;
-use crate::taken::Taken;
 use request::Stream;
-use std::alloc::AllocError;
 use tspkt::Stamped;
 
 impl Mux {
@@ -151,7 +148,6 @@ impl Mux {
         ensures answer { OfferAnswers self.old stream.input item.now result self.new }
         ensures run { self.new.run ≡ self.old.run }
         ensures mapped { result ≢ Offered.Stranger }
-        ensures unrefused { result ≢ Offered.Memory }
     {
         self.known();
         // What every packet keeps is known with this.
@@ -177,7 +173,6 @@ impl Mux {
         ensures answer { OfferAnswers self.old stream.input item.now result self.new }
         ensures run { self.new.run ≡ self.old.run }
         ensures mapped { result ≢ Offered.Stranger }
-        ensures unrefused { result ≢ Offered.Memory }
     {
         self.known();
         let _ = item.packet.bytes();
@@ -203,7 +198,6 @@ impl Mux {
         requires { input < input_count self.old.run.schedule }
         ensures answer { OfferAnswers self.old input item.now result self.new }
         ensures run { self.new.run ≡ self.old.run }
-        ensures unrefused { result ≢ Offered.Memory }
     {
         match self.find(input, item) {
             Some(place) => self.offer_to(place, item),
@@ -223,7 +217,6 @@ impl Mux {
             → OfferAnswers self.old stream.input item.now result self.new }
         ensures run { self.new.run ≡ self.old.run }
         ensures mapped { result ≢ Offered.Stranger }
-        ensures unrefused { result ≢ Offered.Memory }
     {
         self.known();
         let stream = self.stream(place);
@@ -241,37 +234,17 @@ impl Mux {
         }
     }
 
-    /// Takes a packet of an input as `offer` does, by value: each refusal hands it back.
-    pub fn take(&mut self, input: usize, item: Stamped) -> Taken
-        requires { input < input_count self.old.run.schedule }
-        ensures answer { TakeAnswers self.old input item result self.new }
-        ensures run { self.new.run ≡ self.old.run }
-        ensures unrefused { (back : TakenPacket) → result ≢ Taken.Memory back }
-    {
-        match self.offer(input, &item) {
-            Offered::Taken => Taken::Ok,
-            Offered::Closed => Taken::Closed(item),
-            Offered::Stranger => Taken::Stranger(item),
-            Offered::Backward => Taken::Backward(item),
-            Offered::Early => Taken::Early(item),
-            Offered::Full => Taken::Full(item),
-            Offered::Memory => Taken::Memory(item),
-        }
-    }
-
-    /// Closes an input. A second close changes nothing. It is always `Ok`: no memory is asked for.
-    pub fn close(&mut self, input: usize) -> Result<(), AllocError>
+    /// Closes an input. A second close changes nothing.
+    pub fn close_input(&mut self, input: usize)
         requires { input < input_count self.old.run.schedule }
         ensures first { is_closed input self.old.events ≡ false
             → self.new ≡ with_event self.old (Event.Close input) }
         ensures again { is_closed input self.old.events ≡ true → self.new ≡ self.old }
-        ensures unrefused { IsOk result }
         ensures run { self.new.run ≡ self.old.run }
     {
         if !self.inputs[input].closed {
             self.past.add(Event::Close(input));
             self.inputs[input].closed = true;
         }
-        Ok(())
     }
 }

@@ -11,7 +11,7 @@ ghost use Rattle.mux.specs.declared.event.Event.{Event};
 ghost use Rattle.mux.specs.declared.content.Content.{Content};
 ghost use Rattle.mux.specs.History.{with_event, in_force, plan_in_force, queue, slots, emitted};
 ghost use Rattle.mux.specs.Lawful.{IsDone, AllReady, is_switch_due, table_due, IsContent, MaySend};
-ghost use Rattle.mux.specs.Answers.{SendAnswers, SlotAnswers, IsRunning, IsUnswitched, IsLeastUnready};
+ghost use Rattle.mux.specs.Answers.{SendAnswers, IsRunning, IsUnswitched, IsLeastUnready};
 
 use crate::candidate::Candidate;
 use crate::choice::{all_closed, all_empty, choose, clear_notes, first_unready};
@@ -19,7 +19,6 @@ use crate::content::Content;
 use crate::event::Event;
 use crate::mux::Mux;
 use crate::sending::Sending;
-use crate::slot::Slot;
 use request::Stream;
 use rounds::TablePlace;
 use tspkt::Packet;
@@ -179,7 +178,6 @@ impl Mux {
         ensures some { IfSome result (λ answer. SendAnswers self.now answer self.now) }
         ensures unsent { result ≢ Some Sending.Sent }
         ensures unswitched { result ≢ Some Sending.Switched }
-        ensures unrefused { result ≢ Some Sending.Memory }
         ensures none { IfNone result (IsRunning self.now × (IsUnswitched self.now → AllReady self.now.run.schedule self.now.events)) }
     {
         if self.is_done() {
@@ -206,7 +204,6 @@ impl Mux {
     pub fn send_next(&mut self) -> Sending
         ensures answer { SendAnswers self.old result self.new }
         ensures run { self.new.run ≡ self.old.run }
-        ensures unrefused { result ≢ Sending.Memory }
     {
         if let Some(answer) = self.hindrance() {
             return answer;
@@ -217,21 +214,5 @@ impl Mux {
         }
         self.send(self.now());
         Sending::Sent
-    }
-
-    /// Sends the next slot as `send_next` does, and answers its packet by value.
-    pub fn slot(&mut self) -> Slot
-        ensures answer { SlotAnswers self.old result self.new }
-        ensures run { self.new.run ≡ self.old.run }
-        ensures unrefused { result ≢ Slot.Memory }
-    {
-        match self.send_next() {
-            Sending::Sent => Slot::Sent(*self.last().unwrap()),
-            Sending::Switched => Slot::Switched,
-            Sending::NotReady(input) => Slot::NotReady(input),
-            Sending::Done => Slot::Done,
-            Sending::RunFull => Slot::RunFull,
-            Sending::Memory => Slot::Memory,
-        }
     }
 }

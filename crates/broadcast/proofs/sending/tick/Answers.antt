@@ -24,7 +24,6 @@ returns-in-Ok-clause-emitted c =
 pub returns-in_default : goal.returns-in_default
 returns-in_default c = record {
   ticks = c.tick-answer.ensures.ticks;
-  unrefused = c.tick-answer.ensures.unrefused;
   emitted = nothing_sent c.args.station.now c.tick-answer.result c.tick-answer.new.self c.tick-answer.ensures.ticks c.in_default.not-Sent
       ∙ ap (λ (v : List (List ℕ)). emitted_by c.args.station.now ++ v) (sym c.requires.empty);
   rings = c.tick-answer.ensures.rings;

@@ -1,4 +1,4 @@
-use Rattle.std.proofs.Common.{ap, sym, subst, ◌∙◌, inl, inr}
+use Rattle.std.proofs.Common.{ap, sym, subst, ◌∙◌, inl}
 use Rattle.std.proofs.lemmas.Bool.{false≢true}
 use Rattle.mux.specs.declared.event.Event.TheVariants.{Close}
 use Rattle.mux.specs.declared.offered.Offered.{Offered}
@@ -11,13 +11,9 @@ pub unreachable-requires : goal.unreachable-requires
 unreachable-requires g c =
     let h = c.args.mux.now in
     let item = c.head.result.now in
-    elim c.in-Closed.is [
-      | inl e ↦
-          (let P : Offered → Type 0 = λ v. OfferAnswers h c.args.number item v c.offer.new.mux in
-          let a = subst P e c.offer.ensures.answer in
-          false≢true (sym c.requires.open ∙ is_shut h.run.schedule h.events c.args.number item a.0))
-      | inr e ↦ c.offer.ensures.unrefused e
-    ]
+    let P : Offered → Type 0 = λ v. OfferAnswers h c.args.number item v c.offer.new.mux in
+    let a = subst P c.in-Closed.is c.offer.ensures.answer in
+    false≢true (sym c.requires.open ∙ is_shut h.run.schedule h.events c.args.number item a.0)
 
 pub returns-in-Stranger-clause-turned : goal.returns-in-Stranger-clause-turned
 returns-in-Stranger-clause-turned g c =

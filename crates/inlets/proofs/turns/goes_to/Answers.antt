@@ -1,15 +1,12 @@
-use Rattle.std.proofs.Common.{rules, ◌≡◌, ℕ, List, length, refl, Some, ◌==◌, true, arith, ap, sym, ◌∙◌}
+use Rattle.std.proofs.Common.{rules, ◌≡◌, List, length, refl, Some, ap, sym, ◌∙◌}
 use Rattle.std.specs.List.{slice_get}
-use Rattle.std.proofs.lemmas.Bool.Decides.{nat_tests}
 use Rattle.std.proofs.lemmas.Option.{slice_get_read}
 use Rattle.request.specs.declared.stream.Stream.{Stream}
 use Rattle.tspkt.specs.Packet.{pid_of}
 use Rattle.schedule.specs.Streams.{all_streams}
+use Rattle.inlets.proofs.FaithfulLaws.{same_number}
 use Rattle.inlets.proofs.PlaceLaws.{goes_here}
 use Rattle.inlets.proofs.turns.goes_to.Goals as goal
-
-same_number : (i j : ℕ) → (i == j) ≡ true → i ≡ j
-same_number i j e = grind (arith, nat_tests)
 
 pub returns-then-stream-number : goal.returns-then-stream-number
 returns-then-stream-number c is =

@@ -1,4 +1,4 @@
-use Rattle.std.proofs.Common.{◌≡◌, ◌⊎◌, true, false, length, refl, ap, ◌∙◌, sym, subst, inl, inr, arith, Err, set, Some}
+use Rattle.std.proofs.Common.{◌≡◌, ◌⊎◌, length, refl, ap, ◌∙◌, sym, subst, inl, inr, arith, Err, set, Some}
 use Rattle.std.specs.Prelude.{OnErr}
 use Rattle.std.specs.List.{length_refill}
 use Rattle.std.proofs.lemmas.Result.{err_from_is_err_and}
@@ -16,6 +16,7 @@ use Rattle.outcome.specs.Taking.{TakesAsNeeded}
 use Rattle.outcome.proofs.ResultLaws.{not_ok, is_failed}
 use Rattle.serial.specs.Feeding.{AreLimited}
 use Rattle.serial.specs.Running.{AreFed, AreHalted}
+use Rattle.serial.specs.declared.turn.Turn.TheVariants.{Goes, Over}
 use Rattle.serial.proofs.RunningLaws.{fewer_sent}
 use Rattle.serial.proofs.StepLaws.{fed_of, unsent_by, waits_at, still_unready, still_feeds, unsent_read, tell_read, halted_read, unrefused_read, begun_unsent, over_by}
 use Rattle.serial.proofs.GoingLaws.{goes_sent, goes_part_sent, goes_unsent, goes_over}
@@ -36,7 +37,7 @@ pub returns-in_ok-put-in-Sent-clause-goes : goal.returns-in_ok-put-in-Sent-claus
 returns-in_ok-put-in-Sent-clause-goes g c =
     let old = c.args.self.now in
     let put = c.in_ok-put-in-Sent.ensures in
-    goes_sent g.R.Source.remaining g.R.Source.failures g.W.Sink.contents g.W.Sink.failures old (record old { mux = c.take_step.new.mux; inputs = c.take_step.new.entries; output = c.put.new.self }) c.unwrap-packet.result.now c.args.sink.now c.put.new.sink false
+    goes_sent g.R.Source.remaining g.R.Source.failures g.W.Sink.contents g.W.Sink.failures old (record old { mux = c.take_step.new.mux; inputs = c.take_step.new.entries; output = c.put.new.self }) c.unwrap-packet.result.now c.args.sink.now c.put.new.sink Goes
     (lent_last old.mux c.take_step.new.mux c.last.result c.unwrap-packet.result c.in-Sent.ensures.steps.0 c.unwrap-packet.ensures c.last.ensures) c.take_step.ensures.run c.in-Sent.ensures.steps.1 refl put.analysed put.written put.failures
 
 pub returns-in_ok-put-in-Sent-clause-fewer : goal.returns-in_ok-put-in-Sent-clause-fewer
@@ -57,7 +58,7 @@ returns-in_err-put-in-Sent-clause-goes g c =
 pub returns-in-Switched-clause-goes : goal.returns-in-Switched-clause-goes
 returns-in-Switched-clause-goes g c =
     let old = c.args.self.now in
-    goes_unsent g.R.Source.remaining g.R.Source.failures g.W.Sink.contents g.W.Sink.failures old (record old { mux = c.take_step.new.mux; inputs = c.take_step.new.entries }) c.args.sink.now c.args.sink.now false
+    goes_unsent g.R.Source.remaining g.R.Source.failures g.W.Sink.contents g.W.Sink.failures old (record old { mux = c.take_step.new.mux; inputs = c.take_step.new.entries }) c.args.sink.now c.args.sink.now Goes
     (unsent_by g.R.Source.remaining g.R.Source.failures old.mux c.take_step.new.mux old.inputs.items c.take_step.new.entries.items c.take_step.result (subst IsMultiplexSchedule c.schedule.ensures c.known.ensures) (fed_of g.R.Source.remaining old c.requires) c.in-Switched.is c.take_step.ensures.steps) (λ some. some) refl (sends_nothing (g.W.Sink.contents c.args.sink.now) old.output.writer) refl
 
 pub returns-in-Switched-clause-fewer : goal.returns-in-Switched-clause-fewer
@@ -92,7 +93,7 @@ returns-in_ok-read_on-in-Waits-clause-goes g c =
     let length_is : old.piece.len ≡ length old.piece.items = sym c.as_mut_slice-piece.ensures.len ∙ ap length c.as_mut_slice-piece.ensures.value in
     let kept = length_refill old.piece.len old.piece.items c.read_on.new.piece length_is in
     let out = c.in_ok-read_on-in-Waits.ensures.out in
-    goes_unsent g.R.Source.remaining g.R.Source.failures g.W.Sink.contents g.W.Sink.failures old _ c.args.sink.now c.read_on.new.sink false
+    goes_unsent g.R.Source.remaining g.R.Source.failures g.W.Sink.contents g.W.Sink.failures old _ c.args.sink.now c.read_on.new.sink Goes
     (unsent_read g.R.Source.remaining g.R.Source.failures old.mux c.take_step.new.mux c.read_on.new.mux old.inputs.items c.take_step.new.entries.items i mid c.read_on.new.input w c.in_ok-read_on-in-Waits.ensures.event c.in_ok-read_on-in-Waits.ensures.fewer c.in_ok-read_on-in-Waits.ensures.feeds c.read_on.ensures.limit c.read_on.ensures.failures)
     (λ some. omega (arith, some, length_is, kept)) c.read_on.ensures.out.output out.written out.unfailed
 
@@ -149,7 +150,7 @@ returns-in_err-read_on-in-Waits-clause-goes g c =
 pub returns-in-Done-clause-goes : goal.returns-in-Done-clause-goes
 returns-in-Done-clause-goes g c =
     let old = c.args.self.now in
-    goes_over g.R.Source.remaining g.R.Source.failures g.W.Sink.contents g.W.Sink.failures old (record old { mux = c.take_step.new.mux; inputs = c.take_step.new.entries }) c.args.sink.now true (over_by g.R.Source.remaining g.R.Source.failures old.mux c.take_step.new.mux old.inputs.items c.take_step.new.entries.items c.take_step.result c.in-Done.is c.take_step.ensures.steps) refl refl
+    goes_over g.R.Source.remaining g.R.Source.failures g.W.Sink.contents g.W.Sink.failures old (record old { mux = c.take_step.new.mux; inputs = c.take_step.new.entries }) c.args.sink.now Over (over_by g.R.Source.remaining g.R.Source.failures old.mux c.take_step.new.mux old.inputs.items c.take_step.new.entries.items c.take_step.result c.in-Done.is c.take_step.ensures.steps) refl refl
 
 pub returns-in-Done-clause-over : goal.returns-in-Done-clause-over
 returns-in-Done-clause-over g c e =

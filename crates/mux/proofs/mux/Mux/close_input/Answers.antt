@@ -7,7 +7,7 @@ use Rattle.mux.specs.Lawful.{input_count}
 use Rattle.mux.proofs.Steps.{state_at, length_states, closing, span_stays}
 use Rattle.mux.proofs.Peaks.{peaks_close}
 use Rattle.mux.proofs.Noted.{noted_same}
-use Rattle.mux.proofs.mux.Mux.close.Goals as goal
+use Rattle.mux.proofs.mux.Mux.close_input.Goals as goal
 
 pub index-requires : goal.index-requires
 index-requires c =
