@@ -12,7 +12,11 @@ use Rattle.outcome.proofs.WrittenLaws.{all_begun}
 use Rattle.station.specs.Stations.{Input, StationValue}
 use Rattle.station.specs.Moving.{TakesNext, ComesUntaken, EndsBy, Ending, Nothing, Mark, HeldBack, IsHeldBack}
 use Rattle.station.specs.Advancing.{IsStep, Steps}
-use Rattle.threaded.specs.Driving.{output_of, IsSameRun, BreaksOff, IsDriven}
+use Rattle.outlet.specs.declared.outlet.Outlet.{Outlet}
+use Rattle.outlet.specs.declared.run_fault.RunFault.TheVariants.{Memory, Write}
+use Rattle.outlet.proofs.SendingLaws.{same_err}
+use Rattle.outcome.proofs.ResultLaws.{not_write}
+use Rattle.threaded.specs.Driving.{output_of, IsSameRun, BreaksOff, IsDriven, Drives}
 
 -- What comes of an input comes where the multiplex waits for it.
 
@@ -52,8 +56,18 @@ needed_steps (suc n) old new packets steps is = needed_step steps.0 new steps.2 
 
 -- A run that breaks off.
 
-pub breaks_nowhere : (s : StationValue) (a : SlotWriter) (before : Option (List ℕ)) → BreaksOff s s a before before
+breaks_nowhere : (s : StationValue) (a : SlotWriter) (before : Option (List ℕ)) → BreaksOff s s a before before
 breaks_nowhere s a before = record { same = record { run = refl; rings = refl; needed = λ is. is }; begun = λ first is. (a.writer, is) }
+
+-- where there was no memory, it is driven nowhere
+pub drives_nowhere : {W : Type 0} (contents : W → Option (List ℕ)) (failures : W → ℕ) (s : StationValue) (a : Outlet W) → Drives contents failures s s a a (Err Memory)
+drives_nowhere contents failures s a = record {
+  driven = tt;
+  broken = breaks_nowhere s a.output (contents a.sink);
+  unfailed = tt;
+  memory = λ e. refl;
+  failed = λ e. absurd (not_write (same_err _ Memory Write refl e));
+}
 
 pub same_same : (a b c : StationValue) → IsSameRun a b → IsSameRun b c → IsSameRun a c
 same_same a b c s t = record { run = t.run ∙ s.run; rings = t.rings ∙ s.rings; needed = λ is. t.needed (s.needed is) }

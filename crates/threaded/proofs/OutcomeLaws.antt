@@ -26,6 +26,7 @@ use Rattle.outlet.specs.Written.{Sends, SendsBeginning}
 use Rattle.outlet.specs.declared.run_fault.RunFault.{RunFault}
 use Rattle.outlet.specs.declared.run_fault.RunFault.TheVariants as run_faults
 use Rattle.outlet.specs.declared.slot_writer.SlotWriter.{SlotWriter}
+use Rattle.outlet.specs.declared.outlet.Outlet.{Outlet}
 use Rattle.outcome.specs.Taking.{IsOver, TakesAsNeeded}
 use Rattle.outcome.specs.Ending.{HadMemory, IsTold}
 use Rattle.outcome.specs.Outcome.{HasRun, FailuresAreTold}
@@ -38,7 +39,7 @@ use Rattle.outcome.proofs.OutcomeLaws as outcome
 use Rattle.outcome.proofs.OutcomeLaws.{AreRead, IsDone, IsBroken, left_of, broken_taking, unread, read_nothing, unread_had_memory}
 use Rattle.threaded.specs.Crews.{AreUnsent, AreSeated, AreStarted, AreEnded, HaveWorked, WantedMemory}
 use Rattle.threaded.specs.Opening.{IsReady}
-use Rattle.threaded.specs.Driving.{output_of, HasAnalysedAll, IsSameRun, BreaksOff, IsDriven}
+use Rattle.threaded.specs.Driving.{output_of, HasAnalysedAll, IsSameRun, BreaksOff, IsDriven, Drives}
 use Rattle.threaded.specs.Outcome.{HasBegun, RunsThrough, IsCutShort}
 use Rattle.threaded.proofs.ListLaws.{firsts_at, seconds_at}
 use Rattle.outcome.proofs.ResultLaws.{not_write}
@@ -310,24 +311,25 @@ module _ {R G : Type 0} (remaining : R → Option (List ℕ)) (failures : R → 
   lent_count = (let back : Ended (R × G) → R × G = λ x. x.lent in ap length told_all.inputs.lent_is ∙ (length-map e.ended back ∙ (count_all ∙ sym of_readers)))
 
 -- What a run did that was driven so, whose workers were joined behind it.
-module _ {R G : Type 0} (remaining : R → Option (List ℕ)) (failures : R → ℕ) (limit : InputLimit) (p : ScheduleValue) (opened driven joined : StationValue) (seats : List ((R × G) × PortValue)) (workers : List (Worker R (RunGate G))) (ended : List (Ended (R × G))) (count : ℕ) (a b : SlotWriter) (before after : Option (List ℕ)) (failed_before failed_after : ℕ) (result : Result (Unit {0}) RunFault)
+module _ {R G W : Type 0} (remaining : R → Option (List ℕ)) (failures : R → ℕ) (contents : W → Option (List ℕ)) (failed : W → ℕ) (limit : InputLimit) (p : ScheduleValue) (opened driven joined : StationValue) (seats : List ((R × G) × PortValue)) (workers : List (Worker R (RunGate G))) (ended : List (Ended (R × G))) (count : ℕ) (a b : Outlet W) (result : Result (Unit {0}) RunFault)
     (started : AreStarted limit p seats workers) (size : length workers ≡ count) (all : OnOk result (count ≡ length seats)) (some : OnErr result ((count ≡ length seats) ⊎ (driven ≡ opened))) (crewed : result ≡ Err run_faults.Write → count ≡ length seats)
-    (goes : OnOk result (IsDriven opened driven a b before after)) (broken : OnErr result (BreaksOff opened driven a before after)) (unfailed : OnOk result (failed_after ≡ failed_before)) (memory : result ≡ Err run_faults.Memory → failed_after ≡ failed_before)
+    (drives : Drives contents failed opened driven a b result)
     (same : joined ≡ driven) (became : AreEnded remaining failures driven workers ended) (counted : length ended ≡ count) (sound : IsSound joined.history) (lawful : IsLawfulStation joined.history joined.inputs) where
   worked : count ≡ length seats → HaveWorked remaining failures limit p joined seats ended
   worked seated = have_worked remaining failures limit p driven joined seats workers ended started (size ∙ seated) (counted ∙ sym size) became same
 
   -- it went on to its end, and this was told of it
-  pub runs_through : (s : Summary) (lent : List (R × G)) → OnErr result ⊥ → HadMemory ended → IsTold joined.history.run.schedule joined.history.events ended b s lent → RunsThrough remaining failures limit p opened seats a before after s lent
+  pub runs_through : (s : Summary) (lent : List (R × G)) → OnErr result ⊥ → HadMemory ended → IsTold joined.history.run.schedule joined.history.events ended b.output s lent
+      → RunsThrough remaining failures limit p opened seats a.output (contents a.sink) (contents b.sink) s lent
   runs_through s lent fine had told =
-      let D : StationValue → Type 0 = λ v. IsDriven opened v a b before after in
-      record { station = joined; left = b; ended = ended; worked = worked (fine_part result fine all); had_memory = had; driven = subst D (sym same) (fine_part result fine goes); sound = sound; lawful = lawful; told = told }
+      let D : StationValue → Type 0 = λ v. IsDriven opened v a.output b.output (contents a.sink) (contents b.sink) in
+      record { station = joined; left = b.output; ended = ended; worked = worked (fine_part result fine all); had_memory = had; driven = subst D (sym same) (fine_part result fine drives.driven); sound = sound; lawful = lawful; told = told }
 
   -- it failed, and this fault was told
   pub is_cut_short : (fault : RunFault) → (fault ≡ run_faults.Write → (result ≡ Err run_faults.Write) × HadMemory ended) → (fault ≡ run_faults.Memory → (result ≡ Err run_faults.Write → ⊥) ⊎ WantedMemory ended)
-      → IsCutShort remaining failures limit p opened seats a before after failed_before failed_after fault
+      → IsCutShort remaining failures limit p opened seats a.output (contents a.sink) (contents b.sink) (failed a.sink) (failed b.sink) fault
   is_cut_short fault write wanted =
-      let B : StationValue → Type 0 = λ v. BreaksOff opened v a before after in
+      let B : StationValue → Type 0 = λ v. BreaksOff opened v a.output (contents a.sink) (contents b.sink) in
       record {
         station = joined;
         stopped = elim (either_part result all some) [
@@ -336,14 +338,14 @@ module _ {R G : Type 0} (remaining : R → Option (List ℕ)) (failures : R → 
         ];
         unwanted = λ e. (let t = write e in (ended, worked (crewed t.0), t.1));
         wanted = λ e.
-            elim (unless_write result unfailed memory (λ is. is)) [
+            elim (unless_write result drives.unfailed drives.memory (λ is. is)) [
               | inl well ↦ inl well
               | inr is ↦ elim (wanted e) [
                 | inl unwritten ↦ absurd (unwritten is)
                 | inr one ↦ inr (ended, worked (crewed is), one)
               ]
             ];
-        broken = subst B (sym same) (breaks_either result opened driven a b before after goes broken);
+        broken = subst B (sym same) (breaks_either result opened driven a.output b.output (contents a.sink) (contents b.sink) drives.driven drives.broken);
         sound = sound;
         lawful = lawful;
       }

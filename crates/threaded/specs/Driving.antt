@@ -1,10 +1,14 @@
 -- How a run goes on (profile).
-use Rattle.std.specs.Prelude.{◌≡◌, ℕ, List, Option}
+use Rattle.std.specs.Prelude.{◌≡◌, ℕ, List, Option, Result, Err, OnOk, OnErr}
 use Rattle.std.specs.Io.KnownBytes.{Appends}
 use Rattle.mux.specs.History.{History, emitted}
 use Rattle.outcome.specs.Taking.{IsOver, TakesAsNeeded}
 use Rattle.outlet.specs.Written.{Sends, SendsBeginning}
 use Rattle.outlet.specs.Sending.{bytes_of, HasAnalysed}
+use Rattle.reading.specs.Failures.{FailsOnce}
+use Rattle.outlet.specs.declared.outlet.Outlet.{Outlet}
+use Rattle.outlet.specs.declared.run_fault.RunFault.{RunFault}
+use Rattle.outlet.specs.declared.run_fault.RunFault.TheVariants.{Memory, Write}
 use Rattle.outlet.specs.declared.slot_writer.SlotWriter.{SlotWriter}
 use Rattle.station.specs.Stations.{StationValue, rings_of}
 
@@ -33,3 +37,12 @@ pub record IsDriven (old new : StationValue) (a b : SlotWriter) (before after : 
   pub over : IsOver new.history.run new.history.events
   pub analysed : HasAnalysedAll a old.history → HasAnalysedAll b new.history
   pub written : (first : Option (List ℕ)) → Sends first before (output_of old.history) a.writer → Appends first after (output_of new.history)
+
+-- What came of driving a run whose packets went out by the one outlet, which is the other then: it went on to its end and no write failed,
+-- or it failed. A failed write is told where one failed, and want of memory where none did.
+pub record Drives {W : Type 0} (contents : W → Option (List ℕ)) (failures : W → ℕ) (old new : StationValue) (a b : Outlet W) (result : Result (Unit {0}) RunFault) : Type 0 where
+  pub driven : OnOk result (IsDriven old new a.output b.output (contents a.sink) (contents b.sink))
+  pub broken : OnErr result (BreaksOff old new a.output (contents a.sink) (contents b.sink))
+  pub unfailed : OnOk result (failures b.sink ≡ failures a.sink)
+  pub memory : result ≡ Err Memory → failures b.sink ≡ failures a.sink
+  pub failed : result ≡ Err Write → FailsOnce (failures a.sink) (failures b.sink)

@@ -69,10 +69,7 @@ fn step<T: Wait + Clock>(
     let answer = station.advance_behind(STEPS.saturating_sub(before), packets);
     let is_nothing_sent = packets.len() == before;
     let turn = turn_of(answer, is_nothing_sent);
-    if !hand_on(rt, packets, sender, is_over, is_last(turn)) {
-        return Turn::CutShort;
-    }
-    turn
+    hand_on(rt, packets, sender, is_over, turn)
 }
 
 /// What a turn did whose steps ended with this answer, by what went out.
@@ -87,42 +84,39 @@ fn turn_of(answer: Sending, is_nothing_sent: bool) -> Turn
     }
 }
 
-/// Whether nothing comes behind a turn.
-fn is_last(turn: Turn) -> bool
-    ensures { MatchBool result (turn ≡ Turn.Over) (turn ≡ Turn.Over → ⊥) }
-{
-    matches!(turn, Turn::Over)
-}
-
-/// Hands the block in hand on, where it has packets: as soon as an empty one is there, if it is full or the last one, and else only
-/// where more than the last few blocks are empty. So the run never waits for its output before that has as many full blocks to write,
-/// however little each turn sends; and nothing stays in hand for longer than a sleep while the output has nothing to do. False is
-/// answered where the run was over before.
+/// Hands the block in hand on behind a turn, where it has packets: as soon as an empty one is there, if it is full or the last one, and
+/// else only where more than the last few blocks are empty. So the run never waits for its output before that has as many full blocks to
+/// write, however little each turn sends; and nothing stays in hand for longer than a sleep while the output has nothing to do. It
+/// answers what the turn did, or `CutShort` where the run was over before.
 fn hand_on<T: Wait + Clock>(
     rt: &T,
     packets: &mut Vec<Packet>,
     sender: &mut BlockSender,
     is_over: &Arc<AtomicBool, Global>,
-    is_last: bool,
-) -> bool
+    turn: Turn,
+) -> Turn
     requires { STEPS ≤ vec_capacity packets.old }
     ensures relay { sender.new.relay ≡ sender.old.relay }
     ensures sent { (rest : List (List ℕ))
         × (packets_in sender.old.sent ++ packets.old.items ≡ packets_in sender.new.sent ++ rest)
-        × (result ≡ true → rest ≡ packets.new.items) }
-    ensures last { result ≡ true → is_last ≡ true → packets.new.items ≡ [] }
+        × ((result ≡ Turn.CutShort → ⊥) → rest ≡ packets.new.items) }
+    ensures turn { (result ≡ Turn.CutShort → ⊥) → result ≡ turn }
+    ensures last { result ≡ Turn.Over → packets.new.items ≡ [] }
     ensures room { STEPS ≤ vec_capacity packets.new }
 {
     if !packets.is_empty() {
-        if is_last || packets.len() >= STEPS {
+        if matches!(turn, Turn::Over) || packets.len() >= STEPS {
             if !send(rt, packets, sender, is_over) {
-                return false;
+                return Turn::CutShort;
             }
         } else {
             sender.offer(packets);
         }
     }
-    !is_over.load(Ordering::SeqCst)
+    if is_over.load(Ordering::SeqCst) {
+        return Turn::CutShort;
+    }
+    turn
 }
 
 /// Sends a block, as soon as an empty one is there to take its place. False is answered where the run was over before.

@@ -1,10 +1,9 @@
 //! The thread of the output, from its start to its end.
 
-ghost use Rattle.std.specs.Prelude.{◌≡◌, ◌≤◌, [], Err, IfOk, IfErr, OnOk, OnErr, vec_capacity};
-ghost use Rattle.reading.specs.Failures.{FailsOnce};
+ghost use Rattle.std.specs.Prelude.{◌≡◌, ◌≤◌, [], IfOk, IfErr, vec_capacity};
 ghost use Rattle.relay.specs.Relays.{IsNewRelay};
 ghost use Rattle.threaded.specs.declared.passage.TheConstants.{STEPS, BLOCKS};
-ghost use Rattle.threaded.specs.Driving.{IsDriven, BreaksOff};
+ghost use Rattle.threaded.specs.Driving.{Drives};
 ghost use Rattle.threaded.specs.Outputs.{HasWritten};
 
 use crate::driving::drive;
@@ -84,13 +83,7 @@ pub(crate) fn send_out<
     requires relay { IsNewRelay BLOCKS passage.sender passage.receiver }
     requires empty { passage.packets.items ≡ [] }
     requires room { STEPS ≤ vec_capacity passage.packets }
-    ensures driven { OnOk result.1
-        (IsDriven station.old station.new outlet.output result.0.output (W.contents outlet.sink) (W.contents result.0.sink)) }
-    ensures broken { OnErr result.1
-        (BreaksOff station.old station.new outlet.output (W.contents outlet.sink) (W.contents result.0.sink)) }
-    ensures failures { OnOk result.1 (W.failures result.0.sink ≡ W.failures outlet.sink) }
-    ensures memory { result.1 ≡ Err RunFault.Memory → W.failures result.0.sink ≡ W.failures outlet.sink }
-    ensures failed { result.1 ≡ Err RunFault.Write → FailsOnce (W.failures outlet.sink) (W.failures result.0.sink) }
+    ensures { Drives W.contents W.failures station.old station.new outlet result.0 result.1 }
 {
     let Passage {
         mut packets,

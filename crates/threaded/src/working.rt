@@ -1,10 +1,9 @@
 //! The workers of a run at work, while its slots are sent.
 
 ghost use Rattle.std.specs.Prelude.{◌≡◌, ◌⊎◌, ◌≤◌, [], length, vec_capacity, map, Err, OnOk, OnErr};
-ghost use Rattle.reading.specs.Failures.{FailsOnce};
 ghost use Rattle.reading.specs.InputLimit.{IsAllowed};
 ghost use Rattle.threaded.specs.Crews.{AreUnsent, AreStarted};
-ghost use Rattle.threaded.specs.Driving.{IsDriven, BreaksOff};
+ghost use Rattle.threaded.specs.Driving.{Drives};
 
 use crate::crew::start_all;
 use crate::output_thread::send_out;
@@ -23,7 +22,7 @@ use std::time::Clock;
 use worker::Gate;
 
 /// Starts the workers, and ticks to the end of the run.
-#[tactic(auto, using(crate::proofs::DrivingLaws::breaks_nowhere))]
+#[tactic(auto, using(crate::proofs::DrivingLaws::drives_nowhere))]
 pub(crate) fn work<
     T: Threads + Wait + Clock + Copy + Send + Drop + 'static,
     R: Source + Send + Drop + 'static,
@@ -49,13 +48,7 @@ pub(crate) fn work<
     ensures all { OnOk result.1 (length handles.new.items ≡ length seats.items) }
     ensures some { OnErr result.1 ((length handles.new.items ≡ length seats.items) ⊎ (station.new ≡ station.old)) }
     ensures crewed { result.1 ≡ Err RunFault.Write → length handles.new.items ≡ length seats.items }
-    ensures driven { OnOk result.1
-        (IsDriven station.old station.new outlet.output result.0.output (W.contents outlet.sink) (W.contents result.0.sink)) }
-    ensures broken { OnErr result.1
-        (BreaksOff station.old station.new outlet.output (W.contents outlet.sink) (W.contents result.0.sink)) }
-    ensures failures { OnOk result.1 (W.failures result.0.sink ≡ W.failures outlet.sink) }
-    ensures memory { result.1 ≡ Err RunFault.Memory → W.failures result.0.sink ≡ W.failures outlet.sink }
-    ensures failed { result.1 ≡ Err RunFault.Write → FailsOnce (W.failures outlet.sink) (W.failures result.0.sink) }
+    ensures drives { Drives W.contents W.failures station.old station.new outlet result.0 result.1 }
 {
     let Ok(passage) = Passage::open(alloc, is_over) else {
         return (outlet, Err(RunFault::Memory));

@@ -50,42 +50,38 @@ impl<R: Source + Drop, G: Gate + Drop> Sender<R, G> {
         let Ok(mut piece) = vec![in alloc; 0; PIECE] else {
             return Some(Stop::Memory);
         };
-        if self.send_all(rt, piece.as_mut_slice()) {
-            None
-        } else {
-            Some(Stop::Gate)
-        }
+        self.send_all(rt, piece.as_mut_slice())
     }
 
-    /// The same, in pieces of at most the length of `piece`. False is answered where the gate said no, which it isn't asked
-    /// behind a failed read.
-    fn send_all<T: Wait + Clock>(&mut self, rt: &T, piece: &mut [u8]) -> bool
+    /// The same, in pieces of at most the length of `piece`. The gate isn't asked behind a failed read.
+    fn send_all<T: Wait + Clock>(&mut self, rt: &T, piece: &mut [u8]) -> Option<Stop>
         requires piece { 0 < length piece.old }
         requires held { self.old.reader.held ≡ None }
         ensures sent { SendsOn R.remaining R.failures self.old self.new }
-        ensures gate { MatchBool result (G.stops self.new.gate ≡ G.stops self.old.gate)
-            (StopsOnce (G.stops self.old.gate) (G.stops self.new.gate)) }
-        ensures over { result ≡ true
+        ensures over { result ≡ None
             → IsSpent self.new.reader ⊎ (self.new.reader.report.stopped ≡ Some Memory) }
-        ensures unfailed { result ≡ false → (start : Option (List ℕ)) → HasSent R.remaining start self.old
+        ensures causes { IfSome result (λ stop. stop ≡ Gate) }
+        ensures stopped { result ≡ Some Gate → StopsOnce (G.stops self.old.gate) (G.stops self.new.gate) }
+        ensures gate { (result ≡ Some Gate → ⊥) → G.stops self.new.gate ≡ G.stops self.old.gate }
+        ensures unfailed { result ≡ Some Gate → (start : Option (List ℕ)) → HasSent R.remaining start self.old
             → self.new.reader.report.stopped ≡ Some ReadFailed → ⊥ }
     {
         for _ in rt.forever() {
             match self.reader.look(&self.schedule) {
                 Look::Packet(place) => {
                     if !self.send_held(rt, place) {
-                        return false;
+                        return Some(Stop::Gate);
                     }
                 }
                 Look::More => {
                     if !self.gate.pass(Point::Read) {
-                        return false;
+                        return Some(Stop::Gate);
                     }
                     if self.reader.read(piece).is_err() {
-                        return true;
+                        return None;
                     }
                 }
-                Look::Over => return true,
+                Look::Over => return None,
             }
         }
         unreachable!()

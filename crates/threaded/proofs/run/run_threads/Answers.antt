@@ -50,7 +50,7 @@ join_all-requires-clause-station g c =
     let o = c.in-Ok.opening in
     let w = c.work-outlet in
     let seated = ready_seated c.args.schedule c.args.slots c.args.readers.items c.args.gates.items o.station o.seats.items c.in-Ok.ensures.ready c.requires.readers c.requires.gates in
-    let same = same_either w.result.1 o.station w.new.station o.output w.result.0.output (g.W.Sink.contents c.args.writer) (g.W.Sink.contents w.result.0.sink) w.ensures.driven w.ensures.broken in
+    let same = same_either w.result.1 o.station w.new.station o.output w.result.0.output (g.W.Sink.contents c.args.writer) (g.W.Sink.contents w.result.0.sink) w.ensures.drives.driven w.ensures.drives.broken in
     seated_workers c.args.limit c.args.schedule o.station w.new.station o.seats.items (map (λ h. h.promise.worker.value) w.new.handles.items) seated same.rings w.ensures.started
 
 pub tell-requires : goal.tell-requires
@@ -59,7 +59,7 @@ tell-requires g c =
     let w = c.work-outlet in
     let ready = c.in-Ok.ensures.ready in
     let seats = ready_count c.args.schedule c.args.slots c.args.readers.items c.args.gates.items o.station o.seats.items ready c.requires.readers c.requires.gates in
-    let same = same_either w.result.1 o.station w.new.station o.output w.result.0.output (g.W.Sink.contents c.args.writer) (g.W.Sink.contents w.result.0.sink) w.ensures.driven w.ensures.broken in
+    let same = same_either w.result.1 o.station w.new.station o.output w.result.0.output (g.W.Sink.contents c.args.writer) (g.W.Sink.contents w.result.0.sink) w.ensures.drives.driven w.ensures.drives.broken in
     let plan = ap (λ (s : StationValue). s.history.run) c.join_all.ensures.same ∙ run_is c.args.schedule c.args.slots o.station w.new.station ready.ports ready.opened same in
     on_ok_weaker w.result.1 (λ all. c.join_all.ensures.count ∙ all ∙ seats ∙ ap (λ (r : Run). length r.schedule.first.request.inputs) (sym plan)) w.ensures.all
 
@@ -72,9 +72,9 @@ returns-clause-runs g c =
     subst S (sym c.tell.ensures.sink)
     (if_ok_both c.tell.result.1 c.tell.ensures.told c.tell.ensures.well
     (λ done told well. run_ended g.R.Source.remaining g.R.Source.failures c.args.schedule c.args.slots c.args.limit c.in-Ok.opening.station c.args.readers.items c.args.gates.items c.in-Ok.opening.seats.items c.in-Ok.opening.output (g.W.Sink.contents c.args.writer) (g.W.Sink.contents w.result.0.sink) done.0 done.1.items opening.ready c.requires.readers c.requires.gates
-    (runs_through g.R.Source.remaining g.R.Source.failures c.args.limit c.args.schedule c.in-Ok.opening.station w.new.station c.join_all.new.station c.in-Ok.opening.seats.items (map (λ h. h.promise.worker.value) w.new.handles.items) c.join_all.new.ended.items (length w.new.handles.items)
-    c.in-Ok.opening.output w.result.0.output (g.W.Sink.contents c.args.writer) (g.W.Sink.contents w.result.0.sink) (g.W.Sink.failures c.args.writer) (g.W.Sink.failures w.result.0.sink) w.result.1
-    w.ensures.started (length-map w.new.handles.items (λ h. h.promise.worker.value)) w.ensures.all w.ensures.some w.ensures.crewed w.ensures.driven w.ensures.broken w.ensures.failures w.ensures.memory
+    (runs_through g.R.Source.remaining g.R.Source.failures g.W.Sink.contents g.W.Sink.failures c.args.limit c.args.schedule c.in-Ok.opening.station w.new.station c.join_all.new.station c.in-Ok.opening.seats.items (map (λ h. h.promise.worker.value) w.new.handles.items) c.join_all.new.ended.items (length w.new.handles.items)
+    (record { output = c.in-Ok.opening.output; sink = c.args.writer }) w.result.0 w.result.1
+    w.ensures.started (length-map w.new.handles.items (λ h. h.promise.worker.value)) w.ensures.all w.ensures.some w.ensures.crewed w.ensures.drives
     c.join_all.ensures.same c.join_all.ensures.ended c.join_all.ensures.count c.slots.ensures.sound c.slots.ensures.lawful done.0 done.1.items well.0 well.1 told) c.requires.slots opening.waiting opening.analysed))
 
 pub returns-clause-begins : goal.returns-clause-begins
@@ -86,9 +86,9 @@ returns-clause-begins g c =
     subst S (sym c.tell.ensures.sink)
     (if_err_is c.tell.result.1
     (λ fault is. run_failed g.R.Source.remaining g.R.Source.failures c.args.schedule c.args.slots c.args.limit c.in-Ok.opening.station c.args.readers.items c.args.gates.items c.in-Ok.opening.seats.items c.in-Ok.opening.output (g.W.Sink.contents c.args.writer) (g.W.Sink.contents w.result.0.sink) (g.W.Sink.failures c.args.writer) (g.W.Sink.failures w.result.0.sink) fault opening.ready c.requires.readers c.requires.gates opening.waiting
-    (is_cut_short g.R.Source.remaining g.R.Source.failures c.args.limit c.args.schedule c.in-Ok.opening.station w.new.station c.join_all.new.station c.in-Ok.opening.seats.items (map (λ h. h.promise.worker.value) w.new.handles.items) c.join_all.new.ended.items (length w.new.handles.items)
-    c.in-Ok.opening.output w.result.0.output (g.W.Sink.contents c.args.writer) (g.W.Sink.contents w.result.0.sink) (g.W.Sink.failures c.args.writer) (g.W.Sink.failures w.result.0.sink) w.result.1
-    w.ensures.started (length-map w.new.handles.items (λ h. h.promise.worker.value)) w.ensures.all w.ensures.some w.ensures.crewed w.ensures.driven w.ensures.broken w.ensures.failures w.ensures.memory
+    (is_cut_short g.R.Source.remaining g.R.Source.failures g.W.Sink.contents g.W.Sink.failures c.args.limit c.args.schedule c.in-Ok.opening.station w.new.station c.join_all.new.station c.in-Ok.opening.seats.items (map (λ h. h.promise.worker.value) w.new.handles.items) c.join_all.new.ended.items (length w.new.handles.items)
+    (record { output = c.in-Ok.opening.output; sink = c.args.writer }) w.result.0 w.result.1
+    w.ensures.started (length-map w.new.handles.items (λ h. h.promise.worker.value)) w.ensures.all w.ensures.some w.ensures.crewed w.ensures.drives
     c.join_all.ensures.same c.join_all.ensures.ended c.join_all.ensures.count c.slots.ensures.sound c.slots.ensures.lawful fault (λ e. c.tell.ensures.write (is ∙ ap Err e)) (λ e. c.tell.ensures.memory (is ∙ ap Err e)))))
 
 pub returns-clause-lent : goal.returns-clause-lent
@@ -96,9 +96,9 @@ returns-clause-lent g c =
     let w = c.work-outlet in
     if_ok_both c.tell.result.1 c.tell.ensures.told c.tell.ensures.well
     (λ done told well. lent_count g.R.Source.remaining g.R.Source.failures c.args.schedule c.args.slots c.args.limit c.in-Ok.opening.station c.args.readers.items c.args.gates.items c.in-Ok.opening.seats.items c.in-Ok.opening.output (g.W.Sink.contents c.args.writer) (g.W.Sink.contents w.result.0.sink) done.0 done.1.items c.in-Ok.ensures.ready c.requires.readers c.requires.gates
-    (runs_through g.R.Source.remaining g.R.Source.failures c.args.limit c.args.schedule c.in-Ok.opening.station w.new.station c.join_all.new.station c.in-Ok.opening.seats.items (map (λ h. h.promise.worker.value) w.new.handles.items) c.join_all.new.ended.items (length w.new.handles.items)
-    c.in-Ok.opening.output w.result.0.output (g.W.Sink.contents c.args.writer) (g.W.Sink.contents w.result.0.sink) (g.W.Sink.failures c.args.writer) (g.W.Sink.failures w.result.0.sink) w.result.1
-    w.ensures.started (length-map w.new.handles.items (λ h. h.promise.worker.value)) w.ensures.all w.ensures.some w.ensures.crewed w.ensures.driven w.ensures.broken w.ensures.failures w.ensures.memory
+    (runs_through g.R.Source.remaining g.R.Source.failures g.W.Sink.contents g.W.Sink.failures c.args.limit c.args.schedule c.in-Ok.opening.station w.new.station c.join_all.new.station c.in-Ok.opening.seats.items (map (λ h. h.promise.worker.value) w.new.handles.items) c.join_all.new.ended.items (length w.new.handles.items)
+    (record { output = c.in-Ok.opening.output; sink = c.args.writer }) w.result.0 w.result.1
+    w.ensures.started (length-map w.new.handles.items (λ h. h.promise.worker.value)) w.ensures.all w.ensures.some w.ensures.crewed w.ensures.drives
     c.join_all.ensures.same c.join_all.ensures.ended c.join_all.ensures.count c.slots.ensures.sound c.slots.ensures.lawful done.0 done.1.items well.0 well.1 told))
 
 pub returns-clause-read_failed : goal.returns-clause-read_failed
@@ -106,21 +106,21 @@ returns-clause-read_failed g c =
     let w = c.work-outlet in
     if_ok_both c.tell.result.1 c.tell.ensures.told c.tell.ensures.well
     (λ done told well. failures_told g.R.Source.remaining g.R.Source.failures c.args.schedule c.args.slots c.args.limit c.in-Ok.opening.station c.args.readers.items c.args.gates.items c.in-Ok.opening.seats.items c.in-Ok.opening.output (g.W.Sink.contents c.args.writer) (g.W.Sink.contents w.result.0.sink) done.0 done.1.items c.in-Ok.ensures.ready c.requires.readers c.requires.gates
-    (runs_through g.R.Source.remaining g.R.Source.failures c.args.limit c.args.schedule c.in-Ok.opening.station w.new.station c.join_all.new.station c.in-Ok.opening.seats.items (map (λ h. h.promise.worker.value) w.new.handles.items) c.join_all.new.ended.items (length w.new.handles.items)
-    c.in-Ok.opening.output w.result.0.output (g.W.Sink.contents c.args.writer) (g.W.Sink.contents w.result.0.sink) (g.W.Sink.failures c.args.writer) (g.W.Sink.failures w.result.0.sink) w.result.1
-    w.ensures.started (length-map w.new.handles.items (λ h. h.promise.worker.value)) w.ensures.all w.ensures.some w.ensures.crewed w.ensures.driven w.ensures.broken w.ensures.failures w.ensures.memory
+    (runs_through g.R.Source.remaining g.R.Source.failures g.W.Sink.contents g.W.Sink.failures c.args.limit c.args.schedule c.in-Ok.opening.station w.new.station c.join_all.new.station c.in-Ok.opening.seats.items (map (λ h. h.promise.worker.value) w.new.handles.items) c.join_all.new.ended.items (length w.new.handles.items)
+    (record { output = c.in-Ok.opening.output; sink = c.args.writer }) w.result.0 w.result.1
+    w.ensures.started (length-map w.new.handles.items (λ h. h.promise.worker.value)) w.ensures.all w.ensures.some w.ensures.crewed w.ensures.drives
     c.join_all.ensures.same c.join_all.ensures.ended c.join_all.ensures.count c.slots.ensures.sound c.slots.ensures.lawful done.0 done.1.items well.0 well.1 told))
 
 pub returns-clause-wrote : goal.returns-clause-wrote
 returns-clause-wrote g c =
     let w = c.work-outlet in
-    on_ok_weaker c.tell.result.1 (λ well. ap g.W.Sink.failures c.tell.ensures.sink ∙ fine_part w.result.1 well.0 w.ensures.failures) c.tell.ensures.well
+    on_ok_weaker c.tell.result.1 (λ well. ap g.W.Sink.failures c.tell.ensures.sink ∙ fine_part w.result.1 well.0 w.ensures.drives.unfailed) c.tell.ensures.well
 
 pub returns-clause-memory : goal.returns-clause-memory
 returns-clause-memory g c e =
     let w = c.work-outlet in
     let F : g.row.W.Denot → Type 0 = λ v. FailsOnce (g.W.Sink.failures c.args.writer) (g.W.Sink.failures v) in
-    elim (unless_write w.result.1 w.ensures.failures w.ensures.memory w.ensures.failed) [
+    elim (unless_write w.result.1 w.ensures.drives.unfailed w.ensures.drives.memory w.ensures.drives.failed) [
       | inl unfailed ↦ inl (ap g.W.Sink.failures c.tell.ensures.sink ∙ unfailed)
       | inr once ↦ inr (subst F (sym c.tell.ensures.sink) once)
     ]
@@ -128,7 +128,7 @@ returns-clause-memory g c e =
 pub returns-clause-write_failed : goal.returns-clause-write_failed
 returns-clause-write_failed g c e =
     let F : g.row.W.Denot → Type 0 = λ v. FailsOnce (g.W.Sink.failures c.args.writer) (g.W.Sink.failures v) in
-    subst F (sym c.tell.ensures.sink) (c.work-outlet.ensures.failed (c.tell.ensures.write e).0)
+    subst F (sym c.tell.ensures.sink) (c.work-outlet.ensures.drives.failed (c.tell.ensures.write e).0)
 
 -- there was no memory to open it
 pub returns-in_default-clause-begins : goal.returns-in_default-clause-begins
