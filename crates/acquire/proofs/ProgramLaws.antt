@@ -6,17 +6,18 @@ use Rattle.std.proofs.lemmas.List.{append-nil, drop_more}
 use Rattle.std.proofs.lemmas.List.Folds.{find-append}
 use Rattle.tables.specs.InForce.{SectionValue}
 use Rattle.tables.specs.Kept.{tables_of}
-use Rattle.tables.specs.OnPid.{value_of, pat_section_of, pat_sections, pmts_on}
+use Rattle.tables.specs.OnPid.{value_of, pat_section_of, pat_sections, pmts_on, sections_in}
 use Rattle.tables.specs.Pat.{PatValue}
 use Rattle.tables.specs.Pmt.{PmtValue, pmt_of}
 use Rattle.tables.specs.declared.pat_row.PatRow.{PatRow}
 use Rattle.acquire.specs.Findings.{or_later, first_complete, pat_found, behind_pat_from, behind_pat, is_row_of_program, pmt_pid_of, first_pmt_on, pmt_found}
-use Rattle.acquire.specs.Reading.{ReaderState, reader_on, reader_step, reader_behind, sections_in}
+use Rattle.tables.specs.SectionReading.{ReaderState, reader_on, reader_step, reader_behind}
+use Rattle.tables.proofs.SectionReadingLaws.{reader_more}
 use Rattle.acquire.specs.Taken.{FirstTableState, HasTaken}
 use Rattle.acquire.specs.Seen.{is_pmt_of, pmts_in, pmt_finder_on, pmt_told, pmt_finder_behind, places_behind, pmt_finder_begun, pmt_finder_of}
 use Rattle.acquire.specs.declared.pmt_finder.PmtFinder.{PmtFinder}
 use Rattle.acquire.proofs.TakenLaws.{or_none, first_stays}
-use Rattle.acquire.proofs.ReadingLaws.{reader_more, values_more, none_of}
+use Rattle.acquire.proofs.ReadingLaws.{values_more, none_of}
 
 -- ---- the rows of the PAT
 

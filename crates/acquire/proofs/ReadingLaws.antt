@@ -1,56 +1,20 @@
--- Reading the sections of a PID packet by packet tells what its packets tell.
-use Rattle.std.proofs.Common.{◌≡◌, ℕ, ◌+◌, ◌<◌, Bool, true, false, cond, List, [], ◌∷◌, ◌++◌, Option, Some, None, option_to_list, is_some, filter_map, take, length, get_or, refl, sym, ◌∙◌, ap, subst, append_assoc}
+-- What the sections of a PID that are read packet by packet say of a table.
+use Rattle.std.proofs.Common.{◌≡◌, ℕ, ◌+◌, ◌<◌, true, false, List, [], ◌∷◌, ◌++◌, Option, Some, None, option_to_list, is_some, filter_map, take, length, get_or, refl, sym, ◌∙◌, ap, subst, append_assoc}
 use Rattle.std.specs.List.{cons_option}
 use Rattle.std.proofs.lemmas.List.{append-nil, take_more}
-use Rattle.std.proofs.lemmas.List.Elements.{filter-append, filter_map-append}
-use Rattle.section.specs.Assembled.{AssemblerState, fresh, passed, packet_told, assembled_from}
+use Rattle.std.proofs.lemmas.List.Elements.{filter_map-append}
 use Rattle.section.specs.declared.told.Told.{Told}
 use Rattle.section.specs.declared.told.Told.TheVariants.{Section, BadCrc, TooLong, Cut}
 use Rattle.arrayvec.specs.declared.array_vec.ArrayVec.{ArrayVec}
 use Rattle.tables.specs.InForce.{SectionValue}
-use Rattle.tables.specs.OnPid.{packets_on, section_in, sections_on}
-use Rattle.acquire.specs.Reading.{is_on, state_behind, ReaderState, reader_on, reader_step, reader_behind, sections_in}
+use Rattle.tables.specs.OnPid.{section_in, sections_in, sections_on}
+use Rattle.tables.specs.SectionReading.{ReaderState, reader_on, reader_step, reader_behind}
+use Rattle.tables.proofs.SectionReadingLaws.{reader_more, sections_more}
 use Rattle.acquire.specs.Taken.{FirstTableState, HasTaken}
 use Rattle.acquire.specs.Seen.{HasSought}
 use Rattle.acquire.proofs.TakenLaws.{taken_stays}
 
 -- ---- one packet more
-
-state_more : (s : AssemblerState) (packets : List (List ℕ)) (p : List ℕ) → state_behind s (packets ++ p ∷ []) ≡ (packet_told (state_behind s packets) p).state
-state_more s [] p = refl
-state_more s (q ∷ packets) p = state_more (packet_told s q).state packets p
-
-assembled_more : (s : AssemblerState) (packets : List (List ℕ)) (p : List ℕ)
-    → assembled_from s (packets ++ p ∷ []) ≡ assembled_from s packets ++ (packet_told (state_behind s packets) p).told
-assembled_more s [] p = append-nil (packet_told s p).told
-assembled_more s (q ∷ packets) p =
-    ap (λ l. (packet_told s q).told ++ l) (assembled_more (packet_told s q).state packets p)
-    ∙ sym (append_assoc (packet_told s q).told (assembled_from (packet_told s q).state packets) (packet_told (state_behind (packet_told s q).state packets) p).told)
-
-state_at : (packets : List (List ℕ)) (p : List ℕ) (b : Bool)
-    → (cond b (packet_told (state_behind fresh packets) p) (passed (state_behind fresh packets))).state ≡ state_behind fresh (packets ++ cond b (p ∷ []) [])
-state_at packets p true = sym (state_more fresh packets p)
-state_at packets p false = ap (state_behind fresh) (sym (append-nil packets))
-
-told_at : (packets : List (List ℕ)) (p : List ℕ) (b : Bool)
-    → assembled_from fresh (packets ++ cond b (p ∷ []) []) ≡ assembled_from fresh packets ++ (cond b (packet_told (state_behind fresh packets) p) (passed (state_behind fresh packets))).told
-told_at packets p true = assembled_more fresh packets p
-told_at packets p false = ap (assembled_from fresh) (append-nil packets) ∙ sym (append-nil (assembled_from fresh packets))
-
-on_more : (pid : ℕ) (packets : List (List ℕ)) (p : List ℕ) → packets_on pid (packets ++ p ∷ []) ≡ packets_on pid packets ++ cond (is_on pid p) (p ∷ []) []
-on_more pid packets p = filter-append (is_on pid) packets (p ∷ [])
-
-pub reader_more : (pid : ℕ) (packets : List (List ℕ)) (p : List ℕ) → reader_behind (reader_on pid packets) p ≡ reader_on pid (packets ++ p ∷ [])
-reader_more pid packets p =
-    ap (λ (s : AssemblerState). let r : ReaderState = record { pid = pid; assembler = s } in r)
-    (state_at (packets_on pid packets) p (is_on pid p) ∙ ap (state_behind fresh) (sym (on_more pid packets p)))
-
-pub sections_more : (pid : ℕ) (packets : List (List ℕ)) (p : List ℕ)
-    → sections_on pid (packets ++ p ∷ []) ≡ sections_on pid packets ++ sections_in (reader_step (reader_on pid packets) p).told
-sections_more pid packets p =
-    ap (λ l. filter_map section_in (assembled_from fresh l)) (on_more pid packets p)
-    ∙ ap (filter_map section_in) (told_at (packets_on pid packets) p (is_on pid p))
-    ∙ filter_map-append section_in (assembled_from fresh (packets_on pid packets)) (reader_step (reader_on pid packets) p).told
 
 pub values_more : {V : Type 0} (f : List ℕ → Option V) (pid : ℕ) (packets : List (List ℕ)) (p : List ℕ)
     → filter_map f (sections_on pid (packets ++ p ∷ [])) ≡ filter_map f (sections_on pid packets) ++ filter_map f (sections_in (reader_step (reader_on pid packets) p).told)

@@ -1,4 +1,3 @@
 pub mod Findings
-pub mod Reading
 pub mod Taken
 pub mod Seen

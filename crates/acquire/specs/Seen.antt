@@ -1,11 +1,11 @@
 -- What the parts of acquisition have seen: their states behind packets.
 use Rattle.std.specs.Prelude.{◌≡◌, ℕ, ◌==◌, Bool, ◌&&◌, ◌||◌, if◌then◌else◌, List, [], ◌∷◌, ◌++◌, length, map, Option, Some, None, is_some, option_map, option_and_then, find, filter_map}
 use Rattle.tables.specs.InForce.{SectionValue}
-use Rattle.tables.specs.OnPid.{sections_on, value_of, pat_section_of, sdt_section_of}
+use Rattle.tables.specs.OnPid.{sections_on, value_of, pat_section_of, sdt_section_of, sections_in}
 use Rattle.tables.specs.Pmt.{PmtValue, pmt_of}
 use Rattle.section.specs.declared.told.Told.{Told}
 use Rattle.acquire.specs.Findings.{Findings, findings, is_all_found, all_some, or_later, first_pmt_on, pmt_pid_of, pat_found, behind_pat, pmt_found}
-use Rattle.acquire.specs.Reading.{ReaderState, reader_on, reader_step, reader_behind, sections_in}
+use Rattle.tables.specs.SectionReading.{ReaderState, reader_on, reader_step, reader_behind}
 use Rattle.acquire.specs.Taken.{FirstTableState, HasTaken}
 use Rattle.acquire.specs.declared.table_finder.TableFinder.{TableFinder}
 use Rattle.acquire.specs.declared.pmt_finder.PmtFinder.{PmtFinder}

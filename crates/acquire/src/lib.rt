@@ -8,7 +8,6 @@ mod found;
 mod pmt_finder;
 mod pmt_finders;
 mod program_finder;
-mod section_reader;
 mod sought_table;
 mod table_finder;
 

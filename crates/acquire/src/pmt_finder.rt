@@ -5,10 +5,9 @@ ghost use Rattle.tables.specs.Pmt.{pmt_of};
 ghost use Rattle.tables.specs.OnPid.{value_of};
 ghost use Rattle.acquire.specs.Seen.{pmts_in, is_pmt_of};
 
-use crate::section_reader::SectionReader;
 use section::Told;
 use std::alloc::{AllocError, Global};
-use tables::{Pmt, TableFault};
+use tables::{Pmt, SectionReader, TableFault};
 use tspkt::Packet;
 
 /// Finds the first current PMT of a program on the PID that the PAT gives it (ISO/IEC 13818-1,

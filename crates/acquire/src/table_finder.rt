@@ -2,14 +2,14 @@
 
 ghost use Rattle.std.specs.Prelude.{◌++◌, List, OnOk, filter_map};
 ghost use Rattle.tables.specs.InForce.{SectionValue};
-ghost use Rattle.acquire.specs.Reading.{sections_in};
+ghost use Rattle.tables.specs.OnPid.{sections_in};
 ghost use Rattle.acquire.specs.Taken.{HasTaken};
 
 use crate::first_table::FirstTable;
-use crate::section_reader::SectionReader;
 use crate::sought_table::SoughtTable;
 use section::Told;
 use std::alloc::{AllocError, Global};
+use tables::SectionReader;
 use tspkt::Packet;
 
 /// Finds the first complete table on a PID; when it is complete is profile.

@@ -1,8 +1,8 @@
 -- What the streams of a multiplex took, what its rate leaves them, and what of an input's rate its packets are (profile). Rates are
 -- in bits a second, rounded down.
 use Rattle.std.specs.Prelude.{ℕ, ◌+◌, ◌*◌, ◌/◌, ◌-◌, ◌==◌, if◌then◌else◌}
-use Rattle.tspkt.specs.declared.packet_format.PacketFormat.{PacketFormat}
-use Rattle.tspkt.specs.PacketFormat.{stride_of}
+use Rattle.tspkt.specs.declared.packet_size.PacketSize.{PacketSize}
+use Rattle.tspkt.specs.PacketSize.{stride_of}
 use Rattle.rounds.specs.Rounds.{RoundsValue}
 
 -- so many slots of so many, at a rate
@@ -18,5 +18,5 @@ abbrev pub left_rate_of : RoundsValue → ℕ
 left_rate_of r = share_of r.rate (r.period - (r.fast_len + 1)) r.period
 
 -- what the packets of a stream have of its rate, which counts the bytes that follow them too: 188 of so many bytes
-abbrev pub packets_rate_of : PacketFormat → ℕ → ℕ
-packets_rate_of format rate = share_of rate 188 (stride_of format)
+abbrev pub packets_rate_of : PacketSize → ℕ → ℕ
+packets_rate_of size rate = share_of rate 188 (stride_of size)

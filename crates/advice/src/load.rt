@@ -4,7 +4,7 @@ ghost use Rattle.std.specs.Prelude.{◌≡◌, ◌≤◌};
 ghost use Rattle.advice.specs.Load.{share_of, taken_rate_of, left_rate_of, packets_rate_of};
 
 use rounds::TableRounds;
-use tspkt::PacketFormat;
+use tspkt::PacketSize;
 
 /// The part of a rate that so many slots of so many have, in bits a second, rounded down.
 fn share(rate: u64, part: u64, whole: u64) -> u64
@@ -34,17 +34,18 @@ pub fn left_rate(rounds: &TableRounds) -> u64
     ensures value { result ≡ left_rate_of rounds.now }
     ensures within { result ≤ rounds.now.rate }
 {
+    rounds.known();
     let (rate, period) = (rounds.rate(), rounds.period());
     let tables = rounds.fast_len() as u64;
     let free = period.saturating_sub(tables).saturating_sub(1);
     share(rate, free, period)
 }
 
-/// The rate of the packets alone of a stream of this format and this rate, in bits a second, rounded down: what of the rate isn't that
+/// The rate of the packets alone of a stream of this size and this rate, in bits a second, rounded down: what of the rate isn't that
 /// of the bytes that follow each packet.
-pub fn packets_rate(format: PacketFormat, rate: u64) -> u64
-    ensures value { result ≡ packets_rate_of format rate }
+pub fn packets_rate(size: PacketSize, rate: u64) -> u64
+    ensures value { result ≡ packets_rate_of size rate }
     ensures within { result ≤ rate }
 {
-    share(rate, 188, format.stride() as u64)
+    share(rate, 188, size.stride() as u64)
 }

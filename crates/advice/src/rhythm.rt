@@ -3,10 +3,7 @@
 ghost use Rattle.std.specs.Prelude.{◌≡◌, ◌≤◌, ℕ};
 ghost use Rattle.advice.specs.Rhythm.{milliseconds_of, pat_interval_of, sdt_interval_of, IsLawfulPeriod, run_seconds_of};
 
-use rounds::TableRounds;
-
-/// The bits of a slot.
-const SLOT_BITS: u64 = 1_504;
+use rounds::{SLOT_BITS, TableRounds, half_second, two_seconds};
 
 /// The slots of a run that isn't asked for another length.
 const RUN_SLOTS: u64 = 1_000_000;
@@ -26,6 +23,7 @@ pub fn pat_interval(rounds: &TableRounds) -> u64
     ensures value { result ≡ pat_interval_of rounds.now }
     ensures within { result ≤ 500 }
 {
+    rounds.known();
     milliseconds(rounds.rate(), rounds.period())
 }
 
@@ -34,6 +32,7 @@ pub fn sdt_interval(rounds: &TableRounds) -> u64
     ensures value { result ≡ sdt_interval_of rounds.now }
     ensures within { result ≤ 2000 }
 {
+    rounds.known();
     let rate = rounds.rate();
     milliseconds(rate, rounds.slow_len() as u64 * rounds.period())
 }
@@ -43,7 +42,7 @@ pub fn shortest_period(rounds: &TableRounds) -> u64
     ensures lawful { IsLawfulPeriod rounds.now result }
     ensures least { (period : ℕ) → IsLawfulPeriod rounds.now period → result ≤ period }
 {
-    let _ = rounds.rate();
+    rounds.known();
     (rounds.fast_len() as u64 + 1) * rounds.gap()
 }
 
@@ -53,15 +52,15 @@ pub fn longest_period(rounds: &TableRounds) -> u64
     ensures lawful { IsLawfulPeriod rounds.now result }
     ensures greatest { (period : ℕ) → IsLawfulPeriod rounds.now period → period ≤ result }
 {
+    rounds.known();
     let rate = rounds.rate();
-    let half_second = rate / (2 * SLOT_BITS);
-    let two_seconds = rate / (SLOT_BITS / 2);
-    half_second.min(two_seconds / rounds.slow_len() as u64)
+    half_second(rate).min(two_seconds(rate) / rounds.slow_len() as u64)
 }
 
 /// How long a run of 1,000,000 slots is at the rate of the multiplex, in seconds, rounded down.
 pub fn run_seconds(rounds: &TableRounds) -> u64
     ensures { result ≡ run_seconds_of rounds.now.rate }
 {
+    rounds.known();
     RUN_SLOTS * SLOT_BITS / rounds.rate()
 }

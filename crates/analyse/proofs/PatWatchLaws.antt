@@ -19,7 +19,7 @@ use Rattle.analyse.specs.PatWatching.{is_other, is_other_in, is_scrambled, HasSe
 use Rattle.tables.specs.InForce.{SectionValue}
 use Rattle.tables.specs.Pat.{PatValue}
 use Rattle.analyse.specs.ProgramsWatching.{ProgramsState, HasRows, is_pat_in, pats_in}
-use Rattle.analyse.specs.SectionWatching.{SectionState, HasSeenOnPid}
+use Rattle.tables.specs.SectionReading.{ReaderState, reader_on}
 use Rattle.analyse.specs.GapWatching.{GapState, HasSeenNumbers, IsSince}
 use Rattle.analyse.proofs.GapLaws.{since_same}
 use Rattle.analyse.proofs.SlotLaws.{all_slots, new_slot}
@@ -114,7 +114,7 @@ bad_last limit slots x told packet missed e r g =
 
 -- ---- the watch behind one more slot
 
-module _ (a new_a : SectionState) (g new_g : GapState) (b new_b : Bool) (p new_p : ProgramsState) (slots : List (List ℕ)) (x : List ℕ) (count : ℕ) (told : List Told) (s : HasSeenPat (record { sections = a; gap = g; marked = b; programs = p }) slots) (e : length slots ≡ count) (more : sections_on a.pid (packets_in (slots ++ x ∷ [])) ≡ sections_on a.pid (packets_in slots) ++ filter_map section_in told) where
+module _ (a new_a : ReaderState) (g new_g : GapState) (b new_b : Bool) (p new_p : ProgramsState) (slots : List (List ℕ)) (x : List ℕ) (count : ℕ) (told : List Told) (s : HasSeenPat (record { sections = a; gap = g; marked = b; programs = p }) slots) (e : length slots ≡ count) (more : sections_on 0x0000 (packets_in (slots ++ x ∷ [])) ≡ sections_on 0x0000 (packets_in slots) ++ filter_map section_in told) where
   gap_now : HasSeenNumbers g (λ k. true) (is_pat_mark (slots ++ x ∷ [])) count
   gap_now = record {
     since = since_same (λ k. true) (is_pat_mark slots) (is_pat_mark (slots ++ x ∷ [])) count g.since
@@ -125,23 +125,19 @@ module _ (a new_a : SectionState) (g new_g : GapState) (b new_b : Bool) (p new_p
   marked_now : is_pat_mark (slots ++ x ∷ []) count ≡ b
   marked_now = mark_before slots x count (omega arith) ∙ ap (is_pat_mark slots) (sym e) ∙ sym s.marked
 
-  more_pat : sections_on 0x0000 (packets_in (slots ++ x ∷ [])) ≡ sections_on 0x0000 (packets_in slots) ++ filter_map section_in told
-  more_pat = subst (λ (k : ℕ). sections_on k (packets_in (slots ++ x ∷ [])) ≡ sections_on k (packets_in slots) ++ filter_map section_in told) s.pid more
-
-  pub seen_pat : new_a.pid ≡ a.pid → HasSeenOnPid new_a (packets_in (slots ++ x ∷ [])) → ((watched mark : ℕ → Bool) → HasSeenNumbers g watched mark count → watched count ≡ true → mark count ≡ b → HasSeenNumbers new_g watched mark (count + 1)) → new_b ≡ list_any is_pat_in told → ((sections : List (SectionValue PatValue)) → HasRows p sections → HasRows new_p (sections ++ pats_in told)) → HasSeenPat (record { sections = new_a; gap = new_g; marked = new_b; programs = new_p }) (slots ++ x ∷ [])
-  seen_pat pid seen each marked rows =
+  pub seen_pat : new_a ≡ reader_on 0x0000 (packets_in (slots ++ x ∷ [])) → ((watched mark : ℕ → Bool) → HasSeenNumbers g watched mark count → watched count ≡ true → mark count ≡ b → HasSeenNumbers new_g watched mark (count + 1)) → new_b ≡ list_any is_pat_in told → ((sections : List (SectionValue PatValue)) → HasRows p sections → HasRows new_p (sections ++ pats_in told)) → HasSeenPat (record { sections = new_a; gap = new_g; marked = new_b; programs = new_p }) (slots ++ x ∷ [])
+  seen_pat seen each marked rows =
       let size : count + 1 ≡ length (slots ++ x ∷ []) = ap (λ (k : ℕ). k + 1) (sym e) ∙ sym (length-append slots (x ∷ [])) in
       let behind = each (λ k. true) (is_pat_mark (slots ++ x ∷ [])) gap_now refl marked_now in
       record {
-        pid = pid ∙ s.pid;
         sections = seen;
         gap = subst (λ (k : ℕ). HasSeenNumbers new_g (λ j. true) (is_pat_mark (slots ++ x ∷ [])) k) size behind;
-        marked = marked ∙ marked_last slots x told more_pat ∙ ap (is_pat_mark (slots ++ x ∷ [])) (sym (length-append slots (x ∷ [])));
-        programs = subst (HasRows new_p) (sym (pats_last slots x told more_pat)) (rows (pat_sections (packets_in slots)) s.programs);
+        marked = marked ∙ marked_last slots x told more ∙ ap (is_pat_mark (slots ++ x ∷ [])) (sym (length-append slots (x ∷ [])));
+        programs = subst (HasRows new_p) (sym (pats_last slots x told more)) (rows (pat_sections (packets_in slots)) s.programs);
       }
 
   pub bad_pat : (missed : Bool) (packet : Option (List ℕ)) → IsReadAs x packet → ((watched mark : ℕ → Bool) → HasSeenNumbers g watched mark count → watched count ≡ true → mark count ≡ b → missed ≡ is_gap_at g.limit watched mark count) → ((missed || list_any is_other_in told) || is_scrambled packet) ≡ is_pat_bad_at g.limit (slots ++ x ∷ []) count
   bad_pat missed packet r each =
       let gap = each (λ k. true) (is_pat_mark (slots ++ x ∷ [])) gap_now refl marked_now in
-      bad_last g.limit slots x told packet missed more_pat r (gap ∙ ap (is_gap_at g.limit (λ k. true) (is_pat_mark (slots ++ x ∷ []))) (sym e))
+      bad_last g.limit slots x told packet missed more r (gap ∙ ap (is_gap_at g.limit (λ k. true) (is_pat_mark (slots ++ x ∷ []))) (sym e))
       ∙ ap (is_pat_bad_at g.limit (slots ++ x ∷ [])) e

@@ -9,8 +9,8 @@ use Rattle.tspkt.specs.Packet.{pid_of, transport_scrambling_control_of}
 use Rattle.tables.specs.OnPid.{packets_on}
 use Rattle.analyse.specs.Slots.{packets_in, is_packet}
 use Rattle.analyse.specs.Faults.{completes, pmts_of}
-use Rattle.section.specs.Assembled.{fresh}
-use Rattle.analyse.specs.SectionWatching.{is_on, state_behind}
+use Rattle.section.specs.Assembled.{fresh, state_behind}
+use Rattle.tables.specs.SectionReading.{is_on}
 use Rattle.analyse.specs.PmtAssembling.{StandsFor}
 use Rattle.analyse.specs.PmtWatching.{PmtState, PmtPids, boxed_state, state_of, pids_kept, pids_of_program, HasSeenPmts, HaveSeenPmts}
 use Rattle.analyse.proofs.SlotLaws.{packets_more, packets_same}

@@ -5,9 +5,9 @@ use Rattle.std.proofs.lemmas.Bool.{cases_Bool, cases_eq, and_parts}
 use Rattle.std.proofs.lemmas.Bool.Decides.{nat_tests}
 use Rattle.std.proofs.lemmas.List.{append-nil}
 use Rattle.tspkt.specs.Packet.{pid_of, has_payload_of, payload_unit_start_indicator_of, transport_scrambling_control_of}
-use Rattle.section.specs.Assembled.{AssemblerState, Step, packet_told}
+use Rattle.section.specs.Assembled.{AssemblerState, Step, fresh, packet_told, state_behind, assembled}
 use Rattle.section.proofs.FoundLaws.{packet_none}
-use Rattle.tables.specs.OnPid.{section_in, sections_on, pmts_on}
+use Rattle.tables.specs.OnPid.{packets_on, section_in, sections_on, pmts_on}
 use Rattle.analyse.specs.declared.pmt_assembly.PmtAssembly.TheVariants.{Between}
 use Rattle.analyse.specs.declared.fault_kind.FaultKind.TheVariants.{ContinuityCountError, PmtError2, PidError}
 use Rattle.analyse.specs.declared.fault.Fault.{Fault}
@@ -16,7 +16,7 @@ use Rattle.analyse.specs.InForce.{program_rows_behind, is_pmt_pid_behind, is_ref
 use Rattle.analyse.specs.Faults.{completes, pmts_of, is_pat_bad_at, is_counter_bad_at, told_if, table_limit, faults_at, is_pmt_watched, is_pmt_mark, is_pid_watched, is_pid_mark}
 use Rattle.analyse.specs.SlotReading.{IsReadAs}
 use Rattle.analyse.specs.SyncWatching.{SyncState, HasSeenSlots, is_lost_by, behind}
-use Rattle.analyse.specs.SectionWatching.{is_on, told_by, HasSeenOnPid}
+use Rattle.tables.specs.SectionReading.{is_on, ReaderState, reader_on}
 use Rattle.analyse.specs.GapWatching.{is_told, HasSeenNumbers}
 use Rattle.analyse.specs.ProgramsWatching.{HasRows}
 use Rattle.analyse.specs.PatWatching.{PatState, HasSeenPat}
@@ -29,7 +29,6 @@ use Rattle.analyse.specs.TablesWatching.{TablesState, scrambled_pid, watched_onl
 use Rattle.analyse.specs.Quiet.{stands, LeavesSync, LeavesPat, LeavesAssembly, LeavesPmt, LeavesPmts, LeavesTables}
 use Rattle.analyse.proofs.SyncLaws.{last_slot, seen_more, lost_now}
 use Rattle.analyse.proofs.GapLaws.{since_more, told_now}
-use Rattle.analyse.proofs.SectionLaws.{seen_off, see_packet, sections_seen}
 use Rattle.analyse.proofs.PatWatchLaws.{seen_pat, bad_pat}
 use Rattle.analyse.proofs.UnreadLaws.{between_passed}
 use Rattle.analyse.proofs.PmtWatchLaws.{assembler_more, pmts_more, came_last}
@@ -65,24 +64,27 @@ sync_stands w slot h =
 -- ---- the PAT
 
 module _ (w : PatState) (count : ℕ) (packet : List ℕ) (other : pid_of packet ≢ 0) (unmarked : w.marked ≡ false) (early : is_told w.gap count ≡ false) (slots : List (List ℕ)) (slot : List ℕ) (s : HasSeenPat w slots) (n : length slots ≡ count) (r : IsReadAs slot (Some packet)) where
-  off : is_on w.sections.pid slot ≡ false
-  off = other_off w.sections.pid slot (λ e. other (ap pid_of r.0 ∙ e ∙ s.pid))
+  off : is_on 0x0000 slot ≡ false
+  off = other_off 0x0000 slot (λ e. other (ap pid_of r.0 ∙ e))
 
-  none_told : [] ≡ told_by w.sections slot
-  none_told = sym (ap (λ (b : Bool). cond b (packet_told w.sections.assembler slot).told []) off)
+  same_packets : packets_on 0x0000 (packets_in (slots ++ slot ∷ [])) ≡ packets_on 0x0000 (packets_in slots)
+  same_packets = unread 0x0000 slots slot r.1 off
 
-  no_sections : sections_on w.sections.pid (packets_in (slots ++ slot ∷ [])) ≡ sections_on w.sections.pid (packets_in slots) ++ filter_map section_in []
-  no_sections = sections_seen w.sections slots slot [] s.sections r.1 none_told
+  no_sections : sections_on 0x0000 (packets_in (slots ++ slot ∷ [])) ≡ sections_on 0x0000 (packets_in slots) ++ []
+  no_sections =
+      ap (λ (packets : List (List ℕ)). filter_map section_in (assembled packets)) same_packets
+      ∙ sym (append-nil (sections_on 0x0000 (packets_in slots)))
 
-  same_sections : HasSeenOnPid w.sections (packets_in (slots ++ slot ∷ []))
-  same_sections = see_packet w.sections w.sections slots slot (λ packets p. seen_off w.sections packets slot p off) s.sections r.1
+  same_sections : w.sections ≡ reader_on 0x0000 (packets_in (slots ++ slot ∷ []))
+  same_sections =
+      s.sections ∙ sym (ap (λ (packets : List (List ℕ)). let q : ReaderState = record { pid = 0x0000; assembler = state_behind fresh packets } in q) same_packets)
 
   same_gap : (watched mark : ℕ → Bool) → HasSeenNumbers w.gap watched mark count → watched count ≡ true → mark count ≡ w.marked → HasSeenNumbers w.gap watched mark (count + 1)
   same_gap watched mark g p q = record { since = since_more watched mark count w.gap.since true false p (q ∙ unmarked) g.since }
 
   same_pat : HasSeenPat w (slots ++ slot ∷ [])
   same_pat =
-      seen_pat w.sections w.sections w.gap w.gap w.marked w.marked w.programs w.programs slots slot count [] s n no_sections refl same_sections same_gap unmarked
+      seen_pat w.sections w.sections w.gap w.gap w.marked w.marked w.programs w.programs slots slot count [] s n no_sections same_sections same_gap unmarked
       (λ sections h. subst (HasRows w.programs) (sym (append-nil sections)) h)
 
   other_pid : (pid_of packet == 0 && not (transport_scrambling_control_of packet == 0)) ≡ false

@@ -1,6 +1,6 @@
 -- What the counter watches of all PIDs know of the slots so far: each of the packets of its own PID.
 use Rattle.std.specs.Prelude.{◌≡◌, ◌≢◌, ℕ, ◌<◌, List, [], Option, Some, None, slice_index_or}
-use Rattle.analyse.specs.declared.watched_pids.TheConstants.{PID_COUNT}
+use Rattle.tspkt.specs.declared.packet.TheConstants.{PID_COUNT}
 use Rattle.analyse.specs.Slots.{packets_of_pid}
 use Rattle.analyse.specs.CounterWatching.{CounterState, HasSeenPackets}
 

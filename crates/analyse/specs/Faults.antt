@@ -10,7 +10,7 @@ use Rattle.tables.specs.InForce.{SectionValue}
 use Rattle.tables.specs.Pat.{PatValue}
 use Rattle.tables.specs.Pmt.{PmtValue}
 use Rattle.tables.specs.OnPid.{sections_on, pat_sections, pmts_on}
-use Rattle.analyse.specs.declared.watched_pids.TheConstants.{PID_COUNT}
+use Rattle.tspkt.specs.declared.packet.TheConstants.{PID_COUNT}
 use Rattle.analyse.specs.Slots.{slot_at, is_packet, packets_in, packets_of_pid, is_sync_lost_at, is_sync_byte_bad_at}
 use Rattle.analyse.specs.Gaps.{is_gap_at}
 use Rattle.analyse.specs.InForce.{is_pmt_pid_behind, is_referred_behind}

@@ -2,7 +2,7 @@
 use Rattle.std.specs.Prelude.{◌≡◌, ◌≢◌, ℕ, ◌+◌, ◌-◌, ◌<◌, ◌≤◌, ◌==◌, Bool, true, false, ◌&&◌, ◌||◌, not, List, [], Option, Some, None, slice_index_or}
 use Rattle.std.specs.List.{flat_map, range_with_len}
 use Rattle.tspkt.specs.Packet.{pid_of}
-use Rattle.analyse.specs.declared.watched_pids.TheConstants.{PID_COUNT}
+use Rattle.tspkt.specs.declared.packet.TheConstants.{PID_COUNT}
 use Rattle.analyse.specs.Gaps.{is_gap_at}
 use Rattle.analyse.specs.Faults.{told_if, told_of_pids}
 use Rattle.analyse.specs.GapWatching.{IsSince, since_behind, is_long}

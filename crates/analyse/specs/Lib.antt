@@ -7,7 +7,6 @@ pub mod CounterWatching
 pub mod GapWatching
 pub mod SlotReading
 pub mod CountersWatching
-pub mod SectionWatching
 pub mod PatWatching
 pub mod GapsWatching
 pub mod ProgramsWatching

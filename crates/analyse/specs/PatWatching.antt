@@ -4,14 +4,14 @@ use Rattle.tspkt.specs.Bits.{field}
 use Rattle.tspkt.specs.Packet.{pid_of, transport_scrambling_control_of}
 use Rattle.section.specs.declared.told.Told.{Told}
 use Rattle.tables.specs.OnPid.{section_in, pat_sections}
+use Rattle.tables.specs.SectionReading.{ReaderState, reader_on}
 use Rattle.analyse.specs.Slots.{packets_in}
 use Rattle.analyse.specs.Faults.{is_pat_mark}
-use Rattle.analyse.specs.SectionWatching.{SectionState, HasSeenOnPid}
 use Rattle.analyse.specs.ProgramsWatching.{ProgramsState, HasRows}
 use Rattle.analyse.specs.GapWatching.{GapState, HasSeenNumbers}
 
 pub record PatState : Type 0 where
-  pub sections : SectionState
+  pub sections : ReaderState
   pub gap : GapState
   pub marked : Bool
   pub programs : ProgramsState
@@ -32,8 +32,7 @@ is_scrambled (Some packet) = pid_of packet == 0 && not (transport_scrambling_con
 
 -- the numbers of slots up to theirs were seen by the gap's watch, all but the last of them
 pub record HasSeenPat (w : PatState) (slots : List (List ℕ)) : Type 0 where
-  pub pid : w.sections.pid ≡ 0x0000
-  pub sections : HasSeenOnPid w.sections (packets_in slots)
+  pub sections : w.sections ≡ reader_on 0x0000 (packets_in slots)
   pub gap : HasSeenNumbers w.gap (λ k. true) (is_pat_mark slots) (length slots)
   pub marked : w.marked ≡ is_pat_mark slots (length slots)
   pub programs : HasRows w.programs (pat_sections (packets_in slots))

@@ -1,12 +1,11 @@
 -- What a watch of the PMTs of one PID knows of the slots so far, and what the watches of all PIDs do.
 use Rattle.std.specs.Prelude.{◌≡◌, ℕ, ◌==◌, ◌&&◌, not, List, [], Option, Some, None, option_map, map, filter, find, reverse, slice_index_or}
 use Rattle.std.specs.Global.{Box}
-use Rattle.section.specs.Assembled.{AssemblerState, fresh}
+use Rattle.section.specs.Assembled.{AssemblerState, fresh, state_behind}
 use Rattle.tables.specs.Pmt.{PmtValue}
 use Rattle.tables.specs.OnPid.{packets_on, pmts_on}
 use Rattle.tables.specs.declared.pmt_row.PmtRow.{PmtRow}
 use Rattle.analyse.specs.Slots.{packets_in}
-use Rattle.analyse.specs.SectionWatching.{state_behind}
 use Rattle.analyse.specs.PmtAssembling.{StandsFor}
 use Rattle.analyse.specs.declared.pmt_assembly.PmtAssembly.{PmtAssembly}
 use Rattle.analyse.specs.declared.pmt_assembly.PmtAssembly.TheVariants.{Between}

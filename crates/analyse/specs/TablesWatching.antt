@@ -1,7 +1,7 @@
 -- What the watches of the PMTs and of the PIDs to which they refer know of the slots so far.
 use Rattle.std.specs.Prelude.{◌≡◌, ℕ, ◌+◌, ◌<◌, ◌==◌, not, if◌then◌else◌, List, length, ◌++◌, Option, Some, None}
 use Rattle.tspkt.specs.Packet.{pid_of, transport_scrambling_control_of}
-use Rattle.analyse.specs.declared.watched_pids.TheConstants.{PID_COUNT}
+use Rattle.tspkt.specs.declared.packet.TheConstants.{PID_COUNT}
 use Rattle.analyse.specs.InForce.{is_pmt_pid_behind, is_referred_behind}
 use Rattle.analyse.specs.Faults.{is_pmt_watched, is_pmt_mark, is_pid_watched, is_pid_mark, is_pmt_bad_at, is_pid_missing_at, told_of_pids}
 use Rattle.analyse.specs.GapsWatching.{GapsState, is_watched, HaveSeenNumbers}

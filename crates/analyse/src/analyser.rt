@@ -137,6 +137,7 @@ impl Analyser {
         ensures stays { self.old.is_refused ≡ true → IsErr result }
         ensures capacity { vec_capacity out.old ≤ vec_capacity out.new }
     {
+        packet.known();
         self.see(packet.bytes(), Some(packet), out)
     }
 

@@ -6,10 +6,9 @@ ghost use Rattle.analyse.specs.CountersWatching.{HasSeenIfAny};
 ghost use Rattle.analyse.specs.Faults.{last_is_lawful};
 
 use crate::counter_watch::CounterWatch;
-use crate::watched_pids::PID_COUNT;
 use std::alloc::{AllocError, Global};
 use std::marker::Model;
-use tspkt::{NULL_PID, Packet};
+use tspkt::{NULL_PID, PID_COUNT, Packet};
 
 /// Sees the next packet of a PID, and tells whether it isn't lawful. The first one makes the PID's watch.
 #[inline(always)]
@@ -36,7 +35,7 @@ pub struct CounterWatches {
 }
 
 impl Model for CounterWatches {
-    ghost use Rattle.analyse.specs.declared.watched_pids.TheConstants.{PID_COUNT};
+    ghost use Rattle.tspkt.specs.declared.packet.TheConstants.{PID_COUNT};
     ghost use Rattle.std.specs.Prelude.{◌≡◌, List, Option, length};
     ghost use Rattle.analyse.specs.CounterWatching.{CounterState};
 
@@ -48,7 +47,7 @@ impl Model for CounterWatches {
 }
 
 impl CounterWatches {
-    ghost use Rattle.analyse.specs.declared.watched_pids.TheConstants.{PID_COUNT};
+    ghost use Rattle.tspkt.specs.declared.packet.TheConstants.{PID_COUNT};
     ghost use Rattle.std.specs.Prelude.{◌≡◌, ◌<◌, [], ◌∷◌, ◌++◌, ℕ, List, length, Some, option_map, IfOk};
     ghost use Rattle.tspkt.specs.Packet.{pid_of};
     ghost use Rattle.analyse.specs.SlotReading.{IsReadAs};

@@ -7,10 +7,9 @@ ghost use Rattle.analyse.specs.GapWatching.{is_long};
 use crate::fault::Fault;
 use crate::fault_kind::FaultKind;
 use crate::gap_watch::since_behind;
-use crate::watched_pids::PID_COUNT;
 use std::alloc::{AllocError, Global};
 use std::marker::Model;
-use tspkt::Packet;
+use tspkt::{PID_COUNT, Packet};
 
 /// Whether an open gap is as long as the limit behind `count` slots.
 fn is_long(limit: u64, count: u64, since: Option<u64>) -> bool
@@ -94,7 +93,7 @@ pub struct GapWatches {
 }
 
 impl Model for GapWatches {
-    ghost use Rattle.analyse.specs.declared.watched_pids.TheConstants.{PID_COUNT};
+    ghost use Rattle.tspkt.specs.declared.packet.TheConstants.{PID_COUNT};
     ghost use Rattle.std.specs.Prelude.{◌≡◌, length};
     ghost use Rattle.analyse.specs.GapsWatching.{GapsState};
 

@@ -24,7 +24,6 @@ mod pmt_assembly;
 mod pmt_watch;
 mod pmt_watches;
 mod program_rows;
-mod section_watch;
 mod stream_watch;
 mod sync_watch;
 mod table_seen;

@@ -1,17 +1,20 @@
 //! The watch of the PAT.
 
-ghost use Rattle.std.specs.Prelude.{◌≡◌, ◌||◌, option_map};
+ghost use Rattle.std.specs.Prelude.{◌≡◌, ◌||◌, [], ◌∷◌, ◌++◌, ℕ, List, option_map, filter_map, OnOk};
 ghost use Rattle.std.specs.List.{list_any};
 ghost use Rattle.tspkt.specs.Bits.{field};
+ghost use Rattle.tables.specs.OnPid.{section_in, sections_on};
+ghost use Rattle.tables.specs.SectionReading.{reader_on};
+ghost use Rattle.analyse.specs.Slots.{packets_in};
+ghost use Rattle.analyse.specs.SlotReading.{IsReadAs};
 ghost use Rattle.analyse.specs.PatWatching.{is_other_in, is_scrambled};
 
 use crate::gap_watch::GapWatch;
 use crate::program_rows::ProgramRows;
-use crate::section_watch::SectionWatch;
 use section::Told;
 use std::alloc::{AllocError, Global};
 use std::marker::Model;
-use tables::PatRow;
+use tables::{PatRow, SectionReader};
 use tspkt::Packet;
 
 /// The table_id of a section.
@@ -59,6 +62,30 @@ fn is_bad(missed: bool, told: &[Told], packet: Option<&Packet>) -> bool
     missed || has_other(told) || is_scrambled(packet)
 }
 
+/// Sees what the next slot is read as, and leaves in `told` what it tells.
+#[inline(always)]
+fn see(
+    sections: &mut SectionReader,
+    packet: Option<&Packet>,
+    told: &mut Vec<Told>,
+) -> Result<(), AllocError>
+    ensures seen { OnOk result ((slots : List (List ℕ)) (slot : List ℕ) (pid : ℕ)
+        → sections.old ≡ reader_on pid (packets_in slots) → IsReadAs slot (option_map (λ p. p.now) packet.entry)
+        → sections.new ≡ reader_on pid (packets_in (slots ++ slot ∷ []))) }
+    ensures told { OnOk result ((slots : List (List ℕ)) (slot : List ℕ) (pid : ℕ)
+        → sections.old ≡ reader_on pid (packets_in slots) → IsReadAs slot (option_map (λ p. p.now) packet.entry)
+        → sections_on pid (packets_in (slots ++ slot ∷ []))
+        ≡ sections_on pid (packets_in slots) ++ filter_map section_in told.new.items) }
+{
+    match packet {
+        Some(packet) => sections.push(packet, told),
+        None => {
+            told.clear();
+            Ok(())
+        }
+    }
+}
+
 /// What a slot tells of the PAT.
 #[derive(Clone, Copy, Debug, PartialEq, Eq)]
 pub struct PatSeen {
@@ -73,7 +100,7 @@ pub struct PatSeen {
 #[derive(Drop)]
 pub struct PatWatch {
     alloc: Global,
-    sections: SectionWatch,
+    sections: SectionReader,
     gap: GapWatch,
     marked: bool,
     programs: ProgramRows,
@@ -89,7 +116,6 @@ impl Model for PatWatch {
 
 impl PatWatch {
     ghost use Rattle.std.specs.Prelude.{◌≡◌, [], ◌∷◌, ◌++◌, ℕ, List, length, true, false, option_map, OnOk, IfOk};
-    ghost use Rattle.analyse.specs.SlotReading.{IsReadAs};
     ghost use Rattle.analyse.specs.PatWatching.{HasSeenPat};
     ghost use Rattle.analyse.specs.Faults.{is_pat_bad_at};
     ghost use Rattle.analyse.specs.InForce.{program_rows_behind};
@@ -102,7 +128,7 @@ impl PatWatch {
     {
         PatWatch {
             alloc,
-            sections: SectionWatch::new(0x0000),
+            sections: SectionReader::new(0x0000),
             gap: GapWatch::new(limit),
             marked: true,
             programs: ProgramRows::new(alloc),
@@ -135,7 +161,7 @@ impl PatWatch {
         let missed = self.gap.push(count, true, self.marked);
         // Let go with this slot.
         let mut told = Vec::new(self.alloc);
-        self.sections.see(packet, &mut told)?;
+        see(&mut self.sections, packet, &mut told)?;
         let programs = self.programs.push(&told)?;
         self.marked = programs.came;
         Ok(PatSeen {

@@ -48,7 +48,7 @@ impl PmtWatch {
     ghost use Rattle.tables.specs.Pmt.{PmtValue};
     ghost use Rattle.analyse.specs.SlotReading.{IsReadAs};
     ghost use Rattle.analyse.specs.Faults.{completes, pmts_of};
-    ghost use Rattle.analyse.specs.SectionWatching.{is_on};
+    ghost use Rattle.tables.specs.SectionReading.{is_on};
     ghost use Rattle.analyse.specs.ToldPmts.{pmt_in, pmts_in, is_pmt_in};
     ghost use Rattle.analyse.specs.PmtWatching.{new_pmt_watch, pids_kept, KeepsNewest, HasSeenPmts};
     ghost use Rattle.analyse.specs.Quiet.{LeavesPmt};

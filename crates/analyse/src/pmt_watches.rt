@@ -3,16 +3,15 @@
 ghost use Rattle.std.specs.Prelude.{◌≡◌, ◌∷◌, ◌++◌, [], ◌+◌, ℕ, List, length, Some, true, false, IfOk, OnOk};
 ghost use Rattle.analyse.specs.SlotReading.{IsReadAs};
 ghost use Rattle.analyse.specs.Faults.{completes, pmts_of};
-ghost use Rattle.analyse.specs.SectionWatching.{is_on};
+ghost use Rattle.tables.specs.SectionReading.{is_on};
 ghost use Rattle.analyse.specs.PmtWatching.{HasSeenPmts, new_pmt_watch, state_of, boxed_state};
 
 use crate::pmt_watch::PmtWatch;
 use crate::table_seen::TableSeen;
-use crate::watched_pids::PID_COUNT;
 use section::Told;
 use std::alloc::{AllocError, Global};
 use std::marker::Model;
-use tspkt::Packet;
+use tspkt::{PID_COUNT, Packet};
 
 /// A watch that has seen no packet. An `Err` is want of memory.
 #[inline(never)]
@@ -61,7 +60,7 @@ pub struct PmtWatches {
 }
 
 impl Model for PmtWatches {
-    ghost use Rattle.analyse.specs.declared.watched_pids.TheConstants.{PID_COUNT};
+    ghost use Rattle.tspkt.specs.declared.packet.TheConstants.{PID_COUNT};
     ghost use Rattle.std.specs.Prelude.{◌≡◌, List, Option, length, map};
     ghost use Rattle.analyse.specs.PmtWatching.{PmtState, boxed_state};
 

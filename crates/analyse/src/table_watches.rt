@@ -2,7 +2,7 @@
 
 ghost use Rattle.std.specs.Prelude.{◌≡◌, ◌<◌, ◌&&◌, ℕ, option_map};
 ghost use Rattle.std.specs.Option.{ForSome};
-ghost use Rattle.analyse.specs.declared.watched_pids.TheConstants.{PID_COUNT};
+ghost use Rattle.tspkt.specs.declared.packet.TheConstants.{PID_COUNT};
 ghost use Rattle.analyse.specs.GapsWatching.{is_of_packet, HasChanged};
 ghost use Rattle.analyse.specs.TablesWatching.{scrambled_pid, watched_only};
 ghost use Rattle.analyse.specs.WatchedPids.{is_pmt_pid_of, is_referred_of};

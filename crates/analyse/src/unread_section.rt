@@ -5,6 +5,7 @@ ghost use Rattle.section.specs.Section.{section_length_of};
 ghost use Rattle.section.specs.Assembled.{has_pointer};
 ghost use Rattle.analyse.specs.UnreadSections.{Lacks};
 
+use section::MAX_SECTION_LENGTH;
 use std::marker::Model;
 use tspkt::Packet;
 
@@ -13,9 +14,6 @@ const PMT_TABLE_ID: u8 = 0x02;
 
 /// Where a table_id would stand: no section begins here, nor behind it.
 const STUFFING: u8 = 0xFF;
-
-/// The most that section_length may be.
-const MAX_SECTION_LENGTH: usize = 1021;
 
 /// The number of bytes behind the third.
 #[tactic(auto, using(section::proofs::SectionLaws::section_length_at))]

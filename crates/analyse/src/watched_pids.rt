@@ -7,9 +7,7 @@ ghost use Rattle.analyse.specs.PmtWatching.{pids_of_program};
 
 use crate::pmt_watches::PmtWatches;
 use tables::PatRow;
-
-/// How many PIDs there are: a PID has 13 bits (ISO/IEC 13818-1, 2.4.3.2).
-pub const PID_COUNT: usize = 8192;
+use tspkt::PID_COUNT;
 
 /// No PID.
 fn no_pids() -> [bool; 8192]

@@ -1,3 +1,2 @@
-pub mod TickLaws
 pub mod KeepingLaws
 pub mod SharingLaws

@@ -248,12 +248,18 @@ impl<E: PublishingEnd> Broadcast<E> {
         self.feed.is_sealed()
     }
 
-    /// How many slots were sent. What every broadcast keeps is known with it.
-    pub fn slots(&self) -> u64
-        ensures count { result ≡ slots self.now.station.history.events }
-        ensures lawful { IsLawfulBroadcast self.now }
+    /// What every broadcast keeps.
+    pub fn known(&self)
+        ensures { IsLawfulBroadcast self.now }
     {
-        let _ = self.feed.is_sealed();
+        let _ = &self.feed;
+        self.station.known();
+    }
+
+    /// How many slots were sent.
+    pub fn slots(&self) -> u64
+        ensures { result ≡ slots self.now.station.history.events }
+    {
         self.station.slots()
     }
 

@@ -75,7 +75,7 @@ pub(crate) fn publish_on<E: PublishingEnd, R: Wait>(
         return;
     }
     append_all(feed, sent, appended);
-    // What every station keeps is known with this: what it sent is an emission of its plan.
-    let _ = station.slots();
+    // What it sent is an emission of its plan.
+    station.known();
     let _ = feed.publish(rt);
 }

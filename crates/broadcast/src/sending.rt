@@ -19,12 +19,5 @@ pub(crate) fn tick(station: &mut Station, sent: &mut Vec<Packet>) -> Sending
     ensures run { station.new.history.run ≡ station.old.history.run }
     ensures capacity { vec_capacity sent.old ≤ vec_capacity sent.new }
 {
-    let answer = station.tick();
-    if let Sending::Sent = answer {
-        let packet = station.last().unwrap();
-        let Ok(()) = sent.push(*packet) else {
-            unreachable!()
-        };
-    }
-    answer
+    station.tick_behind(sent)
 }

@@ -15,7 +15,7 @@ use std::io::{ErrorKind, Write};
 use std::sync::Wait;
 use std::thread::Threads;
 use std::time::Clock;
-use tspkt::PacketFormat;
+use tspkt::PacketSize;
 use words::{Command, LineFault, line};
 
 /// The status of a refused command line.
@@ -75,14 +75,14 @@ where
         }
         Ok(
             Command::Analyse {
-                format,
+                size,
                 rate,
                 period,
                 file,
             },
         ) => {
-            let mut analysis = StreamAnalysis::new(alloc, format, rate, period);
-            let ended = analyse(alloc, files, &mut analysis, format, file, out, err);
+            let mut analysis = StreamAnalysis::new(alloc, size, rate, period);
+            let ended = analyse(alloc, files, &mut analysis, size, file, out, err);
             (end(ended, out, err), None)
         }
         Ok(
@@ -245,13 +245,13 @@ fn check<
     Ok(strict_status(is_strict, is_sound, 0))
 }
 
-/// Reports the faults of a stream of this format, and on `err` what it looks like, where it has faults and isn't made of packets of
-/// that format.
+/// Reports the faults of a stream of this size, and on `err` what it looks like, where it has faults and isn't made of packets of
+/// that size.
 fn analyse<F: Files, O: Write, E: Write>(
     alloc: Global,
     files: &mut F,
     analysis: &mut StreamAnalysis,
-    format: PacketFormat,
+    size: PacketSize,
     name: &str,
     out: &mut O,
     err: &mut E,
@@ -264,6 +264,6 @@ fn analyse<F: Files, O: Write, E: Write>(
         return Err(CommandFault::file(alloc, name, source.cause()));
     };
     out.flush()?;
-    let _ = print_shape(name, format, source.head(), faults, err);
+    let _ = print_shape(name, size, source.head(), faults, err);
     Ok(if faults == 0 { 0 } else { TOLD })
 }

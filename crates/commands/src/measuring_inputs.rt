@@ -43,7 +43,7 @@ pub(crate) fn tell_low_leaks<F: Files, R: InputFile, E: Write>(
         if opened.length().is_some()
             && let Ok(reader) = files.reader(input.file.as_str())
         {
-            let mut reader: Metered<F::Reader> = Metered::new(alloc, input.format, reader);
+            let mut reader: Metered<F::Reader> = Metered::new(alloc, input.size, reader);
             read_on(alloc, &mut reader, BEGINNING);
             let _ = print_leaks_of(plan, number, &reader, err);
         }

@@ -51,12 +51,12 @@ pub(crate) struct Asked<'a> {
 
 /// The most bytes of an input of a run of this length.
 fn input_limit(length: RunLength) -> InputLimit
-    ensures slots { (most : ℕ) → length ≡ RunLength.Slots most → result ≡ InputLimit.OfFormat }
+    ensures slots { (most : ℕ) → length ≡ RunLength.Slots most → result ≡ InputLimit.OfSize }
     ensures all { length ≡ RunLength.All → result ≡ InputLimit.Bytes 140737488355328 }
     ensures allowed { IsAllowedLimit result }
 {
     match length {
-        RunLength::Slots(_) => InputLimit::OfFormat,
+        RunLength::Slots(_) => InputLimit::OfSize,
         RunLength::All => InputLimit::Bytes(1 << 47),
     }
 }
@@ -351,7 +351,7 @@ fn name_output<F: Files, R: InputFile>(
     let inputs = ran.plan.inputs().iter().zip(ran.summary.inputs.iter());
     for ((input, summary), reader) in inputs.zip(ran.readers.iter()) {
         if let Some(stop) = failure_of(summary.report.stopped) {
-            let (name, most) = (input.file.as_str(), limit.bytes(input.format));
+            let (name, most) = (input.file.as_str(), limit.bytes(input.size));
             return Err(stopped(alloc, name, reader, stop, most));
         }
     }

@@ -2,7 +2,6 @@
 
 ghost use Rattle.std.specs.Prelude.{◌≡◌, ◌⊎◌, ◌^◌, ◌≤◌, List, true, false, length, map, Err, IfOk, IfErr, OnOk};
 ghost use Rattle.mux.specs.declared.event.Event.{Event};
-ghost use Rattle.mux.specs.Plans.{IsMultiplexSchedule};
 ghost use Rattle.reading.specs.Failures.{FailsOnce};
 ghost use Rattle.reading.specs.InputLimit.{IsAllowed};
 ghost use Rattle.outcome.specs.Outcome.{HasRun as HasRunInThreads, FailuresAreTold};
@@ -21,7 +20,7 @@ use threaded::run_threads;
 use worker::OpenGate;
 
 /// Runs a schedule, in one thread alone if `is_serial`, and else with a thread for each input and one for the output: reads one reader an
-/// input, at most as many bytes of each as `limit` says at the input's format (up to 140,737,488,355,328), and writes the packet of
+/// input, at most as many bytes of each as `limit` says at the input's size (up to 140,737,488,355,328), and writes the packet of
 /// each slot, at most so many slots (0 to 2^40).
 ///
 /// The writer comes back, and without a fault what became of the run and the readers, in their order. `Memory` is answered where
@@ -74,13 +73,6 @@ pub(crate) fn run_schedule<
     }
 }
 
-/// What every schedule keeps.
-fn known(schedule: &Schedule)
-    ensures { IsMultiplexSchedule schedule.now }
-{
-    let _ = schedule.later_plans();
-}
-
 /// Runs a schedule with a thread for each input, whose gates never say no, and one for the output.
 fn run_in_threads<
     T: Threads + Wait + Clock + Copy + Send + Drop + 'static,
@@ -113,7 +105,7 @@ fn run_in_threads<
         ⊎ FailsOnce (W.failures writer) (W.failures result.0) }
     ensures write_failed { result.1 ≡ Err RunFault.Write → FailsOnce (W.failures writer) (W.failures result.0) }
 {
-    known(&schedule);
+    schedule.known();
     let Ok(gates) = vec![in alloc; OpenGate; readers.len()] else {
         return (writer, Err(RunFault::Memory));
     };

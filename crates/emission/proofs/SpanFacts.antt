@@ -11,7 +11,8 @@ use Rattle.rounds.specs.Rounds.{RoundsValue}
 use Rattle.plan.specs.Build.{PlanValue, IsPlan}
 use Rattle.schedule.specs.Schedule.{ScheduleValue, plan_at, number_in_slot}
 use Rattle.schedule.specs.Switches.{IsSchedule}
-use Rattle.schedule.specs.Laws.{IsBuilt, AreBuilt, IsInForce, HavePidsOneUse}
+use Rattle.plan.specs.Built.{IsBuilt}
+use Rattle.schedule.specs.Laws.{AreBuilt, IsInForce, HavePidsOneUse}
 use Rattle.emission.specs.Spans.{IsTablePidOf}
 use Rattle.emission.proofs.SlotLaws.{IsNoOther}
 use Rattle.emission.proofs.TableSlotLaws.{IsTablePid}

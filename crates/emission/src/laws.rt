@@ -12,25 +12,19 @@ use plan::Plan;
 pub fn tables_agree(plan: &Plan)
     ensures { (out : List (List ℕ)) → IsEmission plan.now out → TablesAgree plan.now out }
 {
-    // What all plans, requests and rounds keep is known with these.
-    let _ = plan.request().rate();
-    let _ = plan.rounds().rate();
+    plan.known();
 }
 
 /// Each table comes within its limit.
 pub fn tables_recur(plan: &Plan)
     ensures { (out : List (List ℕ)) → IsEmission plan.now out → TablesRecur plan.now out }
 {
-    // What all plans, requests and rounds keep is known with these.
-    let _ = plan.request().rate();
-    let _ = plan.rounds().rate();
+    plan.known();
 }
 
 /// No transport buffer of a table ever holds more than 512 bytes, though none is looked at when the packets are sent.
 pub fn table_buffers_fit(plan: &Plan)
     ensures { (out : List (List ℕ)) → IsEmission plan.now out → TableBuffersFit plan.now out }
 {
-    // What all plans, requests and rounds keep is known with these.
-    let _ = plan.request().rate();
-    let _ = plan.rounds().rate();
+    plan.known();
 }

@@ -13,7 +13,7 @@ use schedule::laws::{plans_in_force, uses_of_pids};
 pub fn one_plan_sends(plan: &Plan)
     ensures { (out : List (List ℕ)) → IsEmissionOf (single plan.now) out ↔ IsEmission plan.now out }
 {
-    let _ = plan.rate();
+    plan.known();
 }
 
 /// In each span the packets on each table's PID repeat the sections of its plan, from their beginning on, and the counters go on over
@@ -21,7 +21,7 @@ pub fn one_plan_sends(plan: &Plan)
 pub fn spans_agree(schedule: &Schedule)
     ensures { (out : List (List ℕ)) → IsEmissionOf schedule.now out → SpansAgree schedule.now out }
 {
-    let _ = schedule.later_plans();
+    schedule.known();
     plans_in_force(schedule);
     uses_of_pids(schedule);
 }
@@ -30,7 +30,7 @@ pub fn spans_agree(schedule: &Schedule)
 pub fn spans_recur(schedule: &Schedule)
     ensures { (out : List (List ℕ)) → IsEmissionOf schedule.now out → SpansRecur schedule.now out }
 {
-    let _ = schedule.later_plans();
+    schedule.known();
     plans_in_force(schedule);
     uses_of_pids(schedule);
 }
@@ -39,7 +39,7 @@ pub fn spans_recur(schedule: &Schedule)
 pub fn span_buffers_fit(schedule: &Schedule)
     ensures { (out : List (List ℕ)) → IsEmissionOf schedule.now out → SpanBuffersFit schedule.now out }
 {
-    let _ = schedule.later_plans();
+    schedule.known();
     plans_in_force(schedule);
     uses_of_pids(schedule);
 }
@@ -49,7 +49,7 @@ pub fn span_buffers_fit(schedule: &Schedule)
 pub fn streams_begin(schedule: &Schedule)
     ensures { (out : List (List ℕ)) → IsEmissionOf schedule.now out → StreamsBegin schedule.now out }
 {
-    let _ = schedule.later_plans();
+    schedule.known();
     plans_in_force(schedule);
     uses_of_pids(schedule);
 }

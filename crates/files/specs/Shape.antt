@@ -1,7 +1,8 @@
 -- What the first bytes of a stream look like (profile).
-use Rattle.std.specs.Prelude.{◌≡◌, ◌+◌, ◌*◌, ◌<◌, ◌==◌, ℕ, if◌then◌else◌, List, [], Option, Some, None, length, slice_get, Contains}
-use Rattle.tspkt.specs.declared.packet_format.PacketFormat.{PacketFormat}
-use Rattle.tspkt.specs.declared.packet_format.PacketFormat.TheVariants.{Ts188, Ts204}
+use Rattle.std.specs.Prelude.{◌≡◌, ◌<◌, ◌==◌, ℕ, true, if◌then◌else◌, List, [], Option, Some, None, length, drop, Contains}
+use Rattle.tspkt.specs.Framed.{acquires_sync}
+use Rattle.tspkt.specs.declared.packet_size.PacketSize.{PacketSize}
+use Rattle.tspkt.specs.declared.packet_size.PacketSize.TheVariants.{Ts188, Ts204}
 use Rattle.files.specs.declared.stream_shape.StreamShape.{StreamShape}
 use Rattle.files.specs.declared.stream_shape.StreamShape.TheVariants.{Empty, Packets, NoSync, OutOfStep}
 
@@ -9,21 +10,9 @@ use Rattle.files.specs.declared.stream_shape.StreamShape.TheVariants.{Empty, Pac
 abbrev pub sync_byte : ℕ
 sync_byte = 0x47
 
--- a sync byte stands here
-abbrev pub IsSync : List ℕ → ℕ → Type 0
-IsSync bytes place = slice_get bytes place ≡ Some sync_byte
-
--- five sync bytes stand so many bytes apart, the first of them here
-pub record IsInStep (bytes : List ℕ) (stride offset : ℕ) : Type 0 where
-  pub first : IsSync bytes offset
-  pub second : IsSync bytes (offset + stride)
-  pub third : IsSync bytes (offset + 2 * stride)
-  pub fourth : IsSync bytes (offset + 3 * stride)
-  pub fifth : IsSync bytes (offset + 4 * stride)
-
--- there are five packets of so many bytes
+-- there are five packets of so many bytes: five sync bytes stand as far apart somewhere
 abbrev pub HasPackets : List ℕ → ℕ → Type 0
-HasPackets bytes stride = (offset : ℕ) × IsInStep bytes stride offset
+HasPackets bytes stride = (offset : ℕ) × (acquires_sync stride (drop offset bytes) ≡ true)
 
 -- of no length below this there are five packets: of plain ones, of those with a time stamp before each, of those with 16 bytes
 -- behind each, and of those with both
@@ -40,9 +29,9 @@ LooksLike bytes (Packets stride) = HasPackets bytes stride × HasNoneBelow bytes
 LooksLike bytes NoSync = (0 < length bytes) × (Contains bytes sync_byte → ⊥)
 LooksLike bytes OutOfStep = Contains bytes sync_byte × HasNoneBelow bytes 209
 
--- the format of packets that look so; none where they are of no format, or there are none
-abbrev pub format_of : StreamShape → Option PacketFormat
-format_of (Packets length) = if length == 188 then Some Ts188 else if length == 204 then Some Ts204 else None
-format_of Empty = None
-format_of NoSync = None
-format_of OutOfStep = None
+-- the size of packets that look so; none where they are of no size, or there are none
+abbrev pub size_of : StreamShape → Option PacketSize
+size_of (Packets length) = if length == 188 then Some Ts188 else if length == 204 then Some Ts204 else None
+size_of Empty = None
+size_of NoSync = None
+size_of OutOfStep = None

@@ -47,5 +47,5 @@ pub use output_place::OutputPlace;
 pub use plan_files::{read_plan, stopped};
 pub use plan_read::{ReadPlan, open_again};
 pub use sources::Sources;
-pub use stream_shape::{StreamShape, has_format, shape_of};
+pub use stream_shape::{StreamShape, has_size, shape_of};
 pub use system_files::SystemFiles;

@@ -8,26 +8,26 @@ ghost use Rattle.plan_causes.specs.Causes.{IsCauseOf, fault_of};
 use crate::input_file::InputFile;
 use crate::kept_reader::TOO_LATE;
 use crate::pat_programs::PatPrograms;
-use crate::{CommandFault, StreamShape, has_format, shape_of};
+use crate::{CommandFault, StreamShape, has_size, shape_of};
 use acquire::Found;
 use advice::packets_rate;
 use plan_causes::{PlanCause, RowLack, ServiceNumbers, cause_of};
 use request::{PlanFault, Request, Service};
 use std::alloc::{AllocError, Global};
-use tspkt::PacketFormat;
+use tspkt::PacketSize;
 
-/// Whether programs are sought in an input that has no complete PAT and none of them, and whose first bytes aren't packets of its format.
-fn is_no_stream(found: &Found, programs: &PatPrograms, format: PacketFormat, head: &[u8]) -> bool {
+/// Whether programs are sought in an input that has no complete PAT and none of them, and whose first bytes aren't packets of its size.
+fn is_no_stream(found: &Found, programs: &PatPrograms, size: PacketSize, head: &[u8]) -> bool {
     programs.numbers.is_none()
         && !found.pmts.is_empty()
         && found.pmts.iter().all(|pmt| pmt.is_none())
-        && !has_format(head, format)
+        && !has_size(head, size)
 }
 
 /// What an input looks like, in words, and what the plan has to state where it can be read so.
 fn shape_words(alloc: Global, shape: StreamShape) -> Result<String, AllocError> {
-    match shape.format() {
-        Some(format) => format!(in alloc; "{shape}: state size = {}", format.stride()),
+    match shape.size() {
+        Some(size) => format!(in alloc; "{shape}: state size = {}", size.stride()),
         None => format!(in alloc; "{shape}"),
     }
 }
@@ -82,7 +82,7 @@ fn undescribed_words(
         return format!(in alloc; "{service}: {lack}");
     };
     let (file, program) = (&input.file, service.program);
-    let rate = packets_rate(input.format, input.rate);
+    let rate = packets_rate(input.size, input.rate);
     format!(in alloc;
         "{service}: {lack}\nffmpeg writes a file with one, and with other PIDs: ffmpeg -i '{file}' -map 0:p:{program} -c copy -copy_unknown -mpegts_service_id {program} -muxrate {rate} new.ts"
     )
@@ -123,7 +123,7 @@ fn program_words<R: InputFile>(
         .enumerate()
     {
         let head = reader.head();
-        if is_no_stream(found, programs, input.format, head) {
+        if is_no_stream(found, programs, input.size, head) {
             let (file, words) = (&input.file, shape_words(alloc, shape_of(head))?);
             return Ok(Some(format!(in alloc; "input {number}, {file}: {words}")?));
         }

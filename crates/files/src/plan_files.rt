@@ -202,8 +202,8 @@ fn read_tables<R: Source + Drop, N: Notices>(
     source: R,
 ) -> Result<(R, Option<Stop>), AllocError> {
     let mut piece = vec![in alloc; 0; PIECE]?;
-    let format = input.format;
-    let mut stream = StreamReader::new(alloc, format, source, format.limit());
+    let size = input.size;
+    let mut stream = StreamReader::new(alloc, size, source, size.limit());
     loop {
         if push_told(acquire, &mut stream)? || stream.is_over() {
             return Ok((stream.into_source(), None));
@@ -237,7 +237,7 @@ fn find<F: Sources, N: Notices>(
     let programs = PatPrograms::of(alloc, acquire.pat())?;
     match stop {
         Some(stop) if !reader.cause().is_past_kept() => {
-            Err(stopped(alloc, name, &reader, stop, input.format.limit()))
+            Err(stopped(alloc, name, &reader, stop, input.size.limit()))
         }
         _ => Ok((acquire.found(), programs, reader)),
     }

@@ -1,12 +1,12 @@
 //! What the first bytes of a stream look like.
 
 ghost use Rattle.std.specs.Prelude.{◌≤◌, ◌<◌, ◌↔◌, length, IsTrue, IfSome, unwrap_or};
-ghost use Rattle.tspkt.specs.PacketFormat.{stride_of};
-ghost use Rattle.files.specs.Shape.{IsSync, IsInStep, HasPackets, HasNoneBelow, LooksLike};
+ghost use Rattle.tspkt.specs.PacketSize.{stride_of};
+ghost use Rattle.files.specs.Shape.{HasPackets, HasNoneBelow, LooksLike};
 
 use std::fmt;
 use std::fmt::{Display, Formatter};
-use tspkt::PacketFormat;
+use tspkt::{PacketSize, acquires_sync};
 
 /// The first byte of a packet.
 const SYNC: u8 = 0x47;
@@ -24,44 +24,24 @@ pub enum StreamShape {
     OutOfStep,
 }
 
-/// Whether a sync byte stands here.
-fn is_sync(bytes: &[u8], place: usize) -> bool
-    ensures { IsTrue result ↔ IsSync bytes.now place }
-{
-    bytes.get(place) == Some(&SYNC)
-}
-
-/// Whether five sync bytes stand so many bytes apart, up to 208, the first of them here.
-fn is_in_step(bytes: &[u8], stride: usize, offset: usize) -> bool
-    requires stride { stride ≤ 208 }
-    requires offset { offset < length bytes.now }
-    ensures { IsTrue result ↔ IsInStep bytes.now stride offset }
-{
-    is_sync(bytes, offset)
-        && is_sync(bytes, offset + stride)
-        && is_sync(bytes, offset + 2 * stride)
-        && is_sync(bytes, offset + 3 * stride)
-        && is_sync(bytes, offset + 4 * stride)
-}
-
 /// Whether there are five packets of so many bytes, up to 208.
 fn has_packets(bytes: &[u8], stride: usize) -> bool
     requires { stride ≤ 208 }
     ensures { IsTrue result ↔ HasPackets bytes.now stride }
 {
     for offset in 0..bytes.len() {
-        if is_in_step(bytes, stride, offset) {
+        if acquires_sync(&bytes[offset..], stride) {
             return true;
         }
     }
     false
 }
 
-/// Whether the first bytes of a stream have five packets of this format.
-pub fn has_format(bytes: &[u8], format: PacketFormat) -> bool
-    ensures { IsTrue result ↔ HasPackets bytes.now (stride_of format) }
+/// Whether the first bytes of a stream have five packets of this size.
+pub fn has_size(bytes: &[u8], size: PacketSize) -> bool
+    ensures { IsTrue result ↔ HasPackets bytes.now (stride_of size) }
 {
-    has_packets(bytes, format.stride())
+    has_packets(bytes, size.stride())
 }
 
 /// The length of the packets, if there are five: of plain ones, of those with a time stamp before each, of those with 16 bytes
@@ -99,15 +79,15 @@ pub fn shape_of(bytes: &[u8]) -> StreamShape
 
 impl StreamShape {
     ghost use Rattle.std.specs.Prelude.{◌≡◌};
-    ghost use Rattle.files.specs.Shape.{format_of};
+    ghost use Rattle.files.specs.Shape.{size_of};
 
-    /// The format that its packets have; none where there are no packets of one.
-    pub fn format(self) -> Option<PacketFormat>
-        ensures { result ≡ format_of self }
+    /// The size that its packets have; none where there are no packets of one.
+    pub fn size(self) -> Option<PacketSize>
+        ensures { result ≡ size_of self }
     {
         match self {
-            StreamShape::Packets(188) => Some(PacketFormat::Ts188),
-            StreamShape::Packets(204) => Some(PacketFormat::Ts204),
+            StreamShape::Packets(188) => Some(PacketSize::Ts188),
+            StreamShape::Packets(204) => Some(PacketSize::Ts204),
             _ => None,
         }
     }
@@ -119,7 +99,7 @@ impl Display for StreamShape {
             StreamShape::Empty => f.write_str("it is empty"),
             StreamShape::Packets(length) => {
                 write!(f, "it looks like packets of {length} bytes")?;
-                match self.format() {
+                match self.size() {
                     Some(_) => Ok(()),
                     None => f.write_str("; they have to have 188 or 204"),
                 }

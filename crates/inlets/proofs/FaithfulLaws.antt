@@ -10,7 +10,7 @@ use Rattle.schedule.specs.Schedule.{ScheduleValue}
 use Rattle.mux.specs.declared.event.Event.{Event}
 use Rattle.mux.specs.declared.event.Event.TheVariants.{Took, Full, Early, Close, Slot, Switch}
 use Rattle.mux.specs.History.{taken, is_closed}
-use Rattle.mux.specs.Plans.{IsMultiplexSchedule}
+use Rattle.schedule.specs.Laws.{IsMultiplexSchedule}
 use Rattle.mux.specs.Lawful.{IsLawful, Closed, input_count}
 use Rattle.mux.proofs.Plans.{stream_in}
 use Rattle.mux.proofs.Force.{has_in_force}

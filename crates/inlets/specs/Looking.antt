@@ -4,7 +4,7 @@ use Rattle.tspkt.specs.declared.stamped.Stamped.{Stamped}
 use Rattle.schedule.specs.Schedule.{ScheduleValue}
 use Rattle.reading.specs.Items.{left_to_read}
 use Rattle.reading.specs.PacketReading.{HasRead, GoesOn}
-use Rattle.reading.specs.declared.packet_reader.PacketReader.{PacketReader}
+use Rattle.reading.specs.Holding.{PacketReader}
 
 -- a look among the items that were told, which reads nothing
 pub record Looks {R : Type 0} (remaining : R → Option (List ℕ)) (failures : R → ℕ) (s : ScheduleValue) (old new : PacketReader R) : Type 0 where

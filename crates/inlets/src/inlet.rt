@@ -3,7 +3,7 @@
 use port::{ArrivalKind, RingEnd};
 use reading::{Look, PacketReader, Source};
 use schedule::Schedule;
-use tspkt::Stamped;
+use tspkt::LentPacket;
 
 /// What the packets of an input come through: it shows the next one until that is taken.
 pub trait Inlet {
@@ -35,10 +35,10 @@ pub trait Inlet {
         ensures over { result ≡ Look.Over → IsOver self.new × (shown self.new ≡ None) }
         ensures stays { IsSome (shown self.old) → self.new ≡ self.old };
 
-    /// The packet that it shows.
-    fn head(&self) -> &Stamped
+    /// The packet that it shows, lent.
+    fn head(&self) -> LentPacket<'_>
         requires { IsSome (shown self.now) }
-        ensures { shown self.now ≡ Some result.now };
+        ensures { shown self.now ≡ Some result };
 
     /// Shows the packet no more that it shows.
     fn release(&mut self)
@@ -65,7 +65,7 @@ impl<R: Source> Inlet for PacketReader<R> {
         self.look(schedule)
     }
 
-    fn head(&self) -> &Stamped {
+    fn head(&self) -> LentPacket<'_> {
         self.held().unwrap()
     }
 
@@ -98,8 +98,8 @@ impl Inlet for RingEnd {
         }
     }
 
-    fn head(&self) -> &Stamped {
-        self.head()
+    fn head(&self) -> LentPacket<'_> {
+        LentPacket::of(self.head())
     }
 
     fn release(&mut self) {

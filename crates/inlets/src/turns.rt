@@ -16,7 +16,7 @@ use crate::taking::Taking;
 use mux::{Mux, Offered};
 use reading::Look;
 use schedule::Schedule;
-use tspkt::Stamped;
+use tspkt::LentPacket;
 
 /// Takes the packet of an open input that comes next, or holds it back, or closes the input, as far as its inlet shows.
 #[inline(always)]
@@ -45,7 +45,7 @@ fn give<I: Inlet>(mux: &mut Mux, number: usize, place: usize, entry: &mut Entry<
     ensures turned { IsTurned I.shown I.IsOver I.IsWaiting I.released number mux.old entry.old result mux.new entry.new }
     ensures run { mux.new.run ≡ mux.old.run }
 {
-    match offer(mux, number, place, entry.inlet.head()) {
+    match offer(mux, number, place, &entry.inlet.head()) {
         Offered::Taken => {
             entry.inlet.release();
             Taking::Took
@@ -61,7 +61,7 @@ fn give<I: Inlet>(mux: &mut Mux, number: usize, place: usize, entry: &mut Entry<
 
 /// Offers a packet of an input to the stream at this place, where it goes there, and else to that which is found.
 #[inline(always)]
-fn offer(mux: &mut Mux, number: usize, place: usize, item: &Stamped) -> Offered
+fn offer(mux: &mut Mux, number: usize, place: usize, item: &LentPacket) -> Offered
     requires { number < input_count mux.old.run.schedule }
     ensures answer { OfferAnswers mux.old number item.now result mux.new }
     ensures run { mux.new.run ≡ mux.old.run }
@@ -76,7 +76,7 @@ fn offer(mux: &mut Mux, number: usize, place: usize, item: &Stamped) -> Offered
 /// Whether a packet of an input is known to go to the stream at this place: by a schedule of one plan, where its input and its PID are
 /// those of the stream.
 #[inline(always)]
-fn goes_to(schedule: &Schedule, number: usize, place: usize, item: &Stamped) -> bool
+fn goes_to(schedule: &Schedule, number: usize, place: usize, item: &LentPacket) -> bool
     ensures { result ≡ true → (stream : Stream) × (slice_get (all_streams schedule.now) place ≡ Some stream)
         × (stream.input ≡ number) × (is_mapped_to schedule.now stream number item.now ≡ true) }
 {
@@ -84,7 +84,7 @@ fn goes_to(schedule: &Schedule, number: usize, place: usize, item: &Stamped) -> 
         return false;
     }
     match schedule.streams().get(place) {
-        Some(stream) => stream.input == number && stream.pid == item.packet.pid(),
+        Some(stream) => stream.input == number && stream.pid == item.pid(),
         None => false,
     }
 }

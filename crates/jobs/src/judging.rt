@@ -11,7 +11,7 @@ use printing::StreamAnalysis;
 use reading::ReadSource;
 use std::alloc::Global;
 use std::io::Write;
-use tspkt::PacketFormat;
+use tspkt::PacketSize;
 
 /// A multiplex of eight services.
 const SHAPE: Shape = Shape {
@@ -37,7 +37,7 @@ pub fn judge<O: Write>(
     let maker = OffAir::new(input.maker(alloc)?, Random::new(seed, 1), streams);
     let packets = SHAPE.packets_a_second().saturating_mul(seconds);
     let mut source = ReadSource::new(MadeReader::new(maker, packets));
-    let mut analysis = StreamAnalysis::new(alloc, PacketFormat::Ts188, SHAPE.rate, WATCH);
+    let mut analysis = StreamAnalysis::new(alloc, PacketSize::Ts188, SHAPE.rate, WATCH);
     let mut lines = Digest::new();
     let Ok(Some(faults)) = analysis.read(alloc, &mut source, &mut lines) else {
         bail!("the stream was not read to its end");

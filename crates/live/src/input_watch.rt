@@ -6,7 +6,7 @@ use crate::stream_counter::StreamCounter;
 use plan::Plan;
 use std::alloc::{AllocError, Global};
 use std::sync::Arc;
-use tspkt::PacketFormat;
+use tspkt::PacketSize;
 
 /// Where the reading of an input is noted: its place on a board.
 #[derive(Drop)]
@@ -25,8 +25,8 @@ impl InputWatch {
         number: usize,
     ) -> Result<InputWatch, AllocError> {
         let counter = if board.is_counted() {
-            let format = format_of(plan, number);
-            Some(StreamCounter::new(alloc, plan, number, format)?)
+            let size = size_of(plan, number);
+            Some(StreamCounter::new(alloc, plan, number, size)?)
         } else {
             None
         };
@@ -64,11 +64,11 @@ impl InputWatch {
     }
 }
 
-/// The format of the input with this number of a plan; 188 bytes where there is none.
-fn format_of(plan: &Plan, number: usize) -> PacketFormat {
+/// The size of the input with this number of a plan; 188 bytes where there is none.
+fn size_of(plan: &Plan, number: usize) -> PacketSize {
     match plan.inputs().get(number) {
-        Some(input) => input.format,
-        None => PacketFormat::Ts188,
+        Some(input) => input.size,
+        None => PacketSize::Ts188,
     }
 }
 

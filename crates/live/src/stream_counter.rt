@@ -2,7 +2,7 @@
 
 use plan::Plan;
 use std::alloc::{AllocError, Global};
-use tspkt::{Framer, Item, MAX_LIMIT, Packet, PacketFormat};
+use tspkt::{Framer, Item, MAX_LIMIT, Packet, PacketSize};
 
 /// Packets that were found in a piece of an input.
 #[derive(Clone, Copy)]
@@ -22,12 +22,12 @@ pub(crate) struct StreamCounter {
 }
 
 impl StreamCounter {
-    /// That of the input with this number, whose stream has this format, and of which nothing was read.
+    /// That of the input with this number, whose stream has this size, and of which nothing was read.
     pub fn new(
         alloc: Global,
         plan: &Plan,
         number: usize,
-        format: PacketFormat,
+        size: PacketSize,
     ) -> Result<StreamCounter, AllocError> {
         let mut pids = Vec::new(alloc);
         for stream in plan.streams() {
@@ -36,7 +36,7 @@ impl StreamCounter {
             }
         }
         Ok(StreamCounter {
-            framer: Framer::with_size(format, MAX_LIMIT),
+            framer: Framer::with_size(size, MAX_LIMIT),
             items: Vec::new(alloc),
             pids,
         })

@@ -1,6 +1,6 @@
 -- Sources whose bytes a meter sees (profile).
 use Rattle.std.specs.Prelude.{◌≡◌, ℕ, List, map, Option, Some, None, IfSome, slice_get}
-use Rattle.tspkt.specs.declared.packet_format.PacketFormat.{PacketFormat}
+use Rattle.tspkt.specs.declared.packet_size.PacketSize.{PacketSize}
 use Rattle.request.specs.Request.{InputValue}
 use Rattle.plan.specs.Build.{PlanValue}
 use Rattle.rate_meter.specs.Meter.{new_meter, shown_piece}
@@ -15,18 +15,18 @@ source_of m = m.source
 abbrev pub meter_of : {R M : Type 0} → Metered R M → Option M
 meter_of m = m.meter
 
--- its meter, where there is one, was shown nothing of a stream of this format
-abbrev pub IsNewMeter : {R M : Type 0} → (M → Shown) → PacketFormat → Metered R M → Type 0
-IsNewMeter shown format m = IfSome m.meter (λ meter. shown meter ≡ (new_meter format).shown)
+-- its meter, where there is one, was shown nothing of a stream of this size
+abbrev pub IsNewMeter : {R M : Type 0} → (M → Shown) → PacketSize → Metered R M → Type 0
+IsNewMeter shown size m = IfSome m.meter (λ meter. shown meter ≡ (new_meter size).shown)
 
 -- how the packets of a plan's inputs follow one another
-abbrev pub formats_of : PlanValue → List PacketFormat
-formats_of p = map (λ (i : InputValue). i.format) p.request.inputs
+abbrev pub sizes_of : PlanValue → List PacketSize
+sizes_of p = map (λ (i : InputValue). i.size) p.request.inputs
 
--- those of a plan's inputs, in their order, each of its input's format
+-- those of a plan's inputs, in their order, each of its input's size
 abbrev pub AreNewMeters : {R M : Type 0} → (M → Shown) → PlanValue → List (Metered R M) → Type 0
-AreNewMeters {R} {M} shown p all = (i : ℕ) (format : PacketFormat) (m : Metered R M) → slice_get (formats_of p) i ≡ Some format
-    → slice_get all i ≡ Some m → IsNewMeter shown format m
+AreNewMeters {R} {M} shown p all = (i : ℕ) (size : PacketSize) (m : Metered R M) → slice_get (sizes_of p) i ≡ Some size
+    → slice_get all i ≡ Some m → IsNewMeter shown size m
 
 -- the bytes that it will give, where they are known
 abbrev pub metered_remaining : {R M : Type 0} → (R → Option (List ℕ)) → Metered R M → Option (List ℕ)

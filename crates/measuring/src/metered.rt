@@ -1,7 +1,7 @@
 //! A source that is measured.
 
 ghost use Rattle.std.specs.Prelude.{◌≡◌, ◌<◌, length, map, slice_get, Some, IfOk};
-ghost use Rattle.measuring.specs.Metering.{AreNewMeters, formats_of, source_of};
+ghost use Rattle.measuring.specs.Metering.{AreNewMeters, sizes_of, source_of};
 
 use files::{FileCause, FileIdentity, InputFile};
 use plan::Plan;
@@ -9,7 +9,7 @@ use rate_meter::{Measured, Meter, RateMeter};
 use reading::Source;
 use std::alloc::{AllocError, Global};
 use std::io;
-use tspkt::PacketFormat;
+use tspkt::PacketSize;
 
 /// A source, and a meter that sees the bytes that are read from it. Without memory for a meter it is read all the same.
 #[derive(Drop)]
@@ -22,14 +22,14 @@ impl<R, M: Meter> Metered<R, M> {
     ghost use Rattle.std.specs.Prelude.{◌≡◌, option_copied};
     ghost use Rattle.measuring.specs.Metering.{IsNewMeter, source_of, meter_of};
 
-    /// One of which nothing was read, and whose stream has this format.
-    pub fn new(alloc: Global, format: PacketFormat, source: R) -> Metered<R, M>
+    /// One of which nothing was read, and whose stream has this size.
+    pub fn new(alloc: Global, size: PacketSize, source: R) -> Metered<R, M>
         ensures source { source_of result ≡ source }
-        ensures meter { IsNewMeter M.shown format result }
+        ensures meter { IsNewMeter M.shown size result }
     {
         Metered {
             source,
-            meter: M::new(alloc, format).ok(),
+            meter: M::new(alloc, size).ok(),
         }
     }
 
@@ -96,15 +96,15 @@ impl<R: InputFile, M: Meter> InputFile for Metered<R, M> {
 }
 
 /// How the packets of the input with this number of a plan follow one another.
-fn format_at(plan: &Plan, number: usize) -> PacketFormat
+fn size_at(plan: &Plan, number: usize) -> PacketSize
     requires { number < length plan.now.request.inputs }
-    ensures { slice_get (formats_of plan.now) number ≡ Some result }
+    ensures { slice_get (sizes_of plan.now) number ≡ Some result }
 {
     let input = &plan.inputs()[number];
-    input.format
+    input.size
 }
 
-/// Each of these sources, those of a plan's inputs in their order, with a meter of its input's format.
+/// Each of these sources, those of a plan's inputs in their order, with a meter of its input's size.
 pub fn with_meters<R: Drop, M: Meter + Drop>(
     alloc: Global,
     plan: &Plan,
@@ -117,8 +117,8 @@ pub fn with_meters<R: Drop, M: Meter + Drop>(
 {
     let mut all = Vec::new(alloc);
     for source in sources {
-        let format = format_at(plan, all.len());
-        all.push(Metered::new(alloc, format, source))?;
+        let size = size_at(plan, all.len());
+        all.push(Metered::new(alloc, size, source))?;
     }
     Ok(all)
 }

@@ -91,7 +91,7 @@ fn print_filling<R, M: Meter, E: Write>(
         return Ok(());
     };
     let fastest = meter.fastest(measured.pid).unwrap_or(measured.rate);
-    let rate = packets_rate(input.format, fastest);
+    let rate = packets_rate(input.size, fastest);
     let (file, filled) = (&input.file, rate.saturating_add(rate / 10));
     writeln!(
         err,
@@ -169,7 +169,7 @@ fn print_unmeasured<R: InputFile, M: Meter, E: Write>(
 /// The rate of a stream of a plan, in bits a second, by what its input's reader measured; none where that isn't known.
 fn rate_in<R, M: Meter>(plan: &Plan, reader: &Metered<R, M>, stream: &Stream) -> Option<u64> {
     let input = plan.inputs().get(stream.input)?;
-    let rate = packets_rate(input.format, reader.measured()?.rate);
+    let rate = packets_rate(input.size, reader.measured()?.rate);
     Some(reader.meter()?.pid_rate(rate, stream.pid))
 }
 

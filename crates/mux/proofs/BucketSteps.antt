@@ -18,7 +18,7 @@ use Rattle.emission.specs.TableBuffers.{BufferFits}
 use Rattle.emission.proofs.StreamBufferLaws.{stream_level_none, stream_fits_none, stream_level_sent, stream_level_idle, stream_fits_sent, stream_fits_idle, has_room-fits}
 use Rattle.mux.specs.declared.content.Content.TheVariants.{Elementary, Table}
 use Rattle.mux.specs.declared.event.Event.{Event}
-use Rattle.mux.specs.Plans.{IsMultiplexSchedule}
+use Rattle.schedule.specs.Laws.{IsMultiplexSchedule}
 use Rattle.mux.specs.History.{queue, slots, emitted, packet_behind, sent_packet}
 use Rattle.mux.specs.Lawful.{IsLawful, IsContent, Fits}
 use Rattle.mux.specs.Headline.{IsLevelOf}

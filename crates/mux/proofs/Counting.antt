@@ -15,7 +15,7 @@ use Rattle.mux.specs.declared.event.Event.TheVariants.{Took, Full, Early, Close,
 use Rattle.plan.specs.Build.{PlanValue}
 use Rattle.buffers.specs.QueueValue.{QueueValue}
 use Rattle.schedule.specs.Schedule.{SpanValue, ScheduleValue, plan_at}
-use Rattle.mux.specs.Plans.{IsMultiplexSchedule}
+use Rattle.schedule.specs.Laws.{IsMultiplexSchedule}
 use Rattle.mux.specs.History.{has_stream, in_force, plan_in_force, is_mapped_to, taken, taken_for, sent, unsent, queue, dropped, slots}
 use Rattle.mux.specs.declared.counts.Counts.{Counts}
 use Rattle.mux.specs.Totals.{contents, is_table, is_elementary, is_null, is_of_input, queued, dropped_of, IsCounts}

@@ -12,7 +12,7 @@ use Rattle.mux.specs.declared.event.Event.{Event}
 use Rattle.mux.specs.declared.event.Event.TheVariants.{Took, Full, Early, Close, Slot, Switch}
 use Rattle.schedule.specs.Schedule.{ScheduleValue, span_at, plan_at, number_for, number_in_slot, slot_time}
 use Rattle.schedule.proofs.ForceLaws as spans
-use Rattle.mux.specs.Plans.{IsMultiplexSchedule}
+use Rattle.schedule.specs.Laws.{IsMultiplexSchedule}
 use Rattle.mux.specs.History.{has_stream, in_force, plan_in_force, is_mapped_to, taken, taken_for, sent, queue, slots, last_stamp, is_closed, full_noted, early_noted}
 use Rattle.mux.specs.Lawful.{IsLawful, IsDone, AllReady, input_count}
 use Rattle.mux.specs.Faithful.{PacketLists, IsFaithful, OutputIsUnique}

@@ -12,7 +12,7 @@ use Rattle.mux.specs.declared.event.Event.TheVariants.{Took, Full, Early, Close,
 use Rattle.schedule.specs.Schedule.{SpanValue, ScheduleValue, span_at, number_in_slot, slot_time}
 use Rattle.schedule.specs.Switches.{SlotsFollow}
 use Rattle.schedule.proofs.ForceLaws.{in_span, later_at}
-use Rattle.mux.specs.Plans.{IsMultiplexSchedule}
+use Rattle.schedule.specs.Laws.{IsMultiplexSchedule}
 use Rattle.mux.specs.History.{in_force, plan_in_force, slots}
 use Rattle.mux.specs.Lawful.{begins_at, is_switch_due, IsLawful}
 use Rattle.mux.proofs.Plans.{Has, has_in_plan, first_request}

@@ -1,5 +1,5 @@
 -- The head of a queue that goes out.
-use Rattle.std.proofs.Common.{ℕ, ◌-◌, ◌≡◌, ◌≤◌, List, get_or, Option, Some, None, Bor, rules, sym, ap, ◌∙◌}
+use Rattle.std.proofs.Common.{ℕ, ◌≡◌, ◌≤◌, List, get_or, Option, Some, None, Bor, rules, sym, ap, ◌∙◌}
 use Rattle.std.specs.Prelude.{IsSome, option_copied}
 use Rattle.std.specs.List.{slice_get}
 use Rattle.tspkt.specs.declared.stamped.Stamped.{Stamped}
@@ -8,12 +8,7 @@ use Rattle.buffers.specs.QueueValue.{QueueValue}
 use Rattle.mux.specs.declared.content.Content.TheVariants.{Elementary}
 use Rattle.mux.specs.declared.event.Event.{Event}
 use Rattle.mux.specs.declared.input_state.InputState.{InputState}
-use Rattle.std.proofs.lemmas.Option.{same_Some}
-use Rattle.mux.specs.History.{Run, History, slots, emitted}
-use Rattle.mux.specs.Answers.{SendAnswers, SlotAnswers}
-use Rattle.mux.specs.declared.sending.Sending.TheVariants as sending
-use Rattle.mux.specs.declared.slot.Slot.TheVariants as slot
-use Rattle.mux.proofs.Emitted.{last_sent}
+use Rattle.mux.specs.History.{Run, slots}
 use Rattle.mux.specs.Lawful.{IsContent}
 use Rattle.mux.specs.Keeping.{AgreesWith, queue_of}
 use Rattle.mux.proofs.Contents.{stream_choice}
@@ -45,10 +40,3 @@ goes_next {r} {h} kept k st q at q_at content =
       head = ap (λ (x : QueueValue). slice_get x.items 0) q_is ∙ chosen.1.head;
       due = chosen.1.due;
     }
-
--- what `send_next` answers, with the packet that is lent behind it, is what `slot` answers
-pub lent_last : (old new : History) (o : Option (Bor (List ℕ))) (r : Bor (List ℕ)) → SendAnswers old sending.Sent new → o ≡ Some r
-    → option_copied o ≡ slice_get (emitted new.run.schedule new.events) (slots new.events - 1) → SlotAnswers old (slot.Sent r.now) new
-lent_last old new o r answer is last =
-    let sent = answer.1 in
-    (answer.0, (sent.0, sent.1, (sent.2, same_Some _ _ (sym (copied_is o r _ is last) ∙ last_sent old new answer))))

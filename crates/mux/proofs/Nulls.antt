@@ -23,7 +23,7 @@ use Rattle.mux.specs.declared.content.Content.{Content}
 use Rattle.mux.specs.declared.content.Content.TheVariants.{Null, Elementary, Table}
 use Rattle.mux.specs.declared.event.Event.{Event}
 use Rattle.mux.specs.declared.event.Event.TheVariants.{Took, Full, Early, Close, Slot, Switch}
-use Rattle.mux.specs.Plans.{IsMultiplexSchedule}
+use Rattle.schedule.specs.Laws.{IsMultiplexSchedule}
 use Rattle.mux.specs.History.{in_force, slots, emitted, packet_behind}
 use Rattle.mux.specs.Lawful.{IsLawful, IsContent, IsEligible}
 use Rattle.mux.specs.Headline.{NullsAreNeeded}

@@ -16,7 +16,7 @@ use Rattle.mux.specs.declared.content.Content.TheVariants.{Null, Elementary, Tab
 use Rattle.mux.specs.declared.event.Event.{Event}
 use Rattle.mux.specs.declared.event.Event.TheVariants.{Took, Full, Early, Close, Slot, Switch}
 use Rattle.schedule.specs.Schedule.{SpanValue, ScheduleValue, span_at, number_in_slot, slot_time}
-use Rattle.mux.specs.Plans.{IsMultiplexSchedule}
+use Rattle.schedule.specs.Laws.{IsMultiplexSchedule}
 use Rattle.mux.specs.History.{in_force, plan_in_force, is_mapped_to, taken_for, sent, queue, emitted, packet_behind}
 use Rattle.mux.specs.Lawful.{table_due, IsLawful, IsContent, MaySend}
 use Rattle.emission.proofs.RecurrenceLaws.{last_behind}

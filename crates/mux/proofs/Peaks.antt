@@ -13,7 +13,7 @@ use Rattle.mux.specs.declared.content.Content.TheVariants.{Null, Elementary, Tab
 use Rattle.mux.specs.declared.event.Event.{Event}
 use Rattle.mux.specs.declared.event.Event.TheVariants.{Took, Full, Early, Close, Slot, Switch}
 use Rattle.mux.specs.declared.peak.Peak.{Peak}
-use Rattle.mux.specs.Plans.{IsMultiplexSchedule}
+use Rattle.schedule.specs.Laws.{IsMultiplexSchedule}
 use Rattle.mux.specs.History.{has_stream, plan_in_force, taken_for, sent, queue, slots, is_of_stream}
 use Rattle.mux.specs.Lawful.{IsLawful, MaySwitch}
 use Rattle.mux.specs.Keeping.{queue_of, largest, peak_of, no_peak, KeepsPeaks}

@@ -10,7 +10,8 @@ use Rattle.request.specs.declared.stream.Stream.{Stream}
 use Rattle.request.specs.Request.{InputValue, IsRequest, IsStream}
 use Rattle.schedule.specs.Schedule.{ScheduleValue, plan_at}
 use Rattle.schedule.specs.Switches.{IsSchedule}
-use Rattle.schedule.specs.Laws.{IsBuilt, AreBuilt}
+use Rattle.plan.specs.Built.{IsBuilt}
+use Rattle.schedule.specs.Laws.{AreBuilt, IsMultiplexSchedule}
 use Rattle.schedule.specs.Streams.{all_streams, place_of, AreStreamsOf, ArePlaces}
 use Rattle.schedule.proofs.FindLaws.{are_places}
 use Rattle.schedule.proofs.ListLaws.{place_is}
@@ -20,7 +21,6 @@ use Rattle.schedule.proofs.StreamLaws.{have_one_use}
 use Rattle.schedule.proofs.PidLaws.{are_one, is_one}
 use Rattle.schedule.proofs.ForceLaws as force
 use Rattle.emission.proofs.SpanFacts.{IsKnown}
-use Rattle.mux.specs.Plans.{IsMultiplexSchedule}
 use Rattle.mux.specs.History.{has_stream}
 use Rattle.mux.specs.Lawful.{input_count}
 

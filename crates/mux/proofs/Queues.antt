@@ -11,7 +11,7 @@ use Rattle.mux.specs.declared.event.Event.{Event}
 use Rattle.mux.specs.declared.event.Event.TheVariants.{Took, Full, Early, Close, Slot, Switch}
 use Rattle.buffers.specs.QueueValue.{QueueValue}
 use Rattle.schedule.specs.Schedule.{ScheduleValue, plan_at, number_for}
-use Rattle.mux.specs.Plans.{IsMultiplexSchedule}
+use Rattle.schedule.specs.Laws.{IsMultiplexSchedule}
 use Rattle.mux.specs.History.{has_stream, in_force, plan_in_force, is_mapped_to, taken_for, sent, unsent, queue, is_of_stream}
 use Rattle.mux.specs.Lawful.{is_queue_full, IsLawful}
 use Rattle.mux.specs.Keeping.{queue_of}

@@ -1,5 +1,5 @@
 -- Why an item is refused, and what holds where it isn't.
-use Rattle.std.proofs.Common.{ℕ, ◌≤◌, ◌≡◌, ◌&&◌, Bool, true, false, cond, not, ltb, nat_eq, List, length, get_or, Some, None, ◌⊎◌, inl, inr, refl, ap, ◌∙◌, sym}
+use Rattle.std.proofs.Common.{ℕ, ◌≤◌, ◌≡◌, ◌&&◌, Bool, true, false, cond, not, ltb, nat_eq, List, length, get_or, Some, None, ◌⊎◌, inl, inr, refl, ap, ◌∙◌, sym, subst}
 use Rattle.std.specs.List.{slice_get, Contains}
 use Rattle.std.specs.Prelude.{Option, IfSome, IfNone}
 use Rattle.std.proofs.lemmas.Bool.{cases_Bool, and_parts, and_from, eqb-true, eq-eqb, ltb-false, false≢true, false_from_ne_true}
@@ -12,9 +12,9 @@ use Rattle.schedule.specs.Schedule.{ScheduleValue, plan_for, number_for}
 use Rattle.schedule.specs.Streams.{all_streams, scheduled_place}
 use Rattle.schedule.proofs.ForceLaws.{number_within}
 use Rattle.mux.specs.declared.event.Event.{Event}
-use Rattle.mux.specs.Plans.{IsMultiplexSchedule}
+use Rattle.schedule.specs.Laws.{IsMultiplexSchedule}
 use Rattle.mux.specs.History.{has_stream, in_force, is_mapped_to, queue, last_stamp, is_closed}
-use Rattle.mux.specs.Lawful.{Closed, Stranger, Backward, Early, Full, is_mapped, is_early, is_queue_full, refusal_of, MayTake}
+use Rattle.mux.specs.Lawful.{Refusal, Closed, Stranger, Backward, Early, Full, is_mapped, is_early, is_queue_full, refusal_of, MayTake}
 use Rattle.mux.proofs.Plans.{IsAt, Has, in_plan, of_plan, has_in_plan, one_source, places_of}
 
 -- an item of a stream is of its input and PID, and the plan that it belongs to has the stream
@@ -55,21 +55,33 @@ pub record IsTakenFor (s : ScheduleValue) (h : List Event) (i : ℕ) (item : Sta
   pub begun : number_for s item.stamp ≤ in_force h
   pub not_full : length (queue s st h) ≡ s.first.request.queue → ⊥
 
--- the tests of the chain, where it has no answer
-no_answer : (a b c d e : Bool) → cond a (Some Closed) (cond (not b) (Some Stranger) (cond c (Some Backward) (cond d (Some Early) (cond e (Some Full) None)))) ≡ None
-    → (a ≡ false) × (b ≡ true) × (c ≡ false) × (d ≡ false) × (e ≡ false)
-no_answer true b c d e h = cc
-no_answer false false c d e h = cc
-no_answer false true true d e h = cc
-no_answer false true false true e h = cc
-no_answer false true false false true h = cc
-no_answer false true false false false h = (refl, refl, refl, refl, refl)
+-- what an answer of the chain says of its tests
+abbrev pub Says : Option Refusal → Bool → Bool → Bool → Bool → Bool → Type 0
+Says (Some Closed) closed mapped backward early full = closed ≡ true
+Says (Some Stranger) closed mapped backward early full = mapped ≡ false
+Says (Some Backward) closed mapped backward early full = backward ≡ true
+Says (Some Early) closed mapped backward early full = early ≡ true
+Says (Some Full) closed mapped backward early full = (closed ≡ false) × (full ≡ true)
+Says None closed mapped backward early full = (closed ≡ false) × (mapped ≡ true) × (backward ≡ false) × (early ≡ false) × (full ≡ false)
+
+says : (a b c d e : Bool) → Says (cond a (Some Closed) (cond (not b) (Some Stranger) (cond c (Some Backward) (cond d (Some Early) (cond e (Some Full) None))))) a b c d e
+says true b c d e = refl
+says false false c d e = refl
+says false true true d e = refl
+says false true false true e = refl
+says false true false false true = (refl, refl)
+says false true false false false = (refl, refl, refl, refl, refl)
+
+pub tests_of : (s : ScheduleValue) (h : List Event) (i : ℕ) (item : Stamped) (answer : Option Refusal) → refusal_of s h i item ≡ answer
+    → Says answer (is_closed i h) (is_mapped s i item) (ltb item.stamp (last_stamp i h)) (is_early s h item) (is_queue_full s h i item)
+unfolding refusal_of
+tests_of s h i item answer e =
+    let P : Option Refusal → Type 0 = λ v. Says v (is_closed i h) (is_mapped s i item) (ltb item.stamp (last_stamp i h)) (is_early s h item) (is_queue_full s h i item) in
+    subst P e (says (is_closed i h) (is_mapped s i item) (ltb item.stamp (last_stamp i h)) (is_early s h item) (is_queue_full s h i item))
 
 unrefused_parts : (s : ScheduleValue) (h : List Event) (i : ℕ) (item : Stamped) → refusal_of s h i item ≡ None
     → (is_closed i h ≡ false) × (is_mapped s i item ≡ true) × (ltb item.stamp (last_stamp i h) ≡ false) × (is_early s h item ≡ false) × (is_queue_full s h i item ≡ false)
-unfolding refusal_of
-unrefused_parts s h i item e =
-    no_answer (is_closed i h) (is_mapped s i item) (ltb item.stamp (last_stamp i h)) (is_early s h item) (is_queue_full s h i item) e
+unrefused_parts s h i item e = tests_of s h i item None e
 
 -- a full queue at a place
 pub full_at : (s : ScheduleValue) (h : List Event) (i : ℕ) (item : Stamped) (k : ℕ) (st : Stream) → IsMultiplexSchedule s → IsAt s k st → is_mapped_to s st i item ≡ true
@@ -184,18 +196,8 @@ none_or_full s h i item a b c d =
       | inr room ↦ inl (is_unrefused s h i item a b c d room)
     ]
 
-full_answer : (a b c d e : Bool) → cond a (Some Closed) (cond (not b) (Some Stranger) (cond c (Some Backward) (cond d (Some Early) (cond e (Some Full) None)))) ≡ Some Full
-    → (a ≡ false) × (e ≡ true)
-full_answer true b c d e is = cc
-full_answer false false c d e is = cc
-full_answer false true true d e is = cc
-full_answer false true false true e is = cc
-full_answer false true false false true is = (refl, refl)
-full_answer false true false false false is = cc
-
 full_parts : (s : ScheduleValue) (h : List Event) (i : ℕ) (item : Stamped) → refusal_of s h i item ≡ Some Full → (is_closed i h ≡ false) × (is_queue_full s h i item ≡ true)
-unfolding refusal_of
-full_parts s h i item e = full_answer (is_closed i h) (is_mapped s i item) (ltb item.stamp (last_stamp i h)) (is_early s h item) (is_queue_full s h i item) e
+full_parts s h i item e = tests_of s h i item (Some Full) e
 
 pub open_of : (s : ScheduleValue) (h : List Event) (i : ℕ) (item : Stamped) → (refusal_of s h i item ≡ None) ⊎ (refusal_of s h i item ≡ Some Full) → is_closed i h ≡ false
 open_of s h i item (inl none) = (unrefused_parts s h i item none).0
@@ -211,16 +213,6 @@ pub room_unrefused : (s : ScheduleValue) (h : List Event) (i : ℕ) (item : Stam
 room_unrefused s h i item k st ok at mapped (inl none) room = none
 room_unrefused s h i item k st ok at mapped (inr full) room = absurd (false≢true (sym (not_full_at s h i item k st ok at mapped room) ∙ (full_parts s h i item full).1))
 
--- the answer of the chain says what its test said
-early_answer : (a b c d e : Bool) → cond a (Some Closed) (cond (not b) (Some Stranger) (cond c (Some Backward) (cond d (Some Early) (cond e (Some Full) None)))) ≡ Some Early → d ≡ true
-early_answer true b c d e is = cc
-early_answer false false c d e is = cc
-early_answer false true true d e is = cc
-early_answer false true false true e is = refl
-early_answer false true false false true is = cc
-early_answer false true false false false is = cc
-
 -- what is refused as early is
 pub early_of : (s : ScheduleValue) (h : List Event) (i : ℕ) (item : Stamped) → refusal_of s h i item ≡ Some Early → is_early s h item ≡ true
-unfolding refusal_of
-early_of s h i item e = early_answer (is_closed i h) (is_mapped s i item) (ltb item.stamp (last_stamp i h)) (is_early s h item) (is_queue_full s h i item) e
+early_of s h i item e = tests_of s h i item (Some Early) e

@@ -13,7 +13,7 @@ use Rattle.mux.specs.declared.event.Event.{Event}
 use Rattle.mux.specs.declared.event.Event.TheVariants.{Took, Full, Early, Close, Slot, Switch}
 use Rattle.schedule.specs.Schedule.{ScheduleValue, span_at, plan_at, plan_for, number_for, number_in_slot, slot_time}
 use Rattle.emission.specs.Spans.{table_in}
-use Rattle.mux.specs.Plans.{IsMultiplexSchedule}
+use Rattle.schedule.specs.Laws.{IsMultiplexSchedule}
 use Rattle.mux.specs.History.{has_stream, in_force, plan_in_force, is_mapped_to, taken, taken_for, sent, queue, is_of_stream, slots, last_stamp, is_closed, full_noted, early_noted, emitted, packet_behind, sent_packet}
 use Rattle.mux.specs.Lawful.{IsLawful, IsEligible, IsChoice, IsContent, IsContentAt, AllReady, is_ready, table_due}
 use Rattle.mux.specs.Faithful.{PacketLists, IsNext, IsFaithful, IsPrefix, OutputsAgree}

@@ -17,7 +17,7 @@ use Rattle.buffers.specs.QueueValue.{QueueValue}
 use Rattle.buffers.specs.BucketValue.{BucketValue}
 use Rattle.rounds.specs.Turn.{TurnValue}
 use Rattle.rounds.specs.declared.table_place.TablePlace.{TablePlace}
-use Rattle.mux.specs.Plans.{IsMultiplexSchedule}
+use Rattle.schedule.specs.Laws.{IsMultiplexSchedule}
 use Rattle.mux.specs.SlotClock.{ClockValue, advanced}
 use Rattle.mux.specs.History.{Run, in_force, plan_in_force, has_stream, slots, full_noted, early_noted, emitted, packet_behind, sent_packet}
 use Rattle.mux.specs.declared.counts.Counts.{Counts}

@@ -6,7 +6,7 @@ use Rattle.std.proofs.lemmas.Option.{slice_get-get_or}
 use Rattle.schedule.specs.Schedule.{SpanValue, ScheduleValue, span_at, number_for, slot_time}
 use Rattle.schedule.proofs.ForceLaws.{belongs, later_at, slots_ascend}
 use Rattle.mux.specs.declared.span.Span.{Span}
-use Rattle.mux.specs.Plans.{IsMultiplexSchedule}
+use Rattle.schedule.specs.Laws.{IsMultiplexSchedule}
 use Rattle.mux.specs.Lawful.{begins_at}
 use Rattle.mux.specs.Keeping.{IsSpanOf, slot_or_last, time_or_last, begin_of}
 use Rattle.mux.proofs.Force.{later_slot, rate_above_0}

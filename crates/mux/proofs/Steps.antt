@@ -16,7 +16,7 @@ use Rattle.buffers.specs.QueueValue.{QueueValue}
 use Rattle.buffers.specs.BucketValue.{BucketValue}
 use Rattle.rounds.specs.Turn.{TurnValue}
 use Rattle.mux.specs.declared.mux.TheConstants.{MAX_SLOTS}
-use Rattle.mux.specs.Plans.{IsMultiplexSchedule}
+use Rattle.schedule.specs.Laws.{IsMultiplexSchedule}
 use Rattle.mux.specs.SlotClock.{ClockValue, clock_at}
 use Rattle.mux.specs.History.{Run, in_force, plan_in_force, has_stream, slots, last_stamp, is_closed, full_noted, early_noted, emitted}
 use Rattle.mux.specs.declared.counts.Counts.{Counts}

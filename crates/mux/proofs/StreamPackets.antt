@@ -16,7 +16,7 @@ use Rattle.emission.proofs.ApartLaws as apart
 use Rattle.mux.specs.declared.content.Content.TheVariants.{Elementary, Table}
 use Rattle.mux.specs.declared.event.Event.{Event}
 use Rattle.mux.specs.declared.event.Event.TheVariants.{Took, Full, Early, Close, Slot, Switch}
-use Rattle.mux.specs.Plans.{IsMultiplexSchedule}
+use Rattle.schedule.specs.Laws.{IsMultiplexSchedule}
 use Rattle.mux.specs.History.{in_force, is_mapped_to, taken_for, sent, unsent, queue, slots, emitted, packet_behind, sent_packet}
 use Rattle.mux.specs.Lawful.{IsLawful, IsContent}
 use Rattle.mux.proofs.Contents.{table_turn}

@@ -17,7 +17,7 @@ use Rattle.mux.specs.declared.input_state.InputState.{InputState}
 use Rattle.buffers.specs.QueueValue.{QueueValue}
 use Rattle.buffers.specs.BucketValue.{BucketValue}
 use Rattle.rounds.specs.Turn.{TurnValue}
-use Rattle.mux.specs.Plans.{IsMultiplexSchedule}
+use Rattle.schedule.specs.Laws.{IsMultiplexSchedule}
 use Rattle.mux.specs.SlotClock.{ClockValue}
 use Rattle.mux.specs.History.{Run, in_force, has_stream, slots, last_stamp, full_noted, early_noted}
 use Rattle.mux.specs.declared.counts.Counts.{Counts}

@@ -1,5 +1,5 @@
 -- What `offer`, `take`, `send_next` and `slot` answer, and the history that they leave (profile).
-use Rattle.std.specs.Prelude.{ℕ, List, ◌≡◌, ◌+◌, ◌<◌, ◌≤◌, ◌⊎◌, true, false, IsTrue, if◌then◌else◌, length, Some, None, Contains}
+use Rattle.std.specs.Prelude.{ℕ, List, [], ◌∷◌, ◌++◌, ◌≡◌, ◌+◌, ◌<◌, ◌≤◌, ◌⊎◌, true, false, IsTrue, if◌then◌else◌, length, Some, None, Contains}
 use Rattle.tspkt.specs.declared.stamped.Stamped.{Stamped}
 use Rattle.request.specs.declared.stream.Stream.{Stream}
 use Rattle.mux.specs.declared.event.Event.TheVariants as events
@@ -77,6 +77,10 @@ abbrev pub SendsContent : History → Content → History → List ℕ → Type 
 SendsContent h c new packet =
     (new ≡ with_event h (events.Slot c)) × (packet ≡ packet_behind h.run.schedule h.events (emitted h.run.schedule h.events) c)
 
+-- that packet goes out behind those before
+abbrev pub GoesOut : History → Content → List (List ℕ) → List (List ℕ) → Type 0
+GoesOut h c before after = after ≡ before ++ packet_behind h.run.schedule h.events (emitted h.run.schedule h.events) c ∷ []
+
 -- what `slot` answers and leaves: as `send_next`, and the packet that is sent, for which it may want memory once all inputs are ready
 abbrev pub SlotAnswers : History → Slot → History → Type 0
 SlotAnswers h slot.Done new = SendAnswers h sending.Done new
@@ -87,3 +91,9 @@ SlotAnswers h slot.Memory new =
     (new ≡ h) × IsRunning h × IsUnswitched h × AllReady h.run.schedule h.events
 SlotAnswers h (slot.Sent packet) new =
     IsRunning h × ((c : Content) × MaySend h.run.schedule h.events c × SendsContent h c new packet)
+
+-- The slot that was sent had this packet, which went out behind those before.
+pub record SendsOn (old new : History) (before after : List (List ℕ)) : Type 0 where
+  pub packet : List ℕ
+  pub behind : after ≡ before ++ packet ∷ []
+  pub slot : SlotAnswers old (slot.Sent packet) new

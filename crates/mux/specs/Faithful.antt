@@ -7,7 +7,7 @@ use Rattle.tspkt.specs.declared.stamped.Stamped.{Stamped}
 use Rattle.mux.specs.declared.event.Event.{Event}
 use Rattle.mux.specs.declared.event.Event.TheVariants.{Took, Full, Early, Close, Slot, Switch}
 use Rattle.schedule.specs.Schedule.{ScheduleValue}
-use Rattle.mux.specs.Plans.{IsMultiplexSchedule}
+use Rattle.schedule.specs.Laws.{IsMultiplexSchedule}
 use Rattle.mux.specs.History.{History, Run, with_event, all_events, Open, Then, is_mapped_to, taken, emitted, slots}
 use Rattle.mux.specs.Lawful.{is_early, IsLawful, IsDone}
 

@@ -19,7 +19,7 @@ use Rattle.buffers.specs.Level.{bytes_of_set, IsLevel}
 use Rattle.mux.specs.declared.content.Content.{Content}
 use Rattle.mux.specs.declared.event.Event.{Event}
 use Rattle.mux.specs.declared.event.Event.TheVariants.{Slot}
-use Rattle.mux.specs.Plans.{IsMultiplexSchedule}
+use Rattle.schedule.specs.Laws.{IsMultiplexSchedule}
 use Rattle.mux.specs.History.{History, taken_for, sent, queue, dropped, slots, emitted}
 use Rattle.mux.specs.Lawful.{IsLawfulRun, IsEligible}
 

@@ -14,7 +14,7 @@ use Rattle.mux.specs.SlotClock.{ClockValue, clock_at}
 use Rattle.schedule.specs.Schedule.{SpanValue, ScheduleValue, span_at, slot_time}
 use Rattle.schedule.specs.Streams.{all_streams}
 use Rattle.emission.specs.Spans.{slot_in_span}
-use Rattle.mux.specs.Plans.{IsMultiplexSchedule}
+use Rattle.schedule.specs.Laws.{IsMultiplexSchedule}
 use Rattle.mux.specs.History.{Run, in_force, queue, slots, last_stamp, is_closed, full_noted, early_noted, emitted}
 use Rattle.mux.specs.declared.counts.Counts.{Counts}
 use Rattle.mux.specs.Totals.{contents, is_of_input, is_elementary, is_table, is_null, dropped_of, told}

@@ -1,4 +1,3 @@
-pub mod Plans
 pub mod History
 pub mod Lawful
 pub mod Answers

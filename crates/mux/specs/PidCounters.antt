@@ -3,11 +3,11 @@
 use Rattle.std.specs.Prelude.{ℕ, ◌+◌, ◌%◌, List, length, map, slice_index, slice_set}
 use Rattle.std.specs.List.{range_with_len}
 use Rattle.emission.specs.Emission.{of_pid}
-use Rattle.mux.specs.declared.pid_counters.TheConstants.{PIDS}
+use Rattle.tspkt.specs.declared.packet.TheConstants.{PID_COUNT}
 
 -- for each PID how many of these packets it has, modulo 16
 abbrev pub counters_of : List (List ℕ) → List ℕ
-counters_of packets = map (λ pid. length (of_pid pid packets) % 16) (range_with_len 0 PIDS)
+counters_of packets = map (λ pid. length (of_pid pid packets) % 16) (range_with_len 0 PID_COUNT)
 
 -- one more packet of a PID
 abbrev pub counted : List ℕ → ℕ → List ℕ

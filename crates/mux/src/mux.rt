@@ -1,12 +1,13 @@
 //! The multiplex: its state, and what it tells of it.
 
-ghost use Rattle.std.specs.Prelude.{◌≡◌, ◌-◌, ◌^◌, ◌<◌, ◌≤◌, [], map, false, IfOk, Some, length, option_copied};
+ghost use Rattle.std.specs.Prelude.{◌≡◌, ◌^◌, ◌<◌, ◌≤◌, [], map, false, IfOk, Some, length};
 ghost use Rattle.std.specs.List.{range_with_len, slice_get};
 ghost use Rattle.request.specs.declared.stream.Stream.{Stream};
 ghost use Rattle.mux.specs.declared.event.Event.{Event};
 ghost use Rattle.schedule.specs.Streams.{all_streams};
-ghost use Rattle.mux.specs.History.{opened, in_force, plan_in_force, slots, emitted};
-ghost use Rattle.mux.specs.Lawful.{input_count};
+ghost use Rattle.mux.specs.History.{opened, in_force, plan_in_force, slots};
+ghost use Rattle.schedule.specs.Laws.{IsMultiplexSchedule};
+ghost use Rattle.mux.specs.Lawful.{IsLawful, input_count};
 ghost use Rattle.mux.specs.Totals.{told, IsTotals, IsCounts};
 ghost use Rattle.mux.specs.Headline.{IsSound, IsLevelOf};
 ghost use Rattle.mux.specs.Peaks.{IsPeak};
@@ -35,7 +36,6 @@ use rounds::TableTurn;
 use schedule::Schedule;
 use std::alloc::{AllocError, Global};
 use std::marker::Model;
-use tspkt::Packet;
 
 /// The greatest number of slots of a run: 2^40. A week at 100,000,000 bits a second has 40,212,765,958 slots.
 pub const MAX_SLOTS: u64 = 1_099_511_627_776;
@@ -157,10 +157,9 @@ impl Mux {
         requires { slots ≤ 2 ^ 40 }
         ensures { IfOk result (λ m. m ≡ opened schedule slots) }
     {
-        let _ = schedule.later_plans();
+        schedule.known();
         let plan = schedule.plan(0);
-        let _ = plan.request().rate();
-        let _ = plan.rounds().rate();
+        plan.known();
         let streams = schedule.streams();
         let turn = TableTurn::new(plan.rounds());
         let inputs = new_states(alloc, plan.inputs().len())?;
@@ -213,21 +212,20 @@ impl Mux {
         self.schedule.plan(self.in_force())
     }
 
-    /// How many slots were sent. What every multiplex keeps is known with it.
-    pub fn slots(&self) -> u64
-        ensures count { result ≡ slots self.now.events }
+    /// What every multiplex keeps of its schedule and its history, and what holds of all that went out of it.
+    pub fn known(&self)
+        ensures schedule { IsMultiplexSchedule self.now.run.schedule }
+        ensures lawful { IsLawful self.now.run.schedule self.now.events }
         ensures sound { IsSound self.now }
     {
         self.output.known();
-        self.progress.slot()
     }
 
-    /// The packet of the slot that was sent last, lent; none where none was sent.
-    pub fn last(&self) -> Option<&Packet>
-        ensures { option_copied result
-            ≡ slice_get (emitted self.now.run.schedule self.now.events) (slots self.now.events - 1) }
+    /// How many slots were sent.
+    pub fn slots(&self) -> u64
+        ensures { result ≡ slots self.now.events }
     {
-        self.output.last()
+        self.progress.slot()
     }
 
     /// What became of the packets of an input.

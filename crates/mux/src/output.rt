@@ -1,25 +1,20 @@
 //! The packets that went out.
 
-ghost use Rattle.std.specs.Prelude.{◌≡◌, ◌<◌, ◌-◌, ◌++◌, ◌∷◌, [], ◌%◌, ◌^◌, length, option_copied, IfOk, All};
+ghost use Rattle.std.specs.Prelude.{◌≡◌, ◌<◌, ◌++◌, ◌∷◌, [], ◌%◌, length, IfOk, All};
 ghost use Rattle.tspkt.specs.Packet.{IsPacket, null_packet};
-ghost use Rattle.tspkt.specs.Rewritten.{rewritten};
-ghost use Rattle.std.specs.List.{slice_get};
 ghost use Rattle.emission.specs.Emission.{of_pid};
 
-use crate::last_sent::LastSent;
 use crate::pid_counters::PidCounters;
 use past::Past;
 use std::alloc::{AllocError, Global};
 use std::marker::Model;
 use tspkt::{Packet, null};
 
-/// The packets that went out, one a slot, oldest first. Of these only the last lies here, and the counters that come next.
+/// The packets that went out, one a slot, oldest first. None of them lies here: only the counters that come next.
 #[derive(Drop)]
 pub(crate) struct Output {
     sent: Past<Packet>,
-    /// Which packet went out last: a null slot copies none, and another is written where the one before it stood.
-    kind: LastSent,
-    other: Packet,
+    /// What a slot carries that has nothing else.
     null: Packet,
     counters: PidCounters,
 }
@@ -28,14 +23,13 @@ impl Model for Output {
     ghost use Rattle.std.specs.Prelude.{ℕ, List, reverse};
     ghost use Rattle.std.specs.Prelude.{◌≡◌};
     ghost use Rattle.tspkt.specs.Packet.{null_packet};
-    ghost use Rattle.mux.specs.Output.{IsOutput, last_sent};
+    ghost use Rattle.mux.specs.Output.{IsOutput};
 
     ghost Value = { List (List ℕ) };
 
     ghost view = { λ o. reverse o.sent };
 
-    ghost invariant = { λ o. IsOutput (reverse o.sent) (last_sent o.kind o.null o.other) o.counters
-        × (o.null ≡ null_packet) };
+    ghost invariant = { λ o. IsOutput (reverse o.sent) o.counters × (o.null ≡ null_packet) };
 }
 
 impl Output {
@@ -45,8 +39,6 @@ impl Output {
     {
         Ok(Output {
             sent: Past::new(),
-            kind: LastSent::Nothing,
-            other: null(),
             null: null(),
             counters: PidCounters::new(alloc)?,
         })
@@ -59,15 +51,11 @@ impl Output {
         let _ = &self.sent;
     }
 
-    /// The packet that went out last.
-    pub fn last(&self) -> Option<&Packet>
-        ensures { option_copied result ≡ slice_get self.now (length self.now - 1) }
+    /// The null packet.
+    pub fn null(&self) -> &Packet
+        ensures { result.now ≡ null_packet }
     {
-        match self.kind {
-            LastSent::Nothing => None,
-            LastSent::Null => Some(&self.null),
-            LastSent::Other => Some(&self.other),
-        }
+        &self.null
     }
 
     /// The continuity counter that the next packet of a PID gets: how many it had, modulo 16.
@@ -79,36 +67,12 @@ impl Output {
         self.counters.next(pid)
     }
 
-    /// One more packet goes out.
-    pub fn push(&mut self, packet: Packet)
-        ensures { self.new ≡ self.old ++ packet ∷ [] }
+    /// One more packet went out.
+    pub fn push(&mut self, packet: &Packet)
+        ensures { self.new ≡ self.old ++ packet.now ∷ [] }
     {
-        let _ = packet.bytes();
+        packet.known();
         self.counters.count(packet.pid());
-        self.sent.add(packet);
-        self.other = packet;
-        self.kind = LastSent::Other;
-    }
-
-    /// A packet goes out that was put on another PID, and later by a delay in ticks of 27 MHz. It is copied once.
-    pub fn push_rewritten(&mut self, packet: &Packet, pid: u16, delay: u64)
-        requires { pid < 2 ^ 13 }
-        ensures { self.new ≡ self.old ++ rewritten packet.now pid delay ∷ [] }
-    {
-        self.other.set_rewritten(packet, pid, delay);
-        let _ = self.other.bytes();
-        self.counters.count(self.other.pid());
-        self.sent.add(self.other);
-        self.kind = LastSent::Other;
-    }
-
-    /// A null packet goes out.
-    pub fn push_null(&mut self)
-        ensures { self.new ≡ self.old ++ null_packet ∷ [] }
-    {
-        let _ = self.null.bytes();
-        self.counters.count(self.null.pid());
-        self.sent.add(self.null);
-        self.kind = LastSent::Null;
+        self.sent.add(*packet);
     }
 }

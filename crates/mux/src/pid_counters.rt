@@ -5,9 +5,7 @@ ghost use Rattle.mux.specs.PidCounters.{counted};
 
 use std::alloc::{AllocError, Global};
 use std::marker::Model;
-
-/// How many PIDs there are: a PID has 13 bits (ISO/IEC 13818-1, 2.4.3.2).
-const PIDS: usize = 8_192;
+use tspkt::PID_COUNT;
 
 /// For each PID the continuity counter that its next packet gets, 0 to 15.
 #[derive(Drop)]
@@ -16,29 +14,29 @@ pub(crate) struct PidCounters {
 }
 
 impl Model for PidCounters {
-    ghost use Rattle.mux.specs.declared.pid_counters.TheConstants.{PIDS};
+    ghost use Rattle.tspkt.specs.declared.packet.TheConstants.{PID_COUNT};
     ghost use Rattle.std.specs.Prelude.{ℕ, List, ◌≡◌, ◌<◌, length, All};
 
     ghost Value = { List ℕ };
 
     ghost view = { λ c. c.next.items };
 
-    ghost invariant = { λ c. (length c.next.items ≡ PIDS) × All (λ n. n < 16) c.next.items };
+    ghost invariant = { λ c. (length c.next.items ≡ PID_COUNT) × All (λ n. n < 16) c.next.items };
 }
 
 impl PidCounters {
     /// All counters are 0.
     pub fn new(alloc: Global) -> Result<PidCounters, AllocError>
-        ensures { IfOk result (λ c. c ≡ replicate PIDS 0) }
+        ensures { IfOk result (λ c. c ≡ replicate PID_COUNT 0) }
     {
         Ok(PidCounters {
-            next: vec![in alloc; 0; PIDS]?,
+            next: vec![in alloc; 0; PID_COUNT]?,
         })
     }
 
     /// The counter that the next packet of a PID gets.
     pub fn next(&self, pid: u16) -> u8
-        requires { pid < PIDS }
+        requires { pid < PID_COUNT }
         ensures value { result ≡ slice_index self.now pid }
         ensures within { result < 16 }
     {
@@ -47,7 +45,7 @@ impl PidCounters {
 
     /// A packet of this PID goes out.
     pub fn count(&mut self, pid: u16)
-        requires { pid < PIDS }
+        requires { pid < PID_COUNT }
         ensures { self.new ≡ counted self.old pid }
     {
         let next = &mut self.next[usize::from(pid)];

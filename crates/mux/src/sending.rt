@@ -1,7 +1,6 @@
 //! What `send_next` answers.
 
-/// What became of a slot. `Sent` and `Switched` alone change the multiplex; after `Sent` it lends the packet
-/// as its last.
+/// What became of a slot. `Sent` and `Switched` alone change the multiplex.
 #[derive(Clone, Copy, Debug, PartialEq, Eq)]
 pub enum Sending {
     /// A packet was sent.

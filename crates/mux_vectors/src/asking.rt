@@ -8,10 +8,10 @@ ghost use Rattle.mux.specs.Lawful.{input_count};
 
 use crate::item::{Item, stamped};
 use anyhow::{Result, bail};
-use mux::{Counts, Mux, Offered, Peak, Sending, Slot, Taken, Totals};
+use mux::{Counts, Mux, Offered, OnePacket, Peak, Sending, Slot, Taken, Totals};
 use schedule::Schedule;
 use std::alloc::Global;
-use tspkt::Packet;
+use tspkt::{LentPacket, Packet};
 
 /// The most slots of a multiplex here.
 const MOST_SLOTS: u64 = 1_000_000;
@@ -49,7 +49,7 @@ pub fn offer(mux: &mut Mux, input: usize, item: Item) -> Result<Offered> {
     if !has_input(mux, input) {
         bail!("no such input");
     }
-    Ok(mux.offer(input, &item))
+    Ok(mux.offer(input, &LentPacket::of(&item)))
 }
 
 /// How many of so many packets are taken until one isn't, one behind the other, each so much later.
@@ -84,9 +84,11 @@ pub fn close(mux: &mut Mux, input: usize) -> Result<()> {
     Ok(())
 }
 
-/// Sends the next slot.
-pub fn send(mux: &mut Mux) -> Sending {
-    mux.send_next()
+/// Sends the next slot, and has a copy of its packet.
+pub fn send(mux: &mut Mux) -> (Sending, Option<Packet>) {
+    let mut place = OnePacket::new();
+    let answer = mux.send_next(&mut place);
+    (answer, place.get().copied())
 }
 
 /// Sends the next slot, and has its packet.
@@ -97,11 +99,6 @@ pub fn slot(mux: &mut Mux) -> Slot {
 /// How many slots there were.
 pub fn slots(mux: &Mux) -> u64 {
     mux.slots()
-}
-
-/// The packet of the last slot.
-pub fn last(mux: &Mux) -> Option<Packet> {
-    mux.last().copied()
 }
 
 /// What the slots carried.

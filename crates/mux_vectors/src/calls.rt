@@ -120,7 +120,6 @@ fn of_packets<W: Write>(mux: &mut Mux, call: &str, numbers: &[u64], out: &mut W)
 /// Prints what another call answers.
 fn of_counts<W: Write>(mux: &Mux, call: &str, numbers: &[u64], out: &mut W) -> Result<()> {
     match call {
-        "last" => driving::last(mux, out),
         "counts" => driving::counts(mux, out),
         "totals" => driving::totals(mux, count_at(numbers, 0)?, out),
         "level" => driving::level(mux, count_at(numbers, 0)?, out),

@@ -69,8 +69,8 @@ pub fn close<W: Write>(mux: &mut Mux, input: usize, out: &mut W) -> Result<()> {
 /// `send`: the next slot.
 pub fn send<W: Write>(mux: &mut Mux, out: &mut W) -> Result<()> {
     match asking::send(mux) {
-        Sending::Sent => last(mux, out)?,
-        answer => write!(out, "{answer:?}")?,
+        (Sending::Sent, Some(packet)) => print_packet(&packet, out)?,
+        (answer, _) => write!(out, "{answer:?}")?,
     }
     Ok(())
 }
@@ -109,15 +109,6 @@ pub fn slots<W: Write>(mux: &mut Mux, count: u64, out: &mut W) -> Result<()> {
         if print_slot(mux, between, out)? {
             between = ", ";
         }
-    }
-    Ok(())
-}
-
-/// `last`: the packet of the last slot.
-pub fn last<W: Write>(mux: &Mux, out: &mut W) -> Result<()> {
-    match asking::last(mux) {
-        Some(packet) => print_packet(&packet, out)?,
-        None => write!(out, "nothing")?,
     }
     Ok(())
 }

@@ -12,7 +12,7 @@ use Rattle.schedule.specs.Schedule.{ScheduleValue}
 use Rattle.mux.specs.declared.event.Event.{Event}
 use Rattle.mux.specs.History.{taken, is_closed}
 use Rattle.mux.specs.Lawful.{IsLawful}
-use Rattle.mux.specs.Plans.{IsMultiplexSchedule}
+use Rattle.schedule.specs.Laws.{IsMultiplexSchedule}
 use Rattle.mux.specs.Faithful.{PacketLists, IsFaithful, IsPrefix}
 use Rattle.reading.specs.InputLimit.{limit_of_input}
 use Rattle.reading.specs.Takeable.{origin_of, framed_at, takeable}
@@ -124,7 +124,7 @@ pub record CameOf (limit : InputLimit) (p : ScheduleValue) (h : List Event) (sta
   pub start : Option (List ℕ)
   pub left : Option (List ℕ)
   pub report : Report
-  pub served : IsServed (limit_of_input limit input.format) p h i (origin_of i input) start left report
+  pub served : IsServed (limit_of_input limit input.size) p h i (origin_of i input) start left report
   pub start_is : slice_get starts i ≡ Some start
   pub left_is : slice_get lefts i ≡ Some left
   pub told : IsToldStop (slice_get stops i) report.stopped
@@ -168,13 +168,13 @@ module _ (limit : InputLimit) (p : ScheduleValue) (h : List Event) (starts lefts
   gives_at i inside =
       let x = came_at i inside in
       let b = known x.start (are i x.start x.start_is) in
-      gives_open (limit_of_input limit (input_at i inside).0.format) p h i (input_at i inside).0 x.start x.left x.report x.served starts lefts stops b.0 (input_at i inside).1 x.start_is b.1 x.left_is x.told x.wanted
+      gives_open (limit_of_input limit (input_at i inside).0.size) p h i (input_at i inside).0 x.start x.left x.report x.served starts lefts stops b.0 (input_at i inside).1 x.start_is b.1 x.left_is x.told x.wanted
 
   taken_at : (i : ℕ) (inside : i < length p.first.request.inputs) → IsTakenOf p h i (list_at i inside)
   taken_at i inside =
       let x = came_at i inside in
       let b = known x.start (are i x.start x.start_is) in
-      taken_of (limit_of_input limit (input_at i inside).0.format) p h i (input_at i inside).0 x.start x.left x.report x.served starts lefts stops b.0 (input_at i inside).1 x.start_is b.1
+      taken_of (limit_of_input limit (input_at i inside).0.size) p h i (input_at i inside).0 x.start x.left x.report x.served starts lefts stops b.0 (input_at i inside).1 x.start_is b.1
 
   all_give : (i : ℕ) → GivesOpen p h starts lefts stops i (lists i)
   all_give i = elim (cases_lt i (length p.first.request.inputs)) as (λ c. GivesOpen p h starts lefts stops i (pick (length p.first.request.inputs) list_at (packet_lists p starts) i c)) [

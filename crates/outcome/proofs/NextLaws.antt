@@ -10,7 +10,7 @@ use Rattle.schedule.specs.Streams.{scheduled_place}
 use Rattle.mux.specs.declared.event.Event.{Event}
 use Rattle.mux.specs.declared.event.Event.TheVariants.{Took, Full, Early, Close, Slot, Switch}
 use Rattle.mux.specs.History.{taken, last_stamp}
-use Rattle.mux.specs.Plans.{IsMultiplexSchedule}
+use Rattle.schedule.specs.Laws.{IsMultiplexSchedule}
 use Rattle.mux.specs.Lawful.{is_mapped}
 use Rattle.mux.proofs.Plans.{places_of, of_plan}
 use Rattle.mux.proofs.Refusals.{goes_from, mapped_at}

@@ -12,9 +12,9 @@ use Rattle.tspkt.specs.declared.item.Item.{Item}
 use Rattle.tspkt.specs.declared.item.Item.TheVariants.{Packet, Bad, SyncLoss, Lost}
 use Rattle.tspkt.specs.declared.mode.Mode.{Mode}
 use Rattle.tspkt.specs.declared.mode.Mode.TheVariants.{Hunting, Synced}
-use Rattle.tspkt.specs.PacketFormat.{stride_of}
-use Rattle.tspkt.specs.declared.packet_format.PacketFormat.{PacketFormat}
-use Rattle.tspkt.specs.declared.packet_format.PacketFormat.TheVariants.{Ts188, Ts204}
+use Rattle.tspkt.specs.PacketSize.{stride_of}
+use Rattle.tspkt.specs.declared.packet_size.PacketSize.{PacketSize}
+use Rattle.tspkt.specs.declared.packet_size.PacketSize.TheVariants.{Ts188, Ts204}
 use Rattle.tspkt.specs.declared.stamped.Stamped.{Stamped}
 use Rattle.schedule.specs.Schedule.{ScheduleValue}
 use Rattle.reading.specs.Takeable.{OriginValue, stride_at, framed_at, takeable, stamp_at, is_well_formed, is_named}
@@ -122,7 +122,7 @@ weigh schedule origin stride (SyncLoss place ∷ items) = let rest = weigh sched
 weigh schedule origin stride (Lost count ∷ items) = let rest = weigh schedule origin stride items in omega (arith, rest, sum_by-cons (covered stride) (Lost count) items)
 
 -- a packet has room between one and the next
-long_enough : (format : PacketFormat) → 188 ≤ stride_of format
+long_enough : (size : PacketSize) → 188 ≤ stride_of size
 long_enough Ts188 = omega arith
 long_enough Ts204 = omega arith
 
@@ -130,13 +130,13 @@ pub are_few : PacketsAreFew
 are_few schedule origin bytes =
     let stride = stride_at origin in
     let weight = weigh schedule origin stride (framed_at origin bytes) in
-    let covers = covered-framed stride bytes (long_enough origin.format) in
+    let covers = covered-framed stride bytes (long_enough origin.size) in
     omega (arith, weight, covers.no_more)
 
 -- so few are no more than the bytes
-fewer_than : (format : PacketFormat) (count size : ℕ) → stride_of format * count ≤ size + (stride_of format - 188) → count ≤ size
-fewer_than Ts188 count size few = omega (arith, few)
-fewer_than Ts204 count size few = omega (arith, few)
+fewer_than : (size : PacketSize) (count bytes : ℕ) → stride_of size * count ≤ bytes + (stride_of size - 188) → count ≤ bytes
+fewer_than Ts188 count bytes few = omega (arith, few)
+fewer_than Ts204 count bytes few = omega (arith, few)
 
 pub fewer_than_bytes : (schedule : ScheduleValue) (origin : OriginValue) (bytes : List ℕ) → length (takeable schedule origin (framed_at origin bytes)) ≤ length bytes
-fewer_than_bytes schedule origin bytes = fewer_than origin.format (length (takeable schedule origin (framed_at origin bytes))) (length bytes) (are_few schedule origin bytes)
+fewer_than_bytes schedule origin bytes = fewer_than origin.size (length (takeable schedule origin (framed_at origin bytes))) (length bytes) (are_few schedule origin bytes)

@@ -49,7 +49,7 @@ pub record IsReadAt {R T : Type 0} (remaining : R → Option (List ℕ)) (failur
   pub end : Ended T
   pub end_is : slice_get ended i ≡ Some end
   pub closed : end.is_closed ≡ is_closed i h
-  pub served : IsServed (limit_of_input limit input.format) p h i (origin_of i input) (remaining reader) (remaining (reader_of end.lent)) end.report
+  pub served : IsServed (limit_of_input limit input.size) p h i (origin_of i input) (remaining reader) (remaining (reader_of end.lent)) end.report
   pub told : IsFailureTold failures reader (reader_of end.lent) end.report.stopped
 
 -- the same of all inputs
@@ -85,22 +85,22 @@ module _ {R T : Type 0} (remaining : R → Option (List ℕ)) (failures : R → 
       let x = each i input at in
       let r = from_map remaining readers i (Some all) start in
       let same : r.0 ≡ x.reader = same_Some r.0 x.reader (sym r.1 ∙ x.reader_is) in
-      taken_begun (limit_of_input limit input.format) p h i (origin_of i input) (remaining x.reader) (remaining (reader_of x.end.lent)) x.end.report x.served all (ap remaining (sym same) ∙ r.2)
+      taken_begun (limit_of_input limit input.size) p h i (origin_of i input) (remaining x.reader) (remaining (reader_of x.end.lent)) x.end.report x.served all (ap remaining (sym same) ∙ r.2)
 
   is_left : (i : ℕ) (input : InputValue) (old : R) (left : R × Option Stop) → slice_get p.first.request.inputs i ≡ Some input → slice_get readers i ≡ Some old → slice_get (map (left_of reader_of) ended) i ≡ Some left
-      → IsLeft remaining failures (limit_of_input limit input.format) p h i input old left
+      → IsLeft remaining failures (limit_of_input limit input.size) p h i input old left
   is_left i input old left at from to =
       let x = each i input at in
       let one : Ended T → R × Option Stop = left_of reader_of in
       let l = from_map one ended i left to in
       let same : x.end ≡ l.0 = same_Some x.end l.0 (sym x.end_is ∙ l.1) in
-      let O : R → Type 0 = λ v. IsLeft remaining failures (limit_of_input limit input.format) p h i input v left in
-      let L : R × Option Stop → Type 0 = λ v. IsLeft remaining failures (limit_of_input limit input.format) p h i input x.reader v in
+      let O : R → Type 0 = λ v. IsLeft remaining failures (limit_of_input limit input.size) p h i input v left in
+      let L : R × Option Stop → Type 0 = λ v. IsLeft remaining failures (limit_of_input limit input.size) p h i input x.reader v in
       subst O (same_Some x.reader old (sym x.reader_is ∙ from)) (subst L (ap one same ∙ l.2)
       (record {
         bytes = x.served.bytes;
         read = x.served.read;
-        begins = taken_begins (limit_of_input limit input.format) p h i (origin_of i input) (remaining x.reader) (remaining (reader_of x.end.lent)) x.end.report x.served;
+        begins = taken_begins (limit_of_input limit input.size) p h i (origin_of i input) (remaining x.reader) (remaining (reader_of x.end.lent)) x.end.report x.served;
         told = x.told;
         too_much = x.served.too_much;
         within = x.served.within;
@@ -154,14 +154,14 @@ module _ {R T : Type 0} (remaining : R → Option (List ℕ)) (failures : R → 
       (input.0, t, same_Some t.told s (sym t.told_is ∙ at))
 
   summary_at : HadMemory ended → (i : ℕ) (input : InputValue) (start : Option (List ℕ)) (s : InputSummary) → slice_get p.first.request.inputs i ≡ Some input → slice_get (map remaining readers) i ≡ Some start → slice_get summaries i ≡ Some s
-      → IsInputSummary (limit_of_input limit input.format) p h i input start s
+      → IsInputSummary (limit_of_input limit input.size) p h i input start s
   summary_at had i input start s at from told =
       let t = told_at i input at in
       let x = t.x in
       let first : remaining x.reader ≡ start = same_Some (remaining x.reader) start (sym t.start_is ∙ from) in
       let mine : t.told ≡ s = same_Some t.told s (sym t.told_is ∙ told) in
-      subst (λ (v : Option (List ℕ) × InputSummary). IsInputSummary (limit_of_input limit input.format) p h i input v.0 v.1) (λ k. (first k, mine k))
-      (input_summary (limit_of_input limit input.format) p h i input (remaining x.reader) (remaining (reader_of x.end.lent)) x.end.report t.told x.served t.last (had i x.end x.end_is) t.totals)
+      subst (λ (v : Option (List ℕ) × InputSummary). IsInputSummary (limit_of_input limit input.size) p h i input v.0 v.1) (λ k. (first k, mine k))
+      (input_summary (limit_of_input limit input.size) p h i input (remaining x.reader) (remaining (reader_of x.end.lent)) x.end.report t.told x.served t.last (had i x.end x.end_is) t.totals)
 
   all_read_on : AreReadOn limit p h (map remaining readers) (map (λ l. remaining (reader_of l)) lent) summaries
   all_read_on i input start left s at from to told =
@@ -170,8 +170,8 @@ module _ {R T : Type 0} (remaining : R → Option (List ℕ)) (failures : R → 
       let first : remaining x.reader ≡ start = same_Some (remaining x.reader) start (sym t.start_is ∙ from) in
       let last : remaining (reader_of x.end.lent) ≡ left = same_Some (remaining (reader_of x.end.lent)) left (sym t.left_is ∙ to) in
       let mine : t.told ≡ s = same_Some t.told s (sym t.told_is ∙ told) in
-      subst (λ (v : Option (List ℕ) × Option (List ℕ) × InputSummary). IsReadOn (limit_of_input limit input.format) p h i input v.0 v.1 v.2) (λ k. (first k, last k, mine k))
-      (read_on (limit_of_input limit input.format) p h i input (remaining x.reader) (remaining (reader_of x.end.lent)) x.end.report t.told x.served t.last)
+      subst (λ (v : Option (List ℕ) × Option (List ℕ) × InputSummary). IsReadOn (limit_of_input limit input.size) p h i input v.0 v.1 v.2) (λ k. (first k, last k, mine k))
+      (read_on (limit_of_input limit input.size) p h i input (remaining x.reader) (remaining (reader_of x.end.lent)) x.end.report t.told x.served t.last)
 
   came_told : HadMemory ended → (i : ℕ) (input : InputValue) → slice_get p.first.request.inputs i ≡ Some input → CameOf limit p h (map remaining readers) (map (λ l. remaining (reader_of l)) lent) (stops_of summaries) i input
   came_told had i input at =
@@ -338,7 +338,7 @@ read_nothing {R} remaining failures limit p readers count i input at =
       end = unread r.0;
       end_is = slice_get-map one readers i ∙ ap (option_map one) r.1;
       closed = refl;
-      served = served_nothing (limit_of_input limit input.format) p i (origin_of i input) (remaining r.0);
+      served = served_nothing (limit_of_input limit input.size) p i (origin_of i input) (remaining r.0);
       told = (λ e. absurd (none-some ReadFailed e), λ other. refl);
     }
 

@@ -9,7 +9,7 @@ use Rattle.std.specs.Io.KnownBytes.{Appends}
 use Rattle.schedule.specs.Schedule.{ScheduleValue}
 use Rattle.mux.specs.declared.event.Event.{Event}
 use Rattle.mux.specs.declared.event.Event.TheVariants.{Took, Full, Early, Close, Slot, Switch}
-use Rattle.mux.specs.Plans.{IsMultiplexSchedule}
+use Rattle.schedule.specs.Laws.{IsMultiplexSchedule}
 use Rattle.mux.specs.History.{History, Run, slots, sent, emitted}
 use Rattle.mux.specs.Faithful.{PacketLists, IsFaithful, IsRunOf, IsFinished, IsPrefix}
 use Rattle.mux.proofs.Same.{outputs_agree}

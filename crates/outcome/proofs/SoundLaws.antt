@@ -4,7 +4,7 @@ use Rattle.std.specs.List.{range_with_len}
 use Rattle.std.proofs.lemmas.List.Elements.{All-nil}
 use Rattle.tspkt.specs.Packet.{IsPacket}
 use Rattle.schedule.specs.Schedule.{ScheduleValue}
-use Rattle.mux.specs.Plans.{IsMultiplexSchedule}
+use Rattle.schedule.specs.Laws.{IsMultiplexSchedule}
 use Rattle.mux.specs.History.{Run}
 use Rattle.mux.specs.SlotClock.{clock_at}
 use Rattle.mux.specs.Buckets.{empty_bucket}

@@ -16,7 +16,7 @@ PacketsComeInOrder =
     → ComeFrom 0 (takeable schedule origin (framed_at origin bytes))
 
 -- There are as few of an input as have room in its bytes, where bytes may lack behind the last: at most 16,777,216 of an input of
--- no more bytes than its format allows.
+-- no more bytes than its size allows.
 abbrev pub PacketsAreFew : Type 0
 PacketsAreFew =
     (schedule : ScheduleValue) (origin : OriginValue) (bytes : List ℕ)

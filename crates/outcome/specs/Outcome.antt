@@ -71,12 +71,12 @@ AreUnfailed inputs =
 abbrev pub stops_of : List InputSummary → List (Option Stop)
 stops_of inputs = map (λ s. s.report.stopped) inputs
 
--- What is said of a run is so. Each input may have so many bytes at its format.
+-- What is said of a run is so. Each input may have so many bytes at its size.
 pub record IsSummary (limit : InputLimit) (schedule : ScheduleValue) (h : List Event) (starts : List (Option (List ℕ))) (s : Summary) : Type 0 where
   pub length_is : length s.inputs.items ≡ length schedule.first.request.inputs
   pub inputs : (i : ℕ) (input : InputValue) (start : Option (List ℕ)) (x : InputSummary)
       → slice_get schedule.first.request.inputs i ≡ Some input → slice_get starts i ≡ Some start → slice_get s.inputs.items i ≡ Some x
-      → IsInputSummary (limit_of_input limit input.format) schedule h i input start x
+      → IsInputSummary (limit_of_input limit input.size) schedule h i input start x
   pub streams : ArePeaks schedule h s.streams.items
   pub counts : IsCounts h s.counts
   pub reported : IsReportOf s.fault_report (faults schedule.first.request.rate schedule.first.request.watch (emitted schedule h))
@@ -97,14 +97,14 @@ pub record IsReadOn (limit : ℕ) (schedule : ScheduleValue) (h : List Event) (i
   -- of an input that was closed at a failed read all that can be taken of the bytes before it was taken
   pub failed : s.report.stopped ≡ Some ReadFailed → is_closed i h ≡ true → taken i h ≡ takeable schedule (origin_of i input) (framed_at (origin_of i input) bytes)
 
--- the same of all inputs, in their order, each of which may have so many bytes at its format
+-- the same of all inputs, in their order, each of which may have so many bytes at its size
 abbrev pub AreReadOn : InputLimit → ScheduleValue → List Event → List (Option (List ℕ)) → List (Option (List ℕ)) → List InputSummary → Type 0
 AreReadOn limit schedule h starts lefts inputs =
     (i : ℕ) (input : InputValue) (start left : Option (List ℕ)) (s : InputSummary)
     → slice_get schedule.first.request.inputs i ≡ Some input → slice_get starts i ≡ Some start → slice_get lefts i ≡ Some left
-    → slice_get inputs i ≡ Some s → IsReadOn (limit_of_input limit input.format) schedule h i input start left s
+    → slice_get inputs i ≡ Some s → IsReadOn (limit_of_input limit input.size) schedule h i input start left s
 
--- What a run of these sources makes, each of at most so many bytes at its input's format, where it ends by itself: a history. It
+-- What a run of these sources makes, each of at most so many bytes at its input's size, where it ends by itself: a history. It
 -- leaves them with these bytes to give.
 pub record HasRun (h : History) (limit : InputLimit) (starts lefts : List (Option (List ℕ))) (before after : Option (List ℕ)) (s : Summary) : Type 0 where
   -- it is lawful, and sound
@@ -149,7 +149,7 @@ pub record IsLeft {R : Type 0} (remaining : R → Option (List ℕ)) (failures :
   pub within : (left.1 ≡ Some TooMuch → ⊥) → length bytes ≤ limit
   pub unclosed : left.1 ≡ Some Gate → is_closed i h ≡ false
 
--- What a run of these readers makes, each of at most so many bytes at its input's format, where it doesn't end by itself but with
+-- What a run of these readers makes, each of at most so many bytes at its input's size, where it doesn't end by itself but with
 -- this fault: a beginning of the packets of a sound history was written. `Takes` says what this history takes of the inputs. `lefts`
 -- are readers as a run may leave them, each with what stopped its input, if anything: they don't come back.
 pub record HasBroken {R : Type 0} (Takes : ScheduleValue → List (Option (List ℕ)) → List (Option (List ℕ)) → List (Option Stop) → List Event → Type 0) (remaining : R → Option (List ℕ)) (failures : R → ℕ) (h : History) (limit : InputLimit) (readers : List R) (before after : Option (List ℕ)) (fault : RunFault) : Type 0 where
@@ -161,7 +161,7 @@ pub record HasBroken {R : Type 0} (Takes : ScheduleValue → List (Option (List 
   pub count : length lefts ≡ length readers
   pub left : (i : ℕ) (input : InputValue) (old : R) (left : R × Option Stop)
       → slice_get h.run.schedule.first.request.inputs i ≡ Some input → slice_get readers i ≡ Some old → slice_get lefts i ≡ Some left
-      → IsLeft remaining failures (limit_of_input limit input.format) h.run.schedule h.events i input old left
+      → IsLeft remaining failures (limit_of_input limit input.size) h.run.schedule h.events i input old left
   -- it takes what the inputs give, each input's packets in their order
   pub faithful : AreKnown (map remaining readers)
       → Takes h.run.schedule (map remaining readers) (map (λ left. remaining left.0) lefts) (map (λ left. left.1) lefts) h.events

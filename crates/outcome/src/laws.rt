@@ -17,7 +17,7 @@ pub fn packets_come_in_order()
 {}
 
 /// There are as few as have room in its bytes, where bytes may lack after the last: at most 16,777,216 of an input of no more bytes
-/// than its format allows.
+/// than its size allows.
 pub fn packets_are_few()
     ensures { PacketsAreFew }
 {}

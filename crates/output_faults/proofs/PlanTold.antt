@@ -6,7 +6,7 @@ use Rattle.rounds.specs.Rounds.{IsRounds}
 use Rattle.plan.specs.Build.{PlanValue, IsPlan}
 use Rattle.schedule.specs.Schedule.{SpanValue, ScheduleValue, plan_at, single}
 use Rattle.schedule.specs.Switches.{IsSchedule}
-use Rattle.schedule.specs.Laws.{IsBuilt}
+use Rattle.plan.specs.Built.{IsBuilt}
 use Rattle.schedule.specs.Streams.{all_streams, AreStreamsOf}
 use Rattle.schedule.proofs.AllStreamsLaws.{are_streams}
 use Rattle.schedule.proofs.ForceLaws as force

@@ -9,15 +9,15 @@ use Rattle.std.proofs.lemmas.List.Elements.{All-nil, All-cons, All-head, All-tai
 use Rattle.std.proofs.lemmas.Option.{slice_get-get_or}
 use Rattle.tspkt.specs.Packet.{pid_of, transport_scrambling_control_of}
 use Rattle.section.specs.Section.{IsGoodSection}
-use Rattle.section.specs.Assembled.{assembled, packet_told, fresh}
+use Rattle.section.specs.Assembled.{assembled, packet_told, fresh, state_behind}
 use Rattle.section.specs.Packetized.{packet_count_of}
 use Rattle.section.specs.declared.told.Told.{Told}
 use Rattle.tables.specs.OnPid.{packets_on, section_in, sections_on}
 use Rattle.emission.specs.Emission.{of_pid}
 use Rattle.emission.proofs.CycleLaws.{filter_yes, filter_no}
-use Rattle.analyse.specs.SectionWatching.{state_behind}
 use Rattle.analyse.specs.Slots.{is_packet, packets_in}
-use Rattle.output_faults.proofs.ReadingLaws.{IsPiece, IsBehind, tells, assembled_more}
+use Rattle.output_faults.proofs.ReadingLaws.{IsPiece, IsBehind, tells}
+use Rattle.section.proofs.AssembledLaws.{assembled_more}
 
 -- a packet behind these of its PID: a piece of a good section, of which all earlier pieces were read
 pub record IsRead (P : List ℕ → Type 0) (sent : List (List ℕ)) (q : List ℕ) : Type 0 where

@@ -1,7 +1,7 @@
 -- A section that is sent again and again on a PID is told at the last of its packets each time, and nothing else is.
 use Rattle.std.proofs.Common.{◌≡◌, ℕ, zero, suc, ◌+◌, ◌-◌, ◌*◌, ◌/◌, ◌%◌, ◌<◌, ◌≤◌, List, [], ◌∷◌, ◌++◌, length, take, drop, replicate, ◌==◌, refl, sym, ◌∙◌, ap, subst, arith, Bool, true, false, not, Some, inl, inr}
 use Rattle.std.specs.List.{slice_get}
-use Rattle.std.proofs.lemmas.List.{length-append, length-take, take_at, drop_at, take-append-le, take-append-drop, append-nil, append_assoc}
+use Rattle.std.proofs.lemmas.List.{length-append, length-take, take_at, drop_at, take-append-le, take-append-drop}
 use Rattle.std.proofs.lemmas.Nat.{mod-mul-add, div-add-mod', mod_below}
 use Rattle.std.proofs.Math.Seq.{take-append-add, take-add}
 use Rattle.std.proofs.lemmas.Bool.{eq-eqb, false_from_ne_true, cases_lt}
@@ -10,11 +10,10 @@ use Rattle.tspkt.specs.Packet.{has_payload_of, payload_unit_start_indicator_of, 
 use Rattle.tspkt.specs.Counters.{is_copy}
 use Rattle.section.specs.Crc.{crc_of}
 use Rattle.section.specs.Section.{section_length_of, is_too_long, is_whole, first_section, IsGoodSection}
-use Rattle.section.specs.Assembled.{Reading, nothing, collected, told_of_whole, sections_from, has_pointer, payload_told, AssemblerState, Step, packet_told, read_with, reading_of, is_repeat, is_discontinuous, assembled_from, fresh}
+use Rattle.section.specs.Assembled.{Reading, nothing, collected, told_of_whole, sections_from, has_pointer, payload_told, AssemblerState, Step, packet_told, read_with, reading_of, is_repeat, is_discontinuous, fresh, state_behind}
 use Rattle.section.specs.Packetized.{packet_count_of, stuffed}
 use Rattle.section.specs.declared.told.Told.{Told}
 use Rattle.section.specs.declared.told.Told.TheVariants.{Section}
-use Rattle.analyse.specs.SectionWatching.{state_behind}
 use Rattle.section.proofs.SectionLaws.{section_length_of-append}
 use Rattle.section.proofs.CollectLaws.{is_too_long-fits, is_whole-true, is_whole-partial, collected_whole, collected_begun}
 use Rattle.section.proofs.SectionsLaws.{sections_nil, sections_stuffing, sections_begun, sections_whole, behind}
@@ -284,14 +283,3 @@ all_behind section n count s (q ∷ sent) g small b h =
     subst (λ (m : ℕ). IsBehind section (n + suc (length sent)) m state) f
     (subst (λ (m : ℕ). IsBehind section m (suc count + length sent) state) e
     (all_behind section (suc n) (suc count) (packet_told s q).state sent g small one.behind (repeated_tail section n count q sent h)))
-
--- one packet more
-pub assembled_more : (s : AssemblerState) (sent : List (List ℕ)) (q : List ℕ) → assembled_from s (sent ++ q ∷ []) ≡ assembled_from s sent ++ (packet_told (state_behind s sent) q).told
-assembled_more s [] q = append-nil (packet_told s q).told
-assembled_more s (p ∷ sent) q =
-    ap (λ (l : List Told). (packet_told s p).told ++ l) (assembled_more (packet_told s p).state sent q)
-    ∙ sym (append_assoc (packet_told s p).told (assembled_from (packet_told s p).state sent) (packet_told (state_behind (packet_told s p).state sent) q).told)
-
-pub state_more : (s : AssemblerState) (sent more : List (List ℕ)) → state_behind s (sent ++ more) ≡ state_behind (state_behind s sent) more
-state_more s [] more = refl
-state_more s (p ∷ sent) more = state_more (packet_told s p).state sent more

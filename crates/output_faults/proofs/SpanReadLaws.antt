@@ -14,7 +14,7 @@ use Rattle.rounds.specs.Rounds.{table_at}
 use Rattle.rounds.proofs.RecurringLaws.{rounds_begin}
 use Rattle.rounds.proofs.RoundLaws.{positive}
 use Rattle.section.specs.Section.{IsGoodSection}
-use Rattle.section.specs.Assembled.{fresh}
+use Rattle.section.specs.Assembled.{fresh, state_behind}
 use Rattle.section.specs.Packetized.{packet_count_of}
 use Rattle.output_tables.specs.Output.{table_packet}
 use Rattle.output_tables.specs.OnPid.{SectionOnPid, packets_on_pid}
@@ -34,9 +34,9 @@ use Rattle.emission.proofs.WalkLaws.{turns, fast_one, fast_in_turn}
 use Rattle.emission.proofs.SpanLaws.{take_on, take_of_take, take_of_cut, is_span, to_slot}
 use Rattle.emission.proofs.SpanFacts.{IsKnown, IsOff, built_at, no_other, rounds_period}
 use Rattle.emission.proofs.ApartLaws.{facts}
-use Rattle.analyse.specs.SectionWatching.{state_behind}
 use Rattle.output_faults.proofs.CountLaws.{place_counted}
-use Rattle.output_faults.proofs.ReadingLaws.{IsPiece, IsBehind, AreRepeated, starts, begins_anew, all_behind, state_more}
+use Rattle.output_faults.proofs.ReadingLaws.{IsPiece, IsBehind, AreRepeated, starts, begins_anew, all_behind}
+use Rattle.section.proofs.AssembledLaws.{state_more}
 use Rattle.output_faults.proofs.ReadLaws.{IsRead, EndsIn}
 use Rattle.output_faults.proofs.EmittedLaws.{LastPlace, last_place, own_length, pieces}
 

@@ -13,9 +13,7 @@ pub fn no_sync_fault(plan: &Plan)
     ensures { (rate period : ℕ) (out : List (List ℕ)) → IsEmission plan.now out →
         TellsNoSyncFault (faults rate period out) }
 {
-    // What all plans, requests and rounds keep is known with these.
-    let _ = plan.request().rate();
-    let _ = plan.rounds().rate();
+    plan.known();
 }
 
 /// At the plan's rate no fault of the PAT and none of a PMT is told, at any period (slots).
@@ -23,9 +21,7 @@ pub fn no_table_fault(plan: &Plan)
     ensures { (period : ℕ) (out : List (List ℕ)) → IsEmission plan.now out →
         TellsNoTableFault (faults plan.now.request.rate period out) }
 {
-    // What all plans, requests and rounds keep is known with these.
-    let _ = plan.request().rate();
-    let _ = plan.rounds().rate();
+    plan.known();
 }
 
 /// A wrong counter is told at exactly the packets of streams that aren't lawful among those of their PID.
@@ -33,9 +29,7 @@ pub fn counter_faults_are_of_streams(plan: &Plan)
     ensures { (rate period : ℕ) (out : List (List ℕ)) → IsEmission plan.now out →
         CounterFaultsAreOfStreams plan.now.request.streams out (faults rate period out) }
 {
-    // What all plans, requests and rounds keep is known with these.
-    let _ = plan.request().rate();
-    let _ = plan.rounds().rate();
+    plan.known();
 }
 
 /// Where what went out of each stream is lawful exactly as what was taken for it, a wrong counter is told at exactly the
@@ -45,7 +39,5 @@ pub fn counter_faults_are_as_taken(plan: &Plan)
         AreLawfulAsTaken plan.now.request.streams taken out →
         CounterFaultsAreAsTaken plan.now.request.streams taken out (faults rate period out) }
 {
-    // What all plans, requests and rounds keep is known with these.
-    let _ = plan.request().rate();
-    let _ = plan.rounds().rate();
+    plan.known();
 }

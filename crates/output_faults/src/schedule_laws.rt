@@ -15,7 +15,7 @@ pub fn no_sync_fault(schedule: &Schedule)
     ensures { (rate period : ℕ) (out : List (List ℕ)) → IsEmissionOf schedule.now out →
         TellsNoSyncFault (faults rate period out) }
 {
-    let _ = schedule.later_plans();
+    schedule.known();
     plans_in_force(schedule);
     uses_of_pids(schedule);
 }
@@ -25,7 +25,7 @@ pub fn no_table_fault(schedule: &Schedule)
     ensures { (period : ℕ) (out : List (List ℕ)) → IsEmissionOf schedule.now out →
         TellsNoTableFault (faults schedule.now.first.request.rate period out) }
 {
-    let _ = schedule.later_plans();
+    schedule.known();
     plans_in_force(schedule);
     uses_of_pids(schedule);
 }
@@ -35,7 +35,7 @@ pub fn counter_faults_are_of_streams(schedule: &Schedule)
     ensures { (rate period : ℕ) (out : List (List ℕ)) → IsEmissionOf schedule.now out →
         CounterFaultsAreOfStreams (all_streams schedule.now) out (faults rate period out) }
 {
-    let _ = schedule.later_plans();
+    schedule.known();
     plans_in_force(schedule);
     uses_of_pids(schedule);
     streams_of_plans(schedule);
@@ -48,7 +48,7 @@ pub fn counter_faults_are_as_taken(schedule: &Schedule)
         AreLawfulAsTaken (all_streams schedule.now) taken out →
         CounterFaultsAreAsTaken (all_streams schedule.now) taken out (faults rate period out) }
 {
-    let _ = schedule.later_plans();
+    schedule.known();
     plans_in_force(schedule);
     uses_of_pids(schedule);
     streams_of_plans(schedule);

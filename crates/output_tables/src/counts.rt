@@ -9,8 +9,9 @@ ghost use Rattle.output_tables.specs.Output.{packets_for, fast_count, slow_count
 ghost use Rattle.selection.specs.Chosen.{AreServicesOf};
 ghost use Rattle.output_tables.specs.Room.{AreInRoom, HaveRoom};
 
-use crate::too_large::{MAX_SECTION_LENGTH, ROW_HEAD_LENGTH, nit_section_length, pmt_room};
+use crate::too_large::{ROW_HEAD_LENGTH, nit_section_length, pmt_room};
 use request::Request;
+use section::MAX_SECTION_LENGTH;
 use selection::ChosenService;
 use tables::{MAX_SDT_ROWS_LENGTH, Pmt};
 

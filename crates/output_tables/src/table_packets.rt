@@ -26,11 +26,11 @@ pub fn table_packets(alloc: Global, pid: u16, section: &[u8]) -> Result<Vec<Pack
     let counted = packets_of(alloc, section, pid, 0)?;
     let mut packets = Vec::with_capacity(alloc, counted.len())?;
     for packet in &counted {
+        packet.known();
         let mut bytes = *packet.bytes();
         bytes[COUNTER_PLACE] = PLAIN_WITH_COUNTER_0;
         let uncounted = Packet::read(&bytes).unwrap();
-        // What all packets keep is known with it.
-        let _ = uncounted.bytes();
+        uncounted.known();
         packets.push_reserved(uncounted);
     }
     Ok(packets)

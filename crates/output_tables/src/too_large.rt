@@ -14,11 +14,9 @@ ghost use Rattle.selection.specs.Chosen.{AreServicesOf};
 ghost use Rattle.output_tables.specs.Room.{HaveRoom};
 
 use request::Request;
+use section::MAX_SECTION_LENGTH;
 use selection::ChosenService;
 use tables::{MAX_SDT_ROWS_LENGTH, Pmt, SdtRow};
-
-/// The most that section_length may be.
-pub const MAX_SECTION_LENGTH: usize = 1021;
 
 /// The bytes of a row of a PMT or an SDT in front of its descriptors.
 pub const ROW_HEAD_LENGTH: usize = 5;

@@ -1,2 +1,3 @@
 pub mod StreamPlace
 pub mod Build
+pub mod Built

@@ -2,7 +2,7 @@
 use Rattle.std.specs.Prelude.{◌≡◌, ℕ, ◌+◌, ◌*◌, ◌==◌, nat_lt, ◌&&◌, if◌then◌else◌, List, Option, None, option_map, option_and_then, slice_get, slice_index_or}
 use Rattle.std.specs.List.{position_from}
 use Rattle.request.specs.declared.stream.Stream.{Stream}
-use Rattle.plan.specs.declared.stream_map.TheConstants.{PIDS}
+use Rattle.tspkt.specs.declared.packet.TheConstants.{PID_COUNT}
 use Rattle.plan.specs.declared.planned_stream.PlannedStream.{PlannedStream}
 
 -- the place of the first stream with this input and PID, where there is one
@@ -17,7 +17,7 @@ pub record StreamMapValue : Type 0 where
 -- what stands in the cell of a PID of an input, where there is one
 abbrev pub number_at : StreamMapValue → ℕ → ℕ → Option ℕ
 number_at m input pid =
-    if nat_lt input m.inputs && nat_lt pid PIDS then slice_index_or m.numbers (input * PIDS + pid) None else None
+    if nat_lt input m.inputs && nat_lt pid PID_COUNT then slice_index_or m.numbers (input * PID_COUNT + pid) None else None
 
 -- the table has for each input and PID the place of the stream
 abbrev pub IsMapOf : StreamMapValue → List Stream → Type 0

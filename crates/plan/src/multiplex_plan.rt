@@ -42,7 +42,8 @@ impl Plan {
     ghost use Rattle.selection.specs.ChosenView.{chosen_value};
     ghost use Rattle.output_tables.specs.Room.{HaveRoom};
     ghost use Rattle.output_tables.specs.TableSet.{fast_packets, slow_packets};
-    ghost use Rattle.plan.specs.Build.{IsPlan, IsPlanOf, build_fault_of, output_rounds};
+    ghost use Rattle.plan.specs.Build.{IsPlanOf, build_fault_of, output_rounds};
+    ghost use Rattle.plan.specs.Built.{IsBuilt};
     ghost use Rattle.plan.specs.StreamPlace.{planned_stream};
 
     /// The plan of a request, by what was found in each of its inputs, in their order: the PMTs of
@@ -64,8 +65,7 @@ impl Plan {
         ensures memory { result ≡ Err PlanFault.Memory →
             build_fault_of request.now (map findings_of found.now) ≡ None }
     {
-        // What all requests keep is known with it.
-        let _ = request.rate();
+        request.known();
         let chosen = choose(request, found)?;
         let rounds = plan_rounds(request, chosen.as_slice())?;
         let plan = Plan::assemble(alloc, request, chosen.as_slice(), rounds)?;
@@ -127,10 +127,17 @@ impl Plan {
         })
     }
 
-    /// What was asked for. What all plans keep is known with it.
+    /// What every plan keeps.
+    pub fn known(&self)
+        ensures { IsBuilt self.now }
+    {
+        self.request.known();
+        self.rounds.known();
+    }
+
+    /// What was asked for.
     pub fn request(&self) -> &Request
         ensures value { result.now ≡ self.now.request }
-        ensures plan { IsPlan self.now }
     {
         &self.request
     }

@@ -3,9 +3,7 @@
 use request::Stream;
 use std::alloc::{AllocError, Global};
 use std::marker::Model;
-
-/// How many PIDs there are: a PID has 13 bits (ISO/IEC 13818-1, 2.4.3.2).
-const PIDS: usize = 8192;
+use tspkt::PID_COUNT;
 
 /// For each PID of each input the number of its stream, in one step. Contracts see its cells.
 #[derive(Drop)]
@@ -15,7 +13,7 @@ pub struct StreamMap {
 }
 
 impl Model for StreamMap {
-    ghost use Rattle.plan.specs.declared.stream_map.TheConstants.{PIDS};
+    ghost use Rattle.tspkt.specs.declared.packet.TheConstants.{PID_COUNT};
     ghost use Rattle.std.specs.Prelude.{◌≡◌, ◌*◌, ◌≤◌, length};
     ghost use Rattle.plan.specs.StreamPlace.{StreamMapValue};
 
@@ -23,7 +21,7 @@ impl Model for StreamMap {
 
     ghost view = { λ m. record { inputs = m.inputs; numbers = m.numbers.items } };
 
-    ghost invariant = { λ m. (m.inputs ≤ 8) × (length m.numbers.items ≡ m.inputs * PIDS) };
+    ghost invariant = { λ m. (m.inputs ≤ 8) × (length m.numbers.items ≡ m.inputs * PID_COUNT) };
 }
 
 impl StreamMap {
@@ -38,12 +36,12 @@ impl StreamMap {
         requires inputs { inputs ≤ 8 }
         requires count { length streams.now ≤ 64 }
         requires known { All (λ (s : Stream). s.input < inputs) streams.now }
-        requires pids { All (λ (s : Stream). s.pid < PIDS) streams.now }
+        requires pids { All (λ (s : Stream). s.pid < PID_COUNT) streams.now }
         ensures { IfOk result (λ m. IsMapOf m streams.now) }
     {
-        let mut numbers = vec![in alloc; None; inputs * PIDS]?;
+        let mut numbers = vec![in alloc; None; inputs * PID_COUNT]?;
         for (number, stream) in streams.iter().enumerate() {
-            let cell = stream.input * PIDS + usize::from(stream.pid);
+            let cell = stream.input * PID_COUNT + usize::from(stream.pid);
             numbers[cell] = numbers[cell].or(Some(number as u8));
         }
         Ok(StreamMap { inputs, numbers })
@@ -64,9 +62,9 @@ impl StreamMap {
     pub fn find(&self, input: usize, pid: u16) -> Option<usize>
         ensures { result ≡ number_at self.now input pid }
     {
-        if input >= self.inputs || usize::from(pid) >= PIDS {
+        if input >= self.inputs || usize::from(pid) >= PID_COUNT {
             return None;
         }
-        self.numbers[input * PIDS + usize::from(pid)].map(usize::from)
+        self.numbers[input * PID_COUNT + usize::from(pid)].map(usize::from)
     }
 }

@@ -21,8 +21,7 @@ pub fn cause_of(request: &Request, found: &[Found]) -> Option<PlanCause>
         ≡ build_fault_of request.now (map findings_of found.now) }
     ensures cause { IfSome result (IsCauseOf request.now (map findings_of found.now)) }
 {
-    // What all requests keep is known with it.
-    let _ = request.rate();
+    request.known();
     match choose(request, found) {
         Ok(chosen) => chosen_cause(request, chosen.as_slice()),
         Err(_) => choice_cause(request, found),

@@ -1,7 +1,7 @@
 //! The tables that have no room in their sections or in their rounds.
 
 ghost use Rattle.std.specs.Prelude.{◌≡◌, ◌/◌, ◌<◌, ◌≤◌, min, nat_lt, None, Some, IfSome, is_some, find, option_copied, map, option_map};
-ghost use Rattle.rounds.specs.Rounds.{gap_of, fast_limit_of, sdt_limit_of, rounds_fault_of};
+ghost use Rattle.rounds.specs.Rounds.{fast_limit_of, sdt_limit_of, rounds_fault_of};
 ghost use Rattle.tables.specs.Nit.{nit_section_length_of};
 ghost use Rattle.tables.specs.Sdt.{rows_room};
 ghost use Rattle.request.specs.Request.{IsRequest};
@@ -19,23 +19,13 @@ use crate::program_causes::program_cause;
 use crate::service_numbers::ServiceNumbers;
 use output_tables::{fast_count, is_too_large, slow_count};
 use request::Request;
+use rounds::{gap, half_second, two_seconds};
+use section::MAX_SECTION_LENGTH;
 use selection::ChosenService;
 use tables::{MAX_SDT_ROWS_LENGTH, SdtRow};
 
-/// The most that section_length may be.
-const MAX_SECTION_LENGTH: usize = 1021;
-
 /// The bytes of a row of an SDT in front of its descriptors.
 const ROW_HEAD_LENGTH: usize = 5;
-
-/// The least gap between two table packets, in slots.
-const MIN_GAP: u64 = 2;
-
-/// How fast the buffer of the tables leaks, in bits a second (ISO/IEC 13818-1, 2.4.2.3).
-const LEAK: u64 = 1_000_000;
-
-/// The bits of a slot.
-const SLOT_BITS: u64 = 1_504;
 
 /// Whether no section of the SDT holds the row.
 fn is_row_too_large(row: &SdtRow) -> bool
@@ -84,24 +74,13 @@ fn large_table(request: &Request, chosen: &[ChosenService<'_>]) -> Option<LargeT
     }
 }
 
-/// Slots from one table packet of a round to the next.
-fn gap(rate: u64) -> u64
-    requires rate { rate ≤ 100000000 }
-    ensures value { result ≡ gap_of rate }
-    ensures few { result ≤ 100 }
-{
-    MIN_GAP.max(rate.div_ceil(LEAK))
-}
-
 /// The longest period in which PAT and SDT come often enough, where the SDT and the NIT have so many packets.
 fn longest_period(rate: u64, slow_len: usize) -> u64
     requires rate { rate ≤ 100000000 }
     requires some { 1 ≤ slow_len }
     ensures { result ≡ min (fast_limit_of rate) (sdt_limit_of rate / slow_len) }
 {
-    let half_second = rate / (2 * SLOT_BITS);
-    let two_seconds = 2 * rate / SLOT_BITS;
-    half_second.min(two_seconds / slow_len as u64)
+    half_second(rate).min(two_seconds(rate) / slow_len as u64)
 }
 
 /// The period, where it is too short for a round or too long for the limits of repetition.

@@ -4,7 +4,7 @@ ghost use Rattle.std.specs.Prelude.{◌≡◌, ℕ, MatchOption};
 ghost use Rattle.port.specs.Arrivals.{Packet, End};
 
 use std::marker::Model;
-use tspkt::Stamped;
+use tspkt::{LentPacket, Stamped};
 
 /// A packet or the end mark as it lies in a ring. The mark stands beside the packet, and not as an enum's tag: so a packet's bytes are
 /// copied once on their way out.
@@ -41,11 +41,11 @@ impl Carried {
 
     /// A packet with its time, copied, and the place of its stream.
     #[inline(always)]
-    pub fn packet(item: &Stamped, place: u32) -> Carried
+    pub fn packet(item: &LentPacket, place: u32) -> Carried
         ensures { result ≡ Packet item.now place }
     {
         Carried {
-            item: *item,
+            item: item.stamped(),
             place,
             is_end: false,
         }

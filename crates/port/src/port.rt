@@ -8,7 +8,7 @@ use crate::nothing_after_end::NothingAfterEnd;
 use rtrb::Producer;
 use std::alloc::Global;
 use std::marker::Model;
-use tspkt::Stamped;
+use tspkt::{LentPacket, Stamped};
 
 /// The sending end of an input's ring. Contracts see which ring it is, and the packets that it sent. It can go to another
 /// thread, and none of its calls locks, waits or asks for memory.
@@ -53,13 +53,13 @@ impl Port {
             (self.new ≡ record self.old { sent = self.old.sent ++ item.now ∷ [] })
             (self.new ≡ self.old) }
     {
-        self.send_for(usize::MAX, item)
+        self.send_for(usize::MAX, &LentPacket::of(item))
     }
 
     /// Sends it as `send` does, and beside it what its sender takes to be the place in the schedule of the packet's stream. The ring's
     /// end hands this on, as `place`, for whoever takes the packet to test: nothing is promised of it.
     #[tactic(auto, using(crate::proofs::RingLaws::same_id, crate::proofs::ArrivalLaws::packets_of_snoc, crate::proofs::ArrivalLaws::marks_of_snoc))]
-    pub fn send_for(&mut self, place: usize, item: &Stamped) -> bool
+    pub fn send_for(&mut self, place: usize, item: &LentPacket) -> bool
         ensures ring { self.new.ring ≡ self.old.ring }
         ensures sent { MatchBool result
             (self.new ≡ record self.old { sent = self.old.sent ++ item.now ∷ [] })

@@ -15,7 +15,7 @@ pub(crate) const SLOT: u64 = 188;
 pub(crate) fn reached_in(plan: &Plan, summary: &Summary, number: usize) -> u64 {
     match (plan.inputs().get(number), summary.inputs.get(number)) {
         (Some(input), Some(ran)) => {
-            let bytes = bytes_read(input.format, &ran.report);
+            let bytes = bytes_read(input.size, &ran.report);
             reached(input.offset, input.rate, bytes)
         }
         _ => 0,

@@ -7,25 +7,25 @@ use reading::{Report, Stop};
 use serial::Summary;
 use std::io;
 use std::io::Write;
-use tspkt::PacketFormat;
+use tspkt::PacketSize;
 
-/// How many bytes of an input of this format were framed.
-pub(crate) fn bytes_read(format: PacketFormat, report: &Report) -> u64 {
+/// How many bytes of an input of this size were framed.
+pub(crate) fn bytes_read(size: PacketSize, report: &Report) -> u64 {
     let packets = report.framed.saturating_add(report.bad);
-    let bytes = packets.saturating_mul(format.stride() as u64);
+    let bytes = packets.saturating_mul(size.stride() as u64);
     bytes.saturating_add(report.lost)
 }
 
-/// How much of an input of this format and this length was read, in per cent.
-fn percent_read(format: PacketFormat, report: &Report, length: u64) -> u64 {
-    let read = bytes_read(format, report).saturating_mul(100);
+/// How much of an input of this size and this length was read, in per cent.
+fn percent_read(size: PacketSize, report: &Report, length: u64) -> u64 {
+    let read = bytes_read(size, report).saturating_mul(100);
     read.checked_div(length).unwrap_or(100).min(100)
 }
 
 /// Prints why an input was read no further before its end, and answers whether it was.
 fn print_left<R: InputFile, E: Write>(
     number: usize,
-    format: PacketFormat,
+    size: PacketSize,
     report: &Report,
     reader: &R,
     err: &mut E,
@@ -33,7 +33,7 @@ fn print_left<R: InputFile, E: Write>(
     match (report.stopped, reader.length()) {
         (None, _) => return Ok(false),
         (Some(Stop::Gate), Some(length)) => {
-            let percent = percent_read(format, report, length);
+            let percent = percent_read(size, report, length);
             writeln!(
                 err,
                 "end: the slot limit: input {number} was read to {percent} %"
@@ -91,7 +91,7 @@ pub fn print_end<R: InputFile, E: Write>(
     let mut is_all = true;
     let ends = summary.inputs.iter().zip(readers.iter());
     for (number, (input, (end, reader))) in plan.inputs().iter().zip(ends).enumerate() {
-        if print_left(number, input.format, &end.report, reader, err)? {
+        if print_left(number, input.size, &end.report, reader, err)? {
             is_all = false;
         }
     }

@@ -8,7 +8,7 @@ use files::CommandFault;
 use reading::Source;
 use std::alloc::{AllocError, Global};
 use std::io::Write;
-use tspkt::PacketFormat;
+use tspkt::PacketSize;
 
 /// The length of a packet, in bytes.
 const PACKET: usize = 188;
@@ -34,7 +34,7 @@ fn fill<R: Source>(source: &mut R, piece: &mut [u8]) -> Option<usize>
 /// The analysis of a stream that is read in pieces, and printed as it goes.
 #[derive(Drop)]
 pub struct StreamAnalysis {
-    format: PacketFormat,
+    size: PacketSize,
     analyser: Analyser,
     /// The faults that were not printed yet.
     found: Vec<Fault>,
@@ -43,12 +43,12 @@ pub struct StreamAnalysis {
 }
 
 impl StreamAnalysis {
-    /// That of a stream of this format and of this rate, in bits a second, which counts all of its bytes, and of which nothing was
+    /// That of a stream of this size and of this rate, in bits a second, which counts all of its bytes, and of which nothing was
     /// read. Each PID that a PMT refers to has to come within `period` slots.
-    pub fn new(alloc: Global, format: PacketFormat, rate: u64, period: u64) -> StreamAnalysis {
+    pub fn new(alloc: Global, size: PacketSize, rate: u64, period: u64) -> StreamAnalysis {
         StreamAnalysis {
-            format,
-            analyser: Analyser::new(alloc, packets_rate(format, rate), period),
+            size,
+            analyser: Analyser::new(alloc, packets_rate(size, rate), period),
             found: Vec::new(alloc),
             slots: 0,
             faults: 0,
@@ -63,7 +63,7 @@ impl StreamAnalysis {
         source: &mut R,
         out: &mut O,
     ) -> Result<Option<u64>, CommandFault> {
-        let mut piece = vec![in alloc; 0; PACKETS * self.format.stride()]?;
+        let mut piece = vec![in alloc; 0; PACKETS * self.size.stride()]?;
         for _ in 0..u64::MAX {
             let Some(count) = fill(source, piece.as_mut_slice()) else {
                 return Ok(None);
@@ -82,7 +82,7 @@ impl StreamAnalysis {
     /// that are no whole packet.
     fn analyse(&mut self, piece: &[u8]) -> Result<usize, AllocError> {
         let mut rest = 0;
-        for chunk in piece.chunks(self.format.stride()) {
+        for chunk in piece.chunks(self.size.stride()) {
             match chunk.first_chunk::<PACKET>() {
                 Some(slot) => {
                     self.analyser.push(slot, &mut self.found)?;

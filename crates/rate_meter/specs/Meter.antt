@@ -3,7 +3,7 @@ use Rattle.std.specs.Prelude.{◌≡◌, ℕ, ◌+◌, ◌<◌, ◌==◌, nat_le
 use Rattle.std.specs.List.{count_by, list_any}
 use Rattle.std.specs.Option.{option_to_list, option_map}
 use Rattle.tspkt.specs.declared.framer.TheConstants.{MAX_LIMIT}
-use Rattle.tspkt.specs.declared.packet_format.PacketFormat.{PacketFormat}
+use Rattle.tspkt.specs.declared.packet_size.PacketSize.{PacketSize}
 use Rattle.rate_meter.specs.declared.reading.Reading.{Reading}
 use Rattle.rate_meter.specs.declared.seen.Seen.{Seen}
 use Rattle.rate_meter.specs.declared.pid_clock.PidClock.{PidClock}
@@ -76,9 +76,9 @@ pub record MeterValue : Type 0 where
   pub shown : Shown
   pub is_whole : Bool
 
--- one that was shown nothing of a stream of this format
-abbrev pub new_meter : PacketFormat → MeterValue
-new_meter format = record { shown = record { step = first_step format; seen = [] }; is_whole = true }
+-- one that was shown nothing of a stream of this size
+abbrev pub new_meter : PacketSize → MeterValue
+new_meter size = record { shown = record { step = first_step size; seen = [] }; is_whole = true }
 
 -- A piece is shown. One that would pass 2^47 bytes isn't looked at.
 abbrev pub shown_piece : List ℕ → Shown → Shown

@@ -7,7 +7,7 @@ ghost use Rattle.rate_meter.specs.Steps.{Shown};
 use crate::measured::Measured;
 use crate::program_change::ProgramChange;
 use std::alloc::{AllocError, Global};
-use tspkt::PacketFormat;
+use tspkt::PacketSize;
 
 /// What is shown the bytes of a stream while they are read, and says its rate. `RateMeter` is one. What holds a meter and goes to
 /// another thread is generic in it, so that nobody has to look through all that a `RateMeter` holds to see that it may.
@@ -15,9 +15,9 @@ pub trait Meter {
     // where the stream stands, and which packets were found
     ghost shown: { Self → Shown };
 
-    /// One that was shown nothing of a stream of this format.
-    fn new(alloc: Global, format: PacketFormat) -> Result<Self, AllocError>
-        ensures { IfOk result (λ m. shown m ≡ (new_meter format).shown) };
+    /// One that was shown nothing of a stream of this size.
+    fn new(alloc: Global, size: PacketSize) -> Result<Self, AllocError>
+        ensures { IfOk result (λ m. shown m ≡ (new_meter size).shown) };
 
     /// The stream goes on with this piece. One that would pass 140,737,488,355,328 bytes isn't looked at.
     fn show(&mut self, piece: &[u8])

@@ -5,9 +5,7 @@ use crate::seen::Seen;
 use past::Past;
 use std::alloc::{AllocError, Global};
 use std::marker::Model;
-
-/// How many PIDs there are: a PID has 13 bits (ISO/IEC 13818-1, 2.4.3.2).
-const PIDS: usize = 8_192;
+use tspkt::PID_COUNT;
 
 /// Packets that were seen, counted by their PIDs. Contracts see the list of all of them, newest first.
 #[derive(Drop)]
@@ -41,7 +39,7 @@ impl PidCounts {
         Ok(PidCounts {
             past: Past::new(),
             packets: 0,
-            counts: vec![in alloc; 0; PIDS]?,
+            counts: vec![in alloc; 0; PID_COUNT]?,
         })
     }
 
@@ -51,7 +49,7 @@ impl PidCounts {
         ensures { self.new ≡ seen ∷ self.old }
     {
         let place = usize::from(seen.pid);
-        if place < PIDS {
+        if place < PID_COUNT {
             self.counts[place] = self.counts[place].saturating_add(1);
         }
         self.packets = self.packets.saturating_add(1);
@@ -78,7 +76,7 @@ impl PidCounts {
         ensures { pid < 8192 → result ≡ pid_rate_of rate pid self.now }
     {
         let place = usize::from(pid);
-        if self.packets == 0 || place >= PIDS {
+        if self.packets == 0 || place >= PID_COUNT {
             return 0;
         }
         part_rate(rate, self.counts[place], self.packets)

@@ -14,7 +14,7 @@ use crate::stepper::Stepper;
 use crate::table_watch::TableWatch;
 use std::alloc::{AllocError, Global};
 use std::marker::Model;
-use tspkt::{MAX_LIMIT, PacketFormat};
+use tspkt::{MAX_LIMIT, PacketSize};
 
 /// Measures a stream that it is shown in pieces: how many packets each PID has, and at which rate it runs by each of its clocks.
 ///
@@ -61,17 +61,17 @@ impl RateMeter {
     ghost use Rattle.rate_meter.specs.Counters.{all_marked};
     ghost use Rattle.rate_meter.specs.Meter.{IsNoLonger, measured_of, new_meter, readings_of, packets_of, pid_rate_of, scrambled_among, shown_piece};
 
-    /// One that was shown nothing of a stream of this format.
-    pub fn new(alloc: Global, format: PacketFormat) -> Result<RateMeter, AllocError>
-        ensures { IfOk result (λ m. m ≡ new_meter format) }
+    /// One that was shown nothing of a stream of this size.
+    pub fn new(alloc: Global, size: PacketSize) -> Result<RateMeter, AllocError>
+        ensures { IfOk result (λ m. m ≡ new_meter size) }
     {
         Ok(RateMeter {
-            stepper: Stepper::new(format),
+            stepper: Stepper::new(size),
             counts: PidCounts::new(alloc)?,
             scrambled: PidCounts::new(alloc)?,
             counters: CounterWatch::new(alloc)?,
             clocks: Clocks::new(alloc),
-            tables: TableWatch::new(alloc, format)?,
+            tables: TableWatch::new(alloc, size)?,
         })
     }
 
@@ -182,8 +182,8 @@ impl RateMeter {
 impl Meter for RateMeter {
     ghost shown = { λ m. m.shown };
 
-    fn new(alloc: Global, format: PacketFormat) -> Result<RateMeter, AllocError> {
-        RateMeter::new(alloc, format)
+    fn new(alloc: Global, size: PacketSize) -> Result<RateMeter, AllocError> {
+        RateMeter::new(alloc, size)
     }
 
     fn show(&mut self, piece: &[u8]) {

@@ -3,7 +3,7 @@
 use crate::seen::{Seen, seen_at};
 use arrayvec::ArrayVec;
 use std::marker::Model;
-use tspkt::PacketFormat;
+use tspkt::PacketSize;
 
 /// How many of the first bytes of a packet are looked at.
 const HEAD: usize = 12;
@@ -15,7 +15,7 @@ const IN_SYNC: u8 = 5;
 /// in a row lose it. It looks at the first 12 bytes of each packet alone.
 #[derive(Drop)]
 pub struct Stepper {
-    format: PacketFormat,
+    size: PacketSize,
     position: u64,
     skip: usize,
     head: ArrayVec<u8, HEAD>,
@@ -28,7 +28,7 @@ impl Model for Stepper {
 
     ghost Value = { Step };
 
-    ghost view = { λ s. record { format = s.format; position = s.position; skip = s.skip; head = s.head.items; good = s.good } };
+    ghost view = { λ s. record { size = s.size; position = s.position; skip = s.skip; head = s.head.items; good = s.good } };
 
     ghost invariant = { λ s. IsStep s.skip (length s.head.items) s.good };
 }
@@ -40,12 +40,12 @@ impl Stepper {
     ghost use Rattle.rate_meter.specs.declared.seen.Seen.{Seen as SeenPacket};
     ghost use Rattle.rate_meter.specs.Steps.{first_step, passed, missed, gathered, headed, pushed, told, told_at_once, shown};
 
-    /// One that stands at the first byte of a stream of this format.
-    pub fn new(format: PacketFormat) -> Stepper
-        ensures { result ≡ first_step format }
+    /// One that stands at the first byte of a stream of this size.
+    pub fn new(size: PacketSize) -> Stepper
+        ensures { result ≡ first_step size }
     {
         Stepper {
-            format,
+            size,
             position: 0,
             skip: 0,
             head: ArrayVec::new(),
@@ -80,7 +80,7 @@ impl Stepper {
         self.position += 1;
         self.head.clear();
         if self.good == IN_SYNC {
-            self.skip = self.format.stride() - 1;
+            self.skip = self.size.stride() - 1;
             self.good -= 1;
         } else {
             self.skip = 0;
@@ -104,7 +104,7 @@ impl Stepper {
             seen = seen_at(start, self.head.as_slice());
         }
         self.position += 1;
-        self.skip = self.format.stride() - HEAD;
+        self.skip = self.size.stride() - HEAD;
         self.head.clear();
         self.good = IN_SYNC.min(self.good + 1);
         seen
@@ -161,7 +161,7 @@ impl Stepper {
         let start = self.position;
         let is_told = self.good >= IN_SYNC - 1;
         self.position += HEAD as u64;
-        self.skip = self.format.stride() - HEAD;
+        self.skip = self.size.stride() - HEAD;
         self.good = IN_SYNC.min(self.good + 1);
         if is_told { seen_at(start, head) } else { None }
     }

@@ -4,10 +4,7 @@ use crate::program_change::ProgramChange;
 use crate::watched_program::WatchedProgram;
 use std::alloc::{AllocError, Global};
 use tables::{Header, Pat, Pmt};
-use tspkt::{Packet, PacketFormat};
-
-/// How many PIDs there are: a PID has 13 bits (ISO/IEC 13818-1, 2.4.3.2).
-const PIDS: usize = 8_192;
+use tspkt::{PID_COUNT, Packet, PacketSize};
 
 /// How many programs are watched at most.
 const MOST: usize = 64;
@@ -18,7 +15,7 @@ const MOST: usize = 64;
 #[derive(Drop)]
 pub(crate) struct TableWatch {
     alloc: Global,
-    format: PacketFormat,
+    size: PacketSize,
     /// Whether the PAT or a PMT comes on a PID.
     has_tables: Vec<bool>,
     /// The version of the newest PAT, if one came.
@@ -59,13 +56,13 @@ fn pid_in(pat: &Pat, program: u16) -> Option<u16> {
 }
 
 impl TableWatch {
-    /// One that saw nothing of a stream of this format.
-    pub fn new(alloc: Global, format: PacketFormat) -> Result<TableWatch, AllocError> {
-        let mut has_tables = vec![in alloc; false; PIDS]?;
+    /// One that saw nothing of a stream of this size.
+    pub fn new(alloc: Global, size: PacketSize) -> Result<TableWatch, AllocError> {
+        let mut has_tables = vec![in alloc; false; PID_COUNT]?;
         has_tables[0] = true;
         Ok(TableWatch {
             alloc,
-            format,
+            size,
             has_tables,
             pat_version: None,
             programs: Vec::new(alloc),
@@ -105,7 +102,7 @@ impl TableWatch {
         if self.is_known(pid, section) {
             return;
         }
-        let number = position / self.format.stride() as u64;
+        let number = position / self.size.stride() as u64;
         if pid != 0 {
             self.see_pmt(pid, section, number);
         } else if let Ok(pat) = Pat::read(self.alloc, section) {

@@ -1,11 +1,19 @@
--- A failed read is told of an input exactly where its source failed.
-use Rattle.std.proofs.Common.{◌≡◌, ◌⊎◌, ℕ, refl, ap, ◌∙◌, sym, subst, inl, inr}
+-- A failed read is told of an input exactly where its source failed, and loses nothing of the bytes before.
+use Rattle.std.proofs.Common.{◌≡◌, ◌⊎◌, ℕ, List, ◌++◌, refl, ap, ◌∙◌, sym, subst, inl, inr}
+use Rattle.std.proofs.lemmas.List.{append-nil}
+use Rattle.std.specs.Option.{option_to_list}
+use Rattle.schedule.specs.Schedule.{ScheduleValue}
+use Rattle.tspkt.specs.Framed.{packets_of}
+use Rattle.tspkt.specs.declared.stamped.Stamped.{Stamped}
 use Rattle.std.specs.Prelude.{Option, Some, None, IsSome, true, false}
 use Rattle.reading.specs.declared.stop.Stop.{Stop}
 use Rattle.reading.specs.declared.stop.Stop.TheVariants.{Gate, ReadFailed, TooMuch, Memory}
-use Rattle.reading.specs.declared.packet_reader.PacketReader.{PacketReader}
+use Rattle.reading.specs.Holding.{PacketReader}
 use Rattle.reading.specs.Failures.{FailsOnce}
-use Rattle.reading.specs.PacketReading.{TellsFailures, GoesOn}
+use Rattle.reading.specs.PacketReading.{HasRead, TellsFailures, GoesOn}
+use Rattle.reading.specs.Takeable.{stride_at, framed_at, takeable}
+use Rattle.reading.proofs.PacketLaws.{takeable_same}
+use Rattle.reading.proofs.StreamLaws.{told_failed}
 
 -- no read failed
 pub tells_still : {R : Type 0} (failures : R → ℕ) (before : ℕ) (old new : PacketReader R) → failures new.stream.source ≡ failures old.stream.source
@@ -77,3 +85,13 @@ goes_kept failures old new source framer stopped origin limit = record {
   origin = origin;
   limit = limit;
 }
+
+-- where a read failed, what was given and is held is what can be taken of the bytes before
+pub failed_given : {R : Type 0} (remaining : R → Option (List ℕ)) (schedule : ScheduleValue) (x : PacketReader R) (bytes : List ℕ) (given : List Stamped) → HasRead remaining schedule x bytes given
+    → x.report.stopped ≡ Some ReadFailed → given ++ option_to_list x.held ≡ takeable schedule x.origin (framed_at x.origin bytes)
+failed_given remaining schedule x bytes given has failed =
+    let items = x.stream.items in
+    let none = has.1.over (subst IsSome (sym failed) refl) in
+    let all : has.0 ++ items.ahead ≡ has.0 = ap (λ v. has.0 ++ v) none ∙ append-nil has.0 in
+    let told = told_failed (stride_at x.origin) items.limit items.framer (has.0 ++ items.ahead) bytes (remaining x.stream.source) x.report.stopped failed has.1.passed in
+    sym has.1.given_is ∙ takeable_same schedule x.origin has.0 (framed_at x.origin bytes) (ap packets_of (sym all) ∙ told.packets)

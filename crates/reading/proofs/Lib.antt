@@ -4,3 +4,4 @@ pub mod DecidedLaws
 pub mod StreamLaws
 pub mod PacketLaws
 pub mod FailureLaws
+pub mod HoldingLaws

@@ -18,7 +18,7 @@ use Rattle.reading.specs.declared.report.Report.{Report}
 use Rattle.reading.specs.declared.stop.Stop.{Stop}
 use Rattle.reading.specs.declared.stop.Stop.TheVariants.{ReadFailed, TooMuch}
 use Rattle.reading.specs.declared.stream_reader.StreamReader.{StreamReader}
-use Rattle.reading.specs.declared.packet_reader.PacketReader.{PacketReader}
+use Rattle.reading.specs.Holding.{PacketReader}
 use Rattle.reading.specs.Counting.{sum_within, with_counts, nothing_counted}
 use Rattle.reading.specs.Takeable.{OriginValue, stride_at, is_well_formed, is_named, taken_of, takeable, counted_of, CountsItems}
 use Rattle.reading.specs.Items.{ItemsValue, given_up}

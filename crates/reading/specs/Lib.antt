@@ -5,4 +5,5 @@ pub mod InputLimit
 pub mod Counting
 pub mod Items
 pub mod StreamReading
+pub mod Holding
 pub mod PacketReading

@@ -12,7 +12,7 @@ use Rattle.reading.specs.StreamReading.{HasPassed, BeginsFramed, AreAllDecided}
 use Rattle.reading.specs.declared.report.Report.{Report}
 use Rattle.reading.specs.declared.stop.Stop.TheVariants.{Gate, ReadFailed}
 use Rattle.reading.specs.declared.stream_reader.StreamReader.{StreamReader}
-use Rattle.reading.specs.declared.packet_reader.PacketReader.{PacketReader}
+use Rattle.reading.specs.Holding.{PacketReader}
 
 -- These packets begin what can be taken of the bytes, whatever follows them.
 abbrev pub BeginsTakeable : ScheduleValue → OriginValue → List ℕ → List Stamped → Type 0

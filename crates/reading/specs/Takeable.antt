@@ -5,8 +5,8 @@ use Rattle.std.specs.List.{filter_map}
 use Rattle.tspkt.specs.Framed.{framed}
 use Rattle.tspkt.specs.Packet.{fault_of, pid_of}
 use Rattle.tspkt.specs.Stamps.{time_of}
-use Rattle.tspkt.specs.PacketFormat.{stride_of}
-use Rattle.tspkt.specs.declared.packet_format.PacketFormat.{PacketFormat}
+use Rattle.tspkt.specs.PacketSize.{stride_of}
+use Rattle.tspkt.specs.declared.packet_size.PacketSize.{PacketSize}
 use Rattle.tspkt.specs.declared.stamped.Stamped.{Stamped}
 use Rattle.tspkt.specs.declared.item.Item.{Item}
 use Rattle.tspkt.specs.declared.item.Item.TheVariants.{Packet, Bad, SyncLoss, Lost}
@@ -18,16 +18,16 @@ use Rattle.reading.specs.declared.report.Report.{Report}
 -- an input by its number in the schedule, how its packets follow one another, its rate in bits a second and the time of its first byte
 pub record OriginValue : Type 0 where
   pub number : ℕ
-  pub format : PacketFormat
+  pub size : PacketSize
   pub rate : ℕ
   pub offset : ℕ
 
 abbrev pub origin_of : ℕ → InputValue → OriginValue
-origin_of number input = record { number = number; format = input.format; rate = input.rate; offset = input.offset }
+origin_of number input = record { number = number; size = input.size; rate = input.rate; offset = input.offset }
 
 -- from the first byte of a packet of the input to that of the next
 abbrev pub stride_at : OriginValue → ℕ
-stride_at origin = stride_of origin.format
+stride_at origin = stride_of origin.size
 
 -- the items of an input with these bytes
 abbrev pub framed_at : OriginValue → List ℕ → List Item
@@ -66,6 +66,14 @@ taken_of schedule origin (Packet position bytes) =
 taken_of schedule origin (Bad position) = None
 taken_of schedule origin (SyncLoss position) = None
 taken_of schedule origin (Lost count) = None
+
+-- An item is a packet that a run takes, of the stream at this place, and comes at this time.
+abbrev pub IsTakenAt : ScheduleValue → OriginValue → Item → ℕ → ℕ → Type 0
+IsTakenAt schedule origin (Packet position bytes) place stamp =
+    (fault_of bytes ≡ None) × (stamp ≡ stamp_at origin position) × (place_of_item schedule origin (item_at origin position bytes) ≡ Some place)
+IsTakenAt schedule origin (Bad position) place stamp = ⊥
+IsTakenAt schedule origin (SyncLoss position) place stamp = ⊥
+IsTakenAt schedule origin (Lost count) place stamp = ⊥
 
 -- the packets that a run takes of what framing tells, in order
 abbrev pub takeable : ScheduleValue → OriginValue → List Item → List Stamped

@@ -1,39 +1,34 @@
 //! What an item of an input counts as.
 
-ghost use Rattle.std.specs.Prelude.{◌≡◌, ◌≤◌, None, Some, IfSome, IfNone, is_some};
+ghost use Rattle.std.specs.Prelude.{◌≡◌, ◌≤◌, None, Some, IfSome, IfNone};
 ghost use Rattle.schedule.specs.Streams.{scheduled_place};
 ghost use Rattle.tspkt.specs.declared.framer.TheConstants.{MAX_LIMIT};
 ghost use Rattle.tspkt.specs.declared.item.Item.TheVariants.{Packet};
-ghost use Rattle.reading.specs.Takeable.{stamp_at, taken_of, counted_of, place_of_item};
+ghost use Rattle.reading.specs.Takeable.{stamp_at, taken_of, counted_of, IsTakenAt};
 ghost use Rattle.reading.specs.Counting.{with_counts};
 ghost use Rattle.reading.specs.Items.{IsPlaced};
 
-use crate::held::Held;
 use crate::origin::Origin;
 use crate::report::Report;
 use schedule::Schedule;
 use tspkt::Item;
 
-/// Counts an item of an input in its report, and holds the packet that its plan names, with its time. It answers the place of
-/// the packet's stream, where there is one.
+/// Counts an item of an input in its report. Where it is a packet that its plan names, the place of its stream and its time are answered.
 pub(crate) fn classify(
     schedule: &Schedule,
     origin: &mut Origin,
     item: &Item,
-    held: &mut Held,
     report: &mut Report,
-) -> Option<usize>
+) -> Option<(usize, u64)>
     requires placed { IsPlaced item.now }
-    requires held { held.old ≡ None }
-    ensures held { held.new ≡ taken_of schedule.now origin.old item.now }
-    ensures found { is_some result ≡ is_some held.new }
-    ensures number { IfSome held.new (λ taken. result ≡ place_of_item schedule.now origin.old taken) }
+    ensures some { IfSome result (λ found. IsTakenAt schedule.now origin.old item.now found.0 found.1) }
+    ensures none { IfNone result (taken_of schedule.now origin.old item.now ≡ None) }
     ensures origin { origin.new ≡ origin.old }
     ensures counts { report.new ≡ with_counts report.old (counted_of schedule.now origin.old item.now) }
 {
     match item {
         Item::Packet(position, bytes) => {
-            return classify_packet(schedule, origin, *position, bytes, held, report);
+            return classify_packet(schedule, origin, *position, bytes, report);
         }
         Item::Bad(_) => report.bad = report.bad.saturating_add(1),
         Item::SyncLoss(_) => report.losses = report.losses.saturating_add(1),
@@ -48,19 +43,16 @@ fn classify_packet(
     origin: &mut Origin,
     position: u64,
     bytes: &[u8; 188],
-    held: &mut Held,
     report: &mut Report,
-) -> Option<usize>
+) -> Option<(usize, u64)>
     requires placed { position ≤ MAX_LIMIT }
-    requires held { held.old ≡ None }
-    ensures held { held.new ≡ taken_of schedule.now origin.old (Packet position bytes.now) }
-    ensures found { is_some result ≡ is_some held.new }
-    ensures number { IfSome held.new (λ taken. result ≡ place_of_item schedule.now origin.old taken) }
+    ensures some { IfSome result (λ found. IsTakenAt schedule.now origin.old (Packet position bytes.now) found.0 found.1) }
+    ensures none { IfNone result (taken_of schedule.now origin.old (Packet position bytes.now) ≡ None) }
     ensures origin { origin.new ≡ origin.old }
     ensures counts { report.new ≡ with_counts report.old (counted_of schedule.now origin.old (Packet position bytes.now)) }
 {
     report.framed = report.framed.saturating_add(1);
-    // A packet that isn't taken is told by its header alone, and not copied.
+    // A packet is told by its header alone, and isn't copied.
     if tspkt::Packet::fault(bytes).is_some() {
         report.malformed = report.malformed.saturating_add(1);
         return None;
@@ -70,8 +62,7 @@ fn classify_packet(
         report.unmapped = report.unmapped.saturating_add(1);
         return None;
     };
-    held.hold(bytes, stamp);
-    Some(place)
+    Some((place, stamp))
 }
 
 /// The place of the stream that a packet with this PID at a position is of, where there is one, and when the packet comes. With one plan

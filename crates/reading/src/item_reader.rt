@@ -2,49 +2,44 @@
 
 use std::alloc::{AllocError, Global};
 use std::marker::Model;
-use tspkt::{FeedFault, Framer, Item, MAX_LIMIT, PacketFormat};
+use tspkt::{FeedFault, Framer, Item, ItemBuffer, MAX_LIMIT, PacketSize};
 
-/// A framer, and the items that it told and that weren't taken yet. Without a framer no more will be told.
+/// A framer, the items that it told of the last piece, and how many of them were taken. Without a framer no more will be told.
 #[derive(Drop)]
 pub(crate) struct ItemReader {
     limit: u64,
     framer: Option<Framer>,
-    items: Vec<Item>,
-    /// How many of the items were taken.
+    items: ItemBuffer,
     taken: usize,
-    /// How many of the items were told: those behind them are left from before, and the next are put over them.
-    told: usize,
 }
 
 impl Model for ItemReader {
-    ghost use Rattle.std.specs.Prelude.{◌≤◌, drop, take, vec_len};
+    ghost use Rattle.std.specs.Prelude.{◌≤◌, drop, length};
     ghost use Rattle.reading.specs.Items.{ItemsValue, AreItems};
 
     ghost Value = { ItemsValue };
 
-    ghost view = { λ r. record { limit = r.limit; framer = r.framer; ahead = drop r.taken (take r.told r.items.items) } };
+    ghost view = { λ r. record { limit = r.limit; framer = r.framer; ahead = drop r.taken r.items.told } };
 
-    ghost invariant = { λ r. (r.taken ≤ r.told) × (r.told ≤ vec_len r.items)
-        × AreItems r.limit r.framer (drop r.taken (take r.told r.items.items)) };
+    ghost invariant = { λ r. (r.taken ≤ length r.items.told) × AreItems r.limit r.framer (drop r.taken r.items.told) };
 }
 
 impl ItemReader {
     ghost use Rattle.std.specs.Prelude.{◌≡◌, ◌<◌, ◌≤◌, [], length, drop, slice_get, option_copied, IfSome, OnOk, OnErr, Err, is_none};
     ghost use Rattle.tspkt.specs.declared.framer.TheConstants.{MAX_LIMIT};
-    ghost use Rattle.tspkt.specs.PacketFormat.{stride_of};
+    ghost use Rattle.tspkt.specs.PacketSize.{stride_of};
     ghost use Rattle.reading.specs.Items.{new_items, given_up, TakesMore, IsFull, Finishes, IsPlaced};
 
-    /// One that has read nothing, of a stream of this format and of at most so many bytes.
-    pub fn new(alloc: Global, format: PacketFormat, limit: u64) -> ItemReader
+    /// One that has read nothing, of a stream of this size and of at most so many bytes.
+    pub fn new(alloc: Global, size: PacketSize, limit: u64) -> ItemReader
         requires { limit ≤ MAX_LIMIT }
-        ensures { result ≡ new_items (stride_of format) limit }
+        ensures { result ≡ new_items (stride_of size) limit }
     {
         ItemReader {
             limit,
-            framer: Some(Framer::with_size(format, limit)),
-            items: Vec::new(alloc),
+            framer: Some(Framer::with_size(size, limit)),
+            items: ItemBuffer::new(alloc),
             taken: 0,
-            told: 0,
         }
     }
 
@@ -61,7 +56,7 @@ impl ItemReader {
         ensures placed { IfSome result (λ item. IsPlaced item.now) }
         ensures within { self.now.limit ≤ MAX_LIMIT }
     {
-        self.items[..self.told].get(self.taken)
+        self.items.told().get(self.taken)
     }
 
     /// Takes the next item.
@@ -69,6 +64,8 @@ impl ItemReader {
         requires { 0 < length self.old.ahead }
         ensures { self.new ≡ record self.old { ahead = drop 1 self.old.ahead } }
     {
+        // That many are told, and so one more fits.
+        let _told = self.items.told().len();
         self.taken += 1;
     }
 
@@ -81,11 +78,11 @@ impl ItemReader {
         ensures full { IsFull self.old.limit self.old.framer piece.now → result ≡ Err FeedFault.TooMuch }
     {
         self.taken = 0;
-        self.told = 0;
+        self.items.clear();
         let Some(mut framer) = self.framer.take() else {
             return Ok(());
         };
-        self.told = framer.refill(piece, &mut self.items)?;
+        framer.refill(piece, &mut self.items)?;
         self.framer = Some(framer);
         Ok(())
     }
@@ -96,15 +93,12 @@ impl ItemReader {
         ensures ok { OnOk result (Finishes self.old.limit self.old.framer self.new) }
         ensures err { OnErr result (self.new ≡ given_up self.old) }
     {
-        self.items.clear();
         self.taken = 0;
-        self.told = 0;
+        self.items.clear();
         let Some(framer) = self.framer.take() else {
             return Ok(());
         };
-        let finished = framer.finish(&mut self.items);
-        self.told = self.items.len();
-        match finished {
+        match framer.finish_refill(&mut self.items) {
             Ok(()) => Ok(()),
             Err((_, e)) => Err(e),
         }
@@ -116,6 +110,6 @@ impl ItemReader {
     {
         self.framer = None;
         self.taken = 0;
-        self.told = 0;
+        self.items.clear();
     }
 }

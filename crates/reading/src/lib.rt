@@ -6,7 +6,6 @@
 #![tactic(auto)]
 
 mod classify;
-mod held;
 mod input_limit;
 mod item_reader;
 mod look;
@@ -24,4 +23,4 @@ pub use packet_reader::PacketReader;
 pub use report::Report;
 pub use source::{ReadSource, Source};
 pub use stop::Stop;
-pub use stream_reader::StreamReader;
+pub use stream_reader::{PIECE, StreamReader};

@@ -7,13 +7,13 @@ ghost use Rattle.reading.specs.Takeable.{OriginValue, origin_of, stamp_at};
 
 use request::Input;
 use std::marker::Model;
-use tspkt::{PacketFormat, PositionClock};
+use tspkt::{PacketSize, PositionClock};
 
 /// An input of a plan, as its packets need it: its number, how they follow one another, and when its bytes come.
 #[derive(Drop)]
 pub struct Origin {
     number: usize,
-    format: PacketFormat,
+    size: PacketSize,
     offset: u64,
     clock: PositionClock,
 }
@@ -25,7 +25,7 @@ impl Model for Origin {
 
     ghost Value = { OriginValue };
 
-    ghost view = { λ o. record { number = o.number; format = o.format; rate = o.clock.rate; offset = o.offset } };
+    ghost view = { λ o. record { number = o.number; size = o.size; rate = o.clock.rate; offset = o.offset } };
 
     ghost invariant = { λ o. o.offset ≤ MAX_OFFSET };
 }
@@ -38,9 +38,9 @@ impl Origin {
     {
         Origin {
             number,
-            format: input.format,
+            size: input.size,
             offset: input.offset,
-            clock: PositionClock::with_size(input.format, input.rate),
+            clock: PositionClock::with_size(input.size, input.rate),
         }
     }
 

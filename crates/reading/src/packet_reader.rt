@@ -1,7 +1,13 @@
 //! The packets of an input that the plans of a schedule name, each with its time.
 
+ghost use Rattle.std.specs.Prelude.{◌≡◌, ℕ, List, [], None, Some, IfSome};
+ghost use Rattle.tspkt.specs.declared.stamped.Stamped.{Stamped as GivenPacket};
+ghost use Rattle.tspkt.specs.declared.item.Item.{Item as ToldItem};
+ghost use Rattle.reading.specs.Takeable.{place_of_item};
+ghost use Rattle.reading.specs.Holding.{time_of, first_packet, held_of, stream_behind, HoldsPacket};
+ghost use Rattle.reading.specs.PacketReading.{HasLooked};
+
 use crate::classify::classify;
-use crate::held::Held;
 use crate::look::Look;
 use crate::origin::Origin;
 use crate::report::Report;
@@ -11,20 +17,68 @@ use crate::stream_reader::StreamReader;
 use request::Input;
 use schedule::Schedule;
 use std::alloc::{AllocError, Global};
-use tspkt::Stamped;
+use std::marker::Model;
+use tspkt::{Item, LentPacket};
 
-/// An input: its stream, when its packets come, the packet that it gives next, and what was found so far.
+/// An input: its stream, when its packets come, the packet that it gives next, and what was found so far. That packet isn't copied: it
+/// lies first among the items that were told, and is lent there. Contracts see it beside the stream, and the stream behind it.
 #[derive(Drop)]
 pub struct PacketReader<R> {
     origin: Origin,
     stream: StreamReader<R>,
-    /// The packet that it gives next, where it was found.
-    held: Held,
+    /// When the packet comes that it gives next, in ticks of 27 MHz, where it was found: then that packet stands first in the stream.
+    found: Option<u64>,
     report: Report,
 }
 
+impl<R> Model for PacketReader<R> {
+    ghost use Rattle.reading.specs.Holding.{PacketReader as ReaderValue, held_of, stream_behind, HoldsPacket};
+
+    ghost Value = { ReaderValue R };
+
+    ghost view = { λ x. record {
+      origin = x.origin;
+      stream = stream_behind x.found x.stream;
+      held = held_of x.found x.stream.items.ahead;
+      report = x.report;
+    } };
+
+    ghost invariant = { λ x. HoldsPacket x.found x.stream.items.ahead };
+}
+
+/// Passes the items that were told, up to the next packet that its plan names, and counts them all: that packet stands first then, and
+/// the place of its stream and its time are answered.
+fn seek<R: Source>(
+    schedule: &Schedule,
+    origin: &mut Origin,
+    stream: &mut StreamReader<R>,
+    report: &mut Report,
+) -> Option<(usize, u64)>
+    ensures read { (bytes : List ℕ) (given : List GivenPacket) (looked : List ToldItem)
+        → HasLooked R.remaining schedule.now origin.old stream.old None report.old bytes given looked
+        → (more : List ToldItem) × HasLooked R.remaining schedule.now origin.new (stream_behind (time_of result) stream.new)
+        (held_of (time_of result) stream.new.items.ahead) report.new bytes given more }
+    ensures holds { HoldsPacket (time_of result) stream.new.items.ahead }
+    ensures place { IfSome result (λ found. IfSome (first_packet found.1 stream.new.items.ahead)
+        (λ item. Some found.0 ≡ place_of_item schedule.now origin.new item)) }
+    ensures none { result ≡ None → stream.new.items.ahead ≡ [] }
+    ensures origin { origin.new ≡ origin.old }
+    ensures source { stream.new.source ≡ stream.old.source }
+    ensures limit { stream.new.items.limit ≡ stream.old.items.limit }
+    ensures framer { stream.new.items.framer ≡ stream.old.items.framer }
+    ensures stopped { report.new.stopped ≡ report.old.stopped }
+{
+    while let Some(item) = stream.peek() {
+        if let Some(found) = classify(schedule, origin, item, report) {
+            return Some(found);
+        }
+        stream.pass();
+    }
+    None
+}
+
 impl<R: Source> PacketReader<R> {
-    ghost use Rattle.std.specs.Prelude.{◌≡◌, ◌<◌, ◌≤◌, ◌⊎◌, ◌++◌, ℕ, List, [], length, None, Some, Ok, is_some, option_copied, OnErr, OnOk, IsSome, IfSome};
+    ghost use Rattle.std.specs.Prelude.{◌≡◌, ◌<◌, ◌≤◌, ◌⊎◌, ◌++◌, ℕ, List, [], length, None, Some, Ok, is_some, OnErr, OnOk, IsSome, IfSome};
     ghost use Rattle.std.specs.Option.{option_to_list};
     ghost use Rattle.tspkt.specs.declared.framer.TheConstants.{MAX_LIMIT};
     ghost use Rattle.tspkt.specs.declared.stamped.Stamped.{Stamped as GivenPacket};
@@ -57,8 +111,8 @@ impl<R: Source> PacketReader<R> {
     {
         PacketReader {
             origin: Origin::new(number, input),
-            stream: StreamReader::new(alloc, input.format, source, limit),
-            held: Held::none(),
+            stream: StreamReader::new(alloc, input.size, source, limit),
+            found: None,
             report: Report::new(),
         }
     }
@@ -115,9 +169,8 @@ impl<R: Source> PacketReader<R> {
         ensures stopped { self.new.report.stopped ≡ self.old.report.stopped }
         ensures left { left_to_read self.new.stream.items ≡ left_to_read self.old.stream.items }
     {
-        if let Some(item) = self.held.as_ref() {
-            let place = schedule.find(self.origin.number(), item.packet.pid(), item.stamp);
-            return Look::Packet(place.unwrap_or(schedule.streams().len()));
+        if let Some(number) = self.held_number(schedule) {
+            return Look::Packet(number);
         }
         if let Some(number) = self.find_told(schedule) {
             Look::Packet(number)
@@ -126,6 +179,18 @@ impl<R: Source> PacketReader<R> {
         } else {
             Look::More
         }
+    }
+
+    /// The place in a schedule of the stream of the packet that it holds, or how many streams that has where none is its; none where none
+    /// is held.
+    fn held_number(&self, schedule: &Schedule) -> Option<usize>
+        ensures held { is_some result ≡ is_some self.now.held }
+        ensures number { (number : ℕ) → result ≡ Some number
+            → IfSome self.now.held (λ item. number ≡ stream_number schedule.now self.now.origin item) }
+    {
+        let item = self.held()?;
+        let place = schedule.find(self.origin.number(), item.pid(), item.stamp());
+        Some(place.unwrap_or(schedule.streams().len()))
     }
 
     /// Holds the next packet that its plan names of the items that were told, if there is one, and answers the place of its
@@ -143,20 +208,15 @@ impl<R: Source> PacketReader<R> {
         ensures framer { self.new.stream.items.framer ≡ self.old.stream.items.framer }
         ensures stopped { self.new.report.stopped ≡ self.old.report.stopped }
     {
-        while let Some(item) = self.stream.peek() {
-            let number = classify(
-                schedule,
-                &mut self.origin,
-                item,
-                &mut self.held,
-                &mut self.report,
-            );
-            self.stream.pass();
-            if number.is_some() {
-                return number;
-            }
-        }
-        None
+        let PacketReader {
+            origin,
+            stream,
+            found,
+            report,
+        } = self;
+        let (place, stamp) = seek(schedule, origin, stream, report)?;
+        *found = Some(stamp);
+        Some(place)
     }
 
     /// Reads the next piece, of at most the length of `piece`, and frames it, where a look found that more has to be read. A
@@ -187,11 +247,16 @@ impl<R: Source> PacketReader<R> {
         }
     }
 
-    /// The packet that it holds: the one that it gives next.
-    pub fn held(&self) -> Option<&Stamped>
-        ensures { option_copied result ≡ self.now.held }
+    /// The packet that it holds, lent: the one that it gives next.
+    #[inline(always)]
+    pub fn held(&self) -> Option<LentPacket<'_>>
+        ensures { result ≡ self.now.held }
     {
-        self.held.as_ref()
+        let stamp = self.found?;
+        match self.stream.peek() {
+            Some(Item::Packet(_, bytes)) => Some(LentPacket::new(bytes, stamp)),
+            _ => unreachable!(),
+        }
     }
 
     /// Gives the packet that it holds.
@@ -201,22 +266,8 @@ impl<R: Source> PacketReader<R> {
             → HasRead R.remaining schedule self.new bytes (given ++ option_to_list self.old.held) }
         ensures stays { self.new ≡ record self.old { held = None } }
     {
-        self.held.clear();
-    }
-
-    /// Leaves the input, since the run ends before it, unless it was left for another cause.
-    pub fn leave(&mut self)
-        ensures read { (schedule : ScheduleValue) (bytes : List ℕ) (given : List GivenPacket)
-            → HasRead R.remaining schedule self.old bytes given
-            → HasRead R.remaining schedule self.new bytes given }
-        ensures gate { self.old.report.stopped ≡ None
-            → self.new.report ≡ record self.old.report { stopped = Some Stop.Gate } }
-        ensures stopped { IsSome self.old.report.stopped → self.new ≡ self.old }
-        ensures source { self.new.stream.source ≡ self.old.stream.source }
-    {
-        if self.report.stopped.is_none() {
-            self.stream.leave();
-            self.report.stopped = Some(Stop::Gate);
+        if self.found.take().is_some() {
+            self.stream.pass();
         }
     }
 

@@ -4,7 +4,10 @@ use crate::item_reader::ItemReader;
 use crate::source::Source;
 use crate::stop::Stop;
 use std::alloc::Global;
-use tspkt::{FeedFault, Item, PacketFormat};
+use tspkt::{FeedFault, Item, PacketSize};
+
+/// How many bytes a run reads of an input at once, at most.
+pub const PIECE: usize = 65_536;
 
 /// A stream: what it is read from, and the items that framing told of it and that weren't taken yet.
 #[derive(Drop)]
@@ -19,20 +22,20 @@ impl<R: Source> StreamReader<R> {
     ghost use Rattle.tspkt.specs.declared.framer.TheConstants.{MAX_LIMIT};
     ghost use Rattle.tspkt.specs.declared.item.Item.{Item as ToldItem};
     ghost use Rattle.reading.specs.declared.stop.Stop.{Stop as Cause};
-    ghost use Rattle.tspkt.specs.PacketFormat.{stride_of};
+    ghost use Rattle.tspkt.specs.PacketSize.{stride_of};
     ghost use Rattle.reading.specs.Items.{new_items, given_up, left_to_read, IsPlaced};
     ghost use Rattle.reading.specs.StreamReading.{HasPassed, ReadsMore, ToldOfRead, stopped_by};
 
-    /// A stream of this format of which nothing was read, of at most so many bytes: up to 140,737,488,355,328.
-    pub fn new(alloc: Global, format: PacketFormat, source: R, limit: u64) -> StreamReader<R>
+    /// A stream of this size of which nothing was read, of at most so many bytes: up to 140,737,488,355,328.
+    pub fn new(alloc: Global, size: PacketSize, source: R, limit: u64) -> StreamReader<R>
         requires { limit ≤ MAX_LIMIT }
-        ensures passed { HasPassed R.remaining (stride_of format) result [] None [] }
+        ensures passed { HasPassed R.remaining (stride_of size) result [] None [] }
         ensures source { result.source ≡ source }
-        ensures items { result.items ≡ new_items (stride_of format) limit }
+        ensures items { result.items ≡ new_items (stride_of size) limit }
     {
         StreamReader {
             source,
-            items: ItemReader::new(alloc, format, limit),
+            items: ItemReader::new(alloc, size, limit),
         }
     }
 
@@ -129,16 +132,6 @@ impl<R: Source> StreamReader<R> {
             Ok(()) => Ok(()),
             Err(_) => Err(Stop::Memory),
         }
-    }
-
-    /// Reads no further, where nothing else stopped the stream, and gives up what wasn't taken.
-    pub fn leave(&mut self)
-        ensures left { (stride : ℕ) (bytes : List ℕ) (passed : List ToldItem)
-            → HasPassed R.remaining stride self.old bytes None passed
-            → HasPassed R.remaining stride self.new bytes (Some Stop.Gate) passed }
-        ensures stays { self.new ≡ record self.old { items = given_up self.old.items } }
-    {
-        self.items.give_up();
     }
 
     /// What it was read from.

@@ -3,8 +3,8 @@
 use Rattle.std.specs.Prelude.{◌≡◌, ◌≢◌, ◌≤◌, ◌<◌, ℕ, ℤ, pos, negsuc, Bool, false, true, not, ◌&&◌, ◌||◌, if◌then◌else◌, List, [], ◌∷◌, ◌++◌, map, length, string_bytes, Option, Some, None, All, AllPairs}
 use Rattle.std.specs.Ordering.{int_eq}
 use Rattle.std.specs.List.{list_any, filter, flat_map, position_or_len}
-use Rattle.tspkt.specs.declared.packet_format.PacketFormat.{PacketFormat}
-use Rattle.tspkt.specs.declared.packet_format.PacketFormat.TheVariants.{Ts188, Ts204}
+use Rattle.tspkt.specs.declared.packet_size.PacketSize.{PacketSize}
+use Rattle.tspkt.specs.declared.packet_size.PacketSize.TheVariants.{Ts188, Ts204}
 use Rattle.tables.specs.Descriptors.{are_whole}
 use Rattle.request.specs.Limits.{MIN_RATE, MAX_RATE, MIN_LEAK, MAX_LEAK, MAX_OFFSET, MAX_SLOTS, MAX_VERSION, MAX_ITEMS, MAX_ID, FIRST_PID, LAST_PID, MAX_INPUTS, MAX_SERVICES, MAX_STREAMS, MAX_NAME, FIRST_LETTER, LAST_LETTER, MAX_DESCRIPTORS}
 use Rattle.request.specs.declared.plan_fault.PlanFault.{PlanFault}
@@ -89,15 +89,15 @@ natural_of (pos n) = n
 natural_of (negsuc n) = 0
 
 -- how the packets of an input of this size follow one another: every 188 bytes where it isn't said
-abbrev pub format_of : Option ℤ → PacketFormat
-format_of None = Ts188
-format_of (Some z) = if int_eq z (pos 204) then Ts204 else Ts188
+abbrev pub size_of : Option ℤ → PacketSize
+size_of None = Ts188
+size_of (Some z) = if int_eq z (pos 204) then Ts204 else Ts188
 
 pub record InputValue : Type 0 where
   pub file : List ℕ
   pub rate : ℕ
   pub offset : ℕ
-  pub format : PacketFormat
+  pub size : PacketSize
 
 -- a service names its streams by their numbers
 pub record ServiceValue : Type 0 where
@@ -124,7 +124,7 @@ pub record RequestValue : Type 0 where
   pub streams : List Stream
 
 abbrev pub input_of : InputPartsValue → InputValue
-input_of i = record { file = i.file; rate = natural_of i.rate; offset = natural_of i.offset; format = format_of i.size }
+input_of i = record { file = i.file; rate = natural_of i.rate; offset = natural_of i.offset; size = size_of i.size }
 
 abbrev pub stream_of : StreamRow → Stream
 stream_of r = record {
@@ -220,7 +220,7 @@ pub record IsRequest (r : RequestValue) : Type 0 where
 -- The Rust types without where they lie in memory.
 
 abbrev pub input_value : Input → InputValue
-input_value i = record { file = string_bytes i.file; rate = i.rate; offset = i.offset; format = i.format }
+input_value i = record { file = string_bytes i.file; rate = i.rate; offset = i.offset; size = i.size }
 
 abbrev pub service_value : Service → ServiceValue
 service_value s = record { input = s.input; program = s.program; service = s.service; pmt = s.pmt; streams = s.streams.items }

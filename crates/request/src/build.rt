@@ -1,7 +1,7 @@
 //! The parts of a request, made of a plan without fault.
 
 ghost use Rattle.std.specs.Prelude.{◌≡◌, ◌<◌, ◌^◌, IfOk, map, All};
-ghost use Rattle.request.specs.Request.{natural_of, settings_of, format_of, input_of, input_value, stream_of, stream_number, service_rows, service_of, service_value};
+ghost use Rattle.request.specs.Request.{natural_of, settings_of, size_of, input_of, input_value, stream_of, stream_number, service_rows, service_of, service_value};
 ghost use Rattle.request.specs.Answers.{HasShortIds, HasShortNumbers, HasShortPids};
 ghost use Rattle.request.specs.Parts.{input_parts_value, service_parts_value, parts_value};
 
@@ -14,7 +14,7 @@ use crate::settings::Settings;
 use crate::stream::Stream;
 use crate::stream_row::StreamRow;
 use std::alloc::{AllocError, Global};
-use tspkt::PacketFormat;
+use tspkt::PacketSize;
 
 /// The number, or 0 for a negative one.
 fn natural(number: i64) -> u64
@@ -53,18 +53,18 @@ pub fn make_settings(parts: &Parts) -> Settings
 }
 
 /// How the packets of an input of this size follow one another.
-fn format_of(size: Option<i64>) -> PacketFormat
-    ensures { result ≡ format_of size }
+fn size_of(size: Option<i64>) -> PacketSize
+    ensures { result ≡ size_of size }
 {
     match size {
         Some(size) => {
             if size == 204 {
-                PacketFormat::Ts204
+                PacketSize::Ts204
             } else {
-                PacketFormat::Ts188
+                PacketSize::Ts188
             }
         }
-        None => PacketFormat::Ts188,
+        None => PacketSize::Ts188,
     }
 }
 
@@ -76,7 +76,7 @@ fn make_input(parts: InputParts) -> Input
         file: parts.file,
         rate: natural(parts.rate),
         offset: natural(parts.offset),
-        format: format_of(parts.size),
+        size: size_of(parts.size),
     }
 }
 

@@ -15,7 +15,7 @@ fn copy_input(alloc: Global, input: &Input) -> Result<Input, AllocError>
         file: String::from_str(alloc, input.file.as_str())?,
         rate: input.rate,
         offset: input.offset,
-        format: input.format,
+        size: input.size,
     })
 }
 

@@ -1,6 +1,6 @@
 //! An input of a request.
 
-use tspkt::PacketFormat;
+use tspkt::PacketSize;
 
 /// A transport stream that services are taken from.
 #[derive(Drop)]
@@ -12,5 +12,5 @@ pub struct Input {
     /// When its first byte comes, in ticks of 27 MHz, 0 to 97,200,000,000.
     pub offset: u64,
     /// How its packets follow one another.
-    pub format: PacketFormat,
+    pub size: PacketSize,
 }

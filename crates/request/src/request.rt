@@ -98,10 +98,16 @@ impl Request {
         })
     }
 
+    /// What every request keeps: each number is in its range, and none is used for two things.
+    pub fn known(&self)
+        ensures { IsRequest self.now }
+    {
+        let _ = &self.settings;
+    }
+
     /// The rate of the multiplex, in bits a second, 500,000 to 100,000,000.
     pub fn rate(&self) -> u64
         ensures value { result ≡ self.now.rate }
-        ensures request { IsRequest self.now }
     {
         self.settings.rate
     }

@@ -11,7 +11,7 @@ pub fn fast_recurs(rounds: &TableRounds, place: usize)
     requires { place < rounds.now.fast_len }
     ensures { RecursWithin rounds.now (Fast place) (fast_limit_of rounds.now.rate) }
 {
-    let _ = rounds.rate();
+    rounds.known();
 }
 
 /// Each packet of the SDT comes at least each two seconds, and so each of the NIT at least each
@@ -21,26 +21,26 @@ pub fn slow_recurs(rounds: &TableRounds, place: usize)
     ensures sdt { RecursWithin rounds.now (Slow place) (sdt_limit_of rounds.now.rate) }
     ensures nit { RecursWithin rounds.now (Slow place) (nit_limit_of rounds.now.rate) }
 {
-    let _ = rounds.rate();
+    rounds.known();
 }
 
 /// Two table slots are a gap apart at least.
 pub fn tables_are_apart(rounds: &TableRounds)
     ensures { AreApart rounds.now }
 {
-    let _ = rounds.rate();
+    rounds.known();
 }
 
 /// The first slot of each round carries the PAT's first packet, slot 0 among them.
 pub fn rounds_begin(rounds: &TableRounds)
     ensures { RoundsBegin rounds.now }
 {
-    let _ = rounds.rate();
+    rounds.known();
 }
 
 /// No slot carries a packet that isn't in one of the two lists.
 pub fn are_places(rounds: &TableRounds)
     ensures { ArePlaces rounds.now }
 {
-    let _ = rounds.rate();
+    rounds.known();
 }

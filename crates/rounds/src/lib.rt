@@ -6,11 +6,13 @@
 #![tactic(auto)]
 
 pub mod laws;
+mod limits;
 mod rounds_fault;
 mod table_place;
 mod table_rounds;
 mod table_turn;
 
+pub use limits::{SLOT_BITS, gap, half_second, two_seconds};
 pub use rounds_fault::RoundsFault;
 pub use table_place::TablePlace;
 pub use table_rounds::TableRounds;

@@ -1,15 +1,9 @@
 //! When the tables are sent.
 
+use crate::limits::{gap, half_second, two_seconds};
 use crate::rounds_fault::RoundsFault;
 use crate::table_place::TablePlace;
 use std::marker::Model;
-
-/// The least gap between two table packets, in slots.
-const MIN_GAP: u64 = 2;
-/// How fast the buffer of the tables leaks, in bits a second (ISO/IEC 13818-1, 2.4.2.3).
-const LEAK: u64 = 1_000_000;
-/// The bits of a slot.
-const SLOT_BITS: u64 = 1_504;
 
 /// The rounds in which the tables of a multiplex are sent (profile; the times are those of
 /// ETSI TR 101 290, 5.2.1 and ETSI TR 101 211, 4.4).
@@ -85,13 +79,11 @@ impl TableRounds {
             (λ rounds. (rounds ≡ r) × (rounds_fault_of r ≡ None))
             (λ fault. rounds_fault_of r ≡ Some fault) }
     {
-        let gap = MIN_GAP.max(rate.div_ceil(LEAK));
+        let gap = gap(rate);
         if period < (fast_len as u64 + 1) * gap {
             return Err(RoundsFault::RoundTooLong);
         }
-        let half_second = rate / (2 * SLOT_BITS);
-        let two_seconds = 2 * rate / SLOT_BITS;
-        if half_second < period || two_seconds < slow_len as u64 * period {
+        if half_second(rate) < period || two_seconds(rate) < slow_len as u64 * period {
             return Err(RoundsFault::PeriodTooLong);
         }
         Ok(TableRounds {
@@ -103,10 +95,17 @@ impl TableRounds {
         })
     }
 
-    /// The rate of the multiplex, in bits a second. What all rounds keep is known with it.
+    /// What all rounds keep; and their rate is a number of 64 bits.
+    pub fn known(&self)
+        ensures rounds { IsRounds self.now }
+        ensures rate { self.now.rate ≤ u64.MAX }
+    {
+        let _rate = self.rate;
+    }
+
+    /// The rate of the multiplex, in bits a second.
     pub fn rate(&self) -> u64
         ensures value { result ≡ self.now.rate }
-        ensures rounds { IsRounds self.now }
     {
         self.rate
     }

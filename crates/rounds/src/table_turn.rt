@@ -38,7 +38,7 @@ impl TableTurn {
     pub fn new(rounds: &TableRounds) -> TableTurn
         ensures { result ≡ record { rounds = rounds.now; slot = 0 } }
     {
-        let _ = rounds.rate();
+        rounds.known();
         TableTurn {
             rounds: *rounds,
             pause: rounds.period() - rounds.fast_len() as u64 * rounds.gap(),

@@ -5,7 +5,8 @@ use Rattle.std.proofs.lemmas.List.{length-map, get_or-map}
 use Rattle.std.proofs.lemmas.List.Elements.{All-map, All-cons}
 use Rattle.plan.specs.Build.{PlanValue}
 use Rattle.schedule.specs.Schedule.{SpanValue, schedule_of, spans, span_at, plan_at}
-use Rattle.schedule.specs.Laws.{IsBuilt, AreBuilt}
+use Rattle.plan.specs.Built.{IsBuilt}
+use Rattle.schedule.specs.Laws.{AreBuilt}
 
 -- a later plan with its slot
 abbrev pub span_of : ℕ × PlanValue → SpanValue

@@ -1,20 +1,20 @@
 -- What holds of each schedule: what its plans keep, which plan is the last that has begun, and that an output PID has one use.
 use Rattle.std.specs.Prelude.{ℕ, ◌≡◌, ◌≢◌, ◌≤◌, ◌<◌, length, All, Contains}
 use Rattle.request.specs.declared.stream.Stream.{Stream}
-use Rattle.request.specs.Request.{ServiceValue, IsRequest}
-use Rattle.rounds.specs.Rounds.{IsRounds}
-use Rattle.plan.specs.Build.{PlanValue, IsPlan}
-use Rattle.schedule.specs.Switches.{HasPmtOf}
+use Rattle.request.specs.Request.{ServiceValue}
+use Rattle.plan.specs.Built.{IsBuilt}
+use Rattle.schedule.specs.Switches.{HasPmtOf, IsSchedule}
 use Rattle.schedule.specs.Schedule.{SpanValue, ScheduleValue, spans, span_at, plan_at, slot_time}
 
--- what each plan keeps: its numbers are in range, each table comes in time, and its tables are those of the services that were chosen
-pub record IsBuilt (p : PlanValue) : Type 0 where
-  pub request : IsRequest p.request
-  pub rounds : IsRounds p.rounds
-  pub tables : IsPlan p
-
+-- its plans keep what each plan keeps
 abbrev pub AreBuilt : ScheduleValue → Type 0
 AreBuilt s = All (λ (w : SpanValue). IsBuilt w.plan) (spans s)
+
+-- What each schedule keeps: its plans may follow one another; and of each plan, that its numbers are in range, each table comes in time,
+-- and its tables are those of the services that were chosen.
+pub record IsMultiplexSchedule (s : ScheduleValue) : Type 0 where
+  pub schedule : IsSchedule s
+  pub plans : AreBuilt s
 
 -- in slot m, the span of this plan has begun, and that of no later one
 pub record IsInForce (s : ScheduleValue) (m number : ℕ) : Type 0 where

@@ -13,7 +13,7 @@ fn is_same_input(input: &Input, other: &Input) -> bool
     input.file.as_str() == other.file.as_str()
         && input.rate == other.rate
         && input.offset == other.offset
-        && input.format == other.format
+        && input.size == other.size
 }
 
 /// Whether two lists of inputs agree.

@@ -8,17 +8,13 @@ use crate::evenness::is_even_with;
 use crate::output_pids::reuses_no_pid;
 use plan::Plan;
 use request::PlanFault;
-use rounds::TableRounds;
+use rounds::{TableRounds, half_second};
 
 /// How many plans may follow the first.
 pub const MAX_LATER_PLANS: usize = 16;
 
 /// The last slot that a later plan may be in force from.
 pub const LAST_SWITCH_SLOT: u64 = 999_999;
-
-/// A rate in bits a second, divided by this, is how many slots of 1,504 bits half a second has: within it PAT and PMTs come again (ETSI
-/// TR 101 290, 5.2.1).
-const HALF_SECOND: u64 = 2 * 8 * 188;
 
 /// The plan of this number: the first has number 0.
 pub(crate) fn plan_at<'a>(first: &'a Plan, later: &'a [(u64, Plan)], number: usize) -> &'a Plan
@@ -117,7 +113,7 @@ fn slots_follow(first: &Plan, later: &[(u64, Plan)]) -> bool
     if later.len() > MAX_LATER_PLANS {
         return false;
     }
-    let _ = first.request().rate();
+    first.known();
     let period = first.period();
     for (number, after) in later.iter().enumerate() {
         if !is_switch_slot(period, slot_at(first, later, number), after.0) {
@@ -131,7 +127,8 @@ fn slots_follow(first: &Plan, later: &[(u64, Plan)]) -> bool
 fn is_short_across(rounds: &TableRounds) -> bool
     ensures { IsTrue result ↔ IsShortAcross rounds.now }
 {
-    let limit = rounds.rate() / HALF_SECOND;
+    rounds.known();
+    let limit = half_second(rounds.rate());
     rounds.period() + rounds.fast_len() as u64 * rounds.gap() <= limit
 }
 

@@ -13,40 +13,40 @@ use plan::Plan;
 pub fn plans_in_force(schedule: &Schedule)
     ensures { (slot : ℕ) → IsInForce schedule.now slot (number_in_slot schedule.now slot) }
 {
-    let _ = schedule.later_plans();
+    schedule.known();
 }
 
 /// A packet belongs to the last plan whose first slot goes out at the packet's time or before, or to the first plan.
 pub fn plans_of_packets(schedule: &Schedule)
     ensures { (stamp : ℕ) → IsOfPlan schedule.now stamp (number_for schedule.now stamp) }
 {
-    let _ = schedule.later_plans();
+    schedule.known();
 }
 
 /// An output PID has one use in all plans, a stream or the PMT of a service, and doesn't come back once it went.
 pub fn uses_of_pids(schedule: &Schedule)
     ensures { HavePidsOneUse schedule.now }
 {
-    let _ = schedule.later_plans();
+    schedule.known();
 }
 
 /// The streams of a schedule are those of its plans, each once.
 pub fn streams_of_plans(schedule: &Schedule)
     ensures { AreStreamsOf schedule.now (all_streams schedule.now) }
 {
-    let _ = schedule.later_plans();
+    schedule.known();
 }
 
 /// A packet's place is that of its stream, and there is none exactly where the plan that it belongs to has no such stream.
 pub fn places_of_packets(schedule: &Schedule)
     ensures { ArePlaces schedule.now }
 {
-    let _ = schedule.later_plans();
+    schedule.known();
 }
 
 /// Where there is one plan, a stream's place is its number in the plan.
 pub fn places_of_one_plan(plan: &Plan)
     ensures { (input pid stamp : ℕ) → scheduled_place (single plan.now) input pid stamp ≡ stream_place plan.now.request.streams input pid }
 {
-    let _ = plan.request().rate();
+    plan.known();
 }

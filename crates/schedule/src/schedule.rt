@@ -52,6 +52,7 @@ fn switch_times(alloc: Global, first: &Plan, later: &[(u64, Plan)]) -> Result<Ve
     requires { SlotsFollow (schedule_of first.now later.now) }
     ensures { IfOk result (λ times. times.items ≡ times_of first.now later.now) }
 {
+    first.known();
     let rate = first.request().rate();
     let mut times = Vec::with_capacity(alloc, later.len())?;
     for after in later {
@@ -102,7 +103,7 @@ fn number_in(plan: &Plan, stream: usize) -> Option<usize>
     ensures { result ≡ option_and_then (λ (st : Stream). place_of plan.now.request.streams st.output_pid)
         (slice_get plan.now.request.streams stream) }
 {
-    let _ = plan.request().rate();
+    plan.known();
     if stream < plan.streams().len() {
         Some(stream)
     } else {
@@ -116,7 +117,7 @@ impl Schedule {
     ghost use Rattle.schedule.specs.Schedule.{SpanValue, schedule_of, single, slot_time, plan_at, number_for, scheduled_stream};
     ghost use Rattle.schedule.specs.Streams.{all_streams, place_of, scheduled_place};
     ghost use Rattle.schedule.specs.Switches.{IsSchedule, IsScheduleFault};
-    ghost use Rattle.schedule.specs.Laws.{AreBuilt};
+    ghost use Rattle.schedule.specs.Laws.{IsMultiplexSchedule};
 
     /// The schedule of one plan.
     pub fn single(alloc: Global, plan: Plan) -> Schedule
@@ -180,11 +181,16 @@ impl Schedule {
         Schedule::assemble(alloc, first, later)
     }
 
-    /// How many plans follow the first. What every schedule keeps is known with it.
+    /// What every schedule keeps.
+    pub fn known(&self)
+        ensures { IsMultiplexSchedule self.now }
+    {
+        let _ = &self.later;
+    }
+
+    /// How many plans follow the first.
     pub fn later_plans(&self) -> usize
         ensures count { result ≡ length self.now.later }
-        ensures schedule { IsSchedule self.now }
-        ensures plans { AreBuilt self.now }
     {
         self.later.len()
     }

@@ -3,6 +3,7 @@ pub mod TableLaws
 pub mod SectionLaws
 pub mod CollectLaws
 pub mod SectionsLaws
+pub mod AssembledLaws
 pub mod FoundLaws
 pub mod PartLaws
 pub mod FoundAgainLaws

@@ -127,6 +127,11 @@ packet_told s packet =
     else if is_discontinuous s.last packet then read_with (cut s.begun) packet (reading_of [] packet)
     else read_with [] packet (reading_of s.begun packet)
 
+-- what is known behind some packets of one PID, from a state on
+abbrev pub state_behind : AssemblerState → List (List ℕ) → AssemblerState
+state_behind s [] = s
+state_behind s (packet ∷ packets) = state_behind (packet_told s packet).state packets
+
 -- what the packets of one PID tell, from a state on
 abbrev pub assembled_from : AssemblerState → List (List ℕ) → List Told
 assembled_from s [] = []

@@ -13,5 +13,6 @@ mod told;
 pub use assembler::Assembler;
 pub use assembly::assemble;
 pub use packets::packets_of;
+pub use reading::MAX_SECTION_LENGTH;
 pub use register::crc;
 pub use told::Told;

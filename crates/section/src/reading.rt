@@ -12,8 +12,8 @@ use crate::register::crc;
 use crate::told::Told;
 use arrayvec::ArrayVec;
 
-/// The most that section_length may be.
-const MAX_SECTION_LENGTH: usize = 1021;
+/// The most that section_length of a table may be (ISO/IEC 13818-1, 2.4.4; ETSI EN 300 468, 5.2).
+pub const MAX_SECTION_LENGTH: usize = 1021;
 
 /// Where a table_id would stand: no section begins here, nor behind it.
 const STUFFING: u8 = 0xFF;

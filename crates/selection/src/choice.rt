@@ -178,7 +178,7 @@ pub fn choose<'a>(request: &'a Request, found: &'a [Found]) -> Result<ChosenServ
         choice_fault_of request.now (map findings_of found.now) ≡ Some e) }
 {
     // That there are 1 to 16 services is known with it.
-    let _ = request.rate();
+    request.known();
     let services = request.services();
     if has_no_program(request, found, services) {
         return Err(PlanFault::NoProgram);

@@ -14,7 +14,7 @@ use Rattle.reading.specs.Takeable.{stride_at, origin_of}
 use Rattle.reading.specs.InputLimit.{limit_of_input}
 use Rattle.reading.specs.PacketReading.{HasRead}
 use Rattle.reading.specs.PacketReading.{TellsFailures}
-use Rattle.reading.specs.declared.packet_reader.PacketReader.{PacketReader}
+use Rattle.reading.specs.Holding.{PacketReader}
 use Rattle.reading.specs.declared.input_limit.InputLimit.{InputLimit}
 use Rattle.reading.proofs.PacketLaws.{looked_framed}
 use Rattle.tspkt.specs.Framed.{framed, framed_from}
@@ -100,7 +100,7 @@ nothing_looked remaining p x h =
     append_none h.0 b.0 (b.1 ∙ framed_none (stride_at x.origin))
 
 pub opened_input : {R : Type 0} (remaining : R → Option (List ℕ)) (failures : R → ℕ) (limit : InputLimit) (p : ScheduleValue) (i : ℕ) (input : InputValue) (reader : R) (x : SerialInput R)
-    → slice_get p.first.request.inputs i ≡ Some input → IsInput input → x.inlet.origin ≡ origin_of i input → limit_of_input limit input.format ≤ MAX_LIMIT → x.inlet.stream.items.limit ≡ limit_of_input limit input.format → x.inlet.stream.source ≡ reader
+    → slice_get p.first.request.inputs i ≡ Some input → IsInput input → x.inlet.origin ≡ origin_of i input → limit_of_input limit input.size ≤ MAX_LIMIT → x.inlet.stream.items.limit ≡ limit_of_input limit input.size → x.inlet.stream.source ≡ reader
     → x.inlet.report ≡ nothing_counted → x.is_closed ≡ false → HasRead remaining p x.inlet [] [] → TellsFailures failures (failures reader) x.inlet → IsOpened remaining failures limit p i reader x
 opened_input {R} remaining failures limit p i input reader x at is origin most size source report opened read tells =
     let C : R → Type 0 = λ v. Consumes (remaining reader) (remaining v) [] in
@@ -117,7 +117,7 @@ opened_input {R} remaining failures limit p i input reader x at is origin most s
         stands = λ e. inl (nothing_looked remaining p x.inlet read);
         notes = notes_none p i (option_to_list x.inlet.held);
       };
-      limited = λ other there. size ∙ ap (λ (v : InputValue). limit_of_input limit v.format) (same_Some input other (sym at ∙ there));
+      limited = λ other there. size ∙ ap (λ (v : InputValue). limit_of_input limit v.size) (same_Some input other (sym at ∙ there));
       told = tells;
     }
 

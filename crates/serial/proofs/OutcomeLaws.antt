@@ -1,25 +1,20 @@
 -- What comes of a run in one thread.
 use Rattle.std.proofs.Common.{ℕ, ◌≤◌, ◌≡◌, List, [], ◌++◌, length, map, map-id, Option, Some, refl, ap, ◌∙◌, sym, subst, arith, inl, inr}
-use Rattle.std.specs.Prelude.{IsSome}
 use Rattle.std.specs.List.{slice_get}
 use Rattle.std.specs.Option.{option_map, option_to_list}
 use Rattle.std.proofs.lemmas.List.{length-map, append-nil}
 use Rattle.std.proofs.lemmas.Option.{none-some, same_Some, slice_get_within, slice_get-map}
-use Rattle.tspkt.specs.Framed.{packets_of}
-use Rattle.tspkt.specs.declared.stamped.Stamped.{Stamped}
 use Rattle.request.specs.Request.{InputValue}
 use Rattle.schedule.specs.Schedule.{ScheduleValue}
 use Rattle.mux.specs.declared.event.Event.{Event}
 use Rattle.mux.specs.History.{Run, taken, is_closed}
-use Rattle.mux.specs.Plans.{IsMultiplexSchedule}
-use Rattle.reading.specs.PacketReading.{HasRead}
+use Rattle.schedule.specs.Laws.{IsMultiplexSchedule}
 use Rattle.reading.specs.Takeable.{OriginValue, stride_at, framed_at, takeable, origin_of, CountsItems, EndsAtTaken}
 use Rattle.reading.specs.declared.input_limit.InputLimit.{InputLimit}
-use Rattle.reading.specs.declared.packet_reader.PacketReader.{PacketReader}
 use Rattle.reading.specs.declared.stop.Stop.{Stop}
-use Rattle.reading.specs.declared.stop.Stop.TheVariants.{Gate, Memory, ReadFailed}
-use Rattle.reading.proofs.PacketLaws.{too_much, within_read, counts_told, looked_framed, held_begins, whole_read, takeable_same}
-use Rattle.reading.proofs.StreamLaws.{told_failed}
+use Rattle.reading.specs.declared.stop.Stop.TheVariants.{Gate, Memory}
+use Rattle.reading.proofs.FailureLaws.{failed_given}
+use Rattle.reading.proofs.PacketLaws.{too_much, within_read, counts_told, looked_framed, held_begins, whole_read}
 use Rattle.outlet.specs.declared.run_fault.RunFault.{RunFault}
 use Rattle.outlet.specs.declared.run_fault.RunFault.TheVariants as run_faults
 use Rattle.outcome.specs.Ending.{IsLast, HadMemory, IsTold}
@@ -44,16 +39,6 @@ use Rattle.serial.proofs.FeedingLaws.{waited_for}
 use Rattle.serial.proofs.HaltedLaws.{halted_running}
 
 -- ---- an input, as any run leaves one
-
--- where a read failed, what was given and is held is what can be taken of the bytes before
-failed_given : {R : Type 0} (remaining : R → Option (List ℕ)) (p : ScheduleValue) (x : PacketReader R) (bytes : List ℕ) (given : List Stamped) → HasRead remaining p x bytes given → x.report.stopped ≡ Some ReadFailed
-    → given ++ option_to_list x.held ≡ takeable p x.origin (framed_at x.origin bytes)
-failed_given remaining p x bytes given has failed =
-    let items = x.stream.items in
-    let none = has.1.over (subst IsSome (sym failed) refl) in
-    let all : has.0 ++ items.ahead ≡ has.0 = ap (λ v. has.0 ++ v) none ∙ append-nil has.0 in
-    let told = told_failed (stride_at x.origin) items.limit items.framer (has.0 ++ items.ahead) bytes (remaining x.stream.source) x.report.stopped failed has.1.passed in
-    sym has.1.given_is ∙ takeable_same p x.origin has.0 (framed_at x.origin bytes) (ap packets_of (sym all) ∙ told.packets)
 
 -- what came of it is what it gave, and what it holds
 served : {R : Type 0} (remaining : R → Option (List ℕ)) (p : ScheduleValue) (h : List Event) (i : ℕ) (start : Option (List ℕ)) (x : SerialInput R) → HasFed remaining p h i start x → (x.inlet.report.stopped ≡ Some Gate → ⊥)

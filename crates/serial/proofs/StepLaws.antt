@@ -7,7 +7,7 @@ use Rattle.schedule.specs.Schedule.{ScheduleValue}
 use Rattle.mux.specs.declared.event.Event.{Event}
 use Rattle.mux.specs.declared.sending.Sending.TheVariants as sending
 use Rattle.mux.specs.History.{Run, History, with_event, emitted}
-use Rattle.mux.specs.Plans.{IsMultiplexSchedule}
+use Rattle.schedule.specs.Laws.{IsMultiplexSchedule}
 use Rattle.mux.specs.Answers as answers
 use Rattle.mux.specs.Answers.{SendAnswers, IsLeastUnready}
 use Rattle.reading.specs.PacketReading.{TellsFailures}

@@ -7,13 +7,13 @@ use Rattle.schedule.specs.Schedule.{ScheduleValue}
 use Rattle.mux.specs.declared.event.Event.{Event}
 use Rattle.mux.specs.declared.event.Event.TheVariants.{Full, Early, Close}
 use Rattle.mux.specs.History.{History, with_event, taken}
-use Rattle.mux.specs.Plans.{IsMultiplexSchedule}
+use Rattle.schedule.specs.Laws.{IsMultiplexSchedule}
 use Rattle.mux.specs.Lawful.{is_ready}
 use Rattle.mux.proofs.Refusals.{early_of}
 use Rattle.reading.specs.PacketReading.{ReadsOn, GoesOn, WantsMore, IsSpent, TellsFailures}
 use Rattle.reading.specs.Takeable.{OriginValue}
 use Rattle.reading.specs.declared.stop.Stop.TheVariants.{Memory}
-use Rattle.reading.specs.declared.packet_reader.PacketReader.{PacketReader}
+use Rattle.reading.specs.Holding.{PacketReader}
 use Rattle.reading.proofs.PacketLaws.{reads_nothing, reads_told, reads_reads}
 use Rattle.reading.proofs.FailureLaws.{goes_goes}
 use Rattle.inlets.specs.Looking.{Looks}

@@ -17,7 +17,7 @@ use Rattle.reading.specs.PacketReading.{HasRead, IsSpent, TellsFailures}
 use Rattle.reading.specs.declared.input_limit.InputLimit.{InputLimit}
 use Rattle.reading.specs.declared.stop.Stop.{Stop}
 use Rattle.reading.specs.declared.stop.Stop.TheVariants.{Gate, Memory}
-use Rattle.reading.specs.declared.packet_reader.PacketReader.{PacketReader}
+use Rattle.reading.specs.Holding.{PacketReader}
 use Rattle.inlets.specs.declared.entry.Entry.{Entry}
 use Rattle.inlets.specs.Notes.{NotesAreOfShown}
 
@@ -69,11 +69,11 @@ pub record FeedsOn {R : Type 0} (remaining : R → Option (List ℕ)) (schedule 
 abbrev pub AreUnrefused : {R : Type 0} → List (SerialInput R) → Type 0
 AreUnrefused {R} inputs = (i : ℕ) (x : SerialInput R) → slice_get inputs i ≡ Some x → x.inlet.report.stopped ≡ Some Memory → ⊥
 
--- each of the schedule's inputs may have so many bytes at its format, at most
+-- each of the schedule's inputs may have so many bytes at its size, at most
 abbrev pub AreLimited : {R : Type 0} → InputLimit → ScheduleValue → List (SerialInput R) → Type 0
 AreLimited {R} limit schedule inputs =
     (i : ℕ) (input : InputValue) (x : SerialInput R) → slice_get schedule.first.request.inputs i ≡ Some input → slice_get inputs i ≡ Some x
-    → x.inlet.stream.items.limit ≡ limit_of_input limit input.format
+    → x.inlet.stream.items.limit ≡ limit_of_input limit input.size
 
 -- how often the multiplex may still turn to the input before a slot is sent or the next plan comes, at most: no input has more packets than bytes
 abbrev pub turns_left : ℕ → List Event → ℕ

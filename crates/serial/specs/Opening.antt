@@ -8,10 +8,10 @@ use Rattle.reading.specs.InputLimit.{limit_of_input}
 use Rattle.reading.specs.PacketReading.{TellsFailures}
 use Rattle.reading.specs.declared.input_limit.InputLimit.{InputLimit}
 
--- the schedule's input i is to be read from the reader, and may have so many bytes at its format
+-- the schedule's input i is to be read from the reader, and may have so many bytes at its size
 pub record IsOpened {R : Type 0} (remaining : R → Option (List ℕ)) (failures : R → ℕ) (limit : InputLimit) (schedule : ScheduleValue) (i : ℕ) (reader : R) (x : SerialInput R) : Type 0 where
   pub feeds : Feeds remaining schedule [] i (remaining reader) x
-  pub limited : (input : InputValue) → slice_get schedule.first.request.inputs i ≡ Some input → x.inlet.stream.items.limit ≡ limit_of_input limit input.format
+  pub limited : (input : InputValue) → slice_get schedule.first.request.inputs i ≡ Some input → x.inlet.stream.items.limit ≡ limit_of_input limit input.size
   pub told : TellsFailures failures (failures reader) x.inlet
 
 -- each input is to be read from the reader at its place

@@ -39,7 +39,7 @@ AreCountedInTurn schedule h starts inputs =
     → slice_get schedule.first.request.inputs i ≡ Some input → slice_get starts i ≡ Some (Some all) → slice_get inputs i ≡ Some s
     → IsCountedInTurn schedule h i input all s
 
--- What a run in one thread makes of these sources, each of at most so many bytes at its input's format, where it ends by itself. It
+-- What a run in one thread makes of these sources, each of at most so many bytes at its input's size, where it ends by itself. It
 -- leaves them with these bytes to give.
 pub record HasRun (h : History) (limit : InputLimit) (starts lefts : List (Option (List ℕ))) (before after : Option (List ℕ)) (s : Summary) : Type 0 where
   pub run : outcome.HasRun h limit starts lefts before after s

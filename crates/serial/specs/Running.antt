@@ -23,7 +23,7 @@ pub record AreFed {R : Type 0} (remaining : R → Option (List ℕ)) (schedule :
   pub each : (i : ℕ) (x : SerialInput R) → slice_get inputs i ≡ Some x
       → (start : Option (List ℕ)) × (slice_get starts i ≡ Some start) × Feeds remaining schedule h i start x
 
--- The run goes on over these sources, each of at most so many bytes at its input's format: it takes the inputs' packets in their
+-- The run goes on over these sources, each of at most so many bytes at its input's size: it takes the inputs' packets in their
 -- order, and as they are needed, and its packets were analysed.
 pub record IsRunning {R : Type 0} (remaining : R → Option (List ℕ)) (run : Run) (limit : InputLimit) (starts : List (Option (List ℕ))) (r : SerialRun R) : Type 0 where
   pub run_is : r.mux.run ≡ run
@@ -45,7 +45,7 @@ pub record IsHalted (schedule : ScheduleValue) (h : List Event) (i : ℕ) (stopp
   pub unleft : stopped ≡ Some stops.Gate → ⊥
   pub refused : stopped ≡ Some stops.Memory → is_ready schedule i h ≡ false
 
--- The inputs of a run that fails, each of at most so many bytes at its format, and what it took of them, in their order.
+-- The inputs of a run that fails, each of at most so many bytes at its size, and what it took of them, in their order.
 pub record AreHalted {R : Type 0} (remaining : R → Option (List ℕ)) (limit : InputLimit) (schedule : ScheduleValue) (h : List Event) (starts : List (Option (List ℕ))) (inputs : List (SerialInput R)) : Type 0 where
   pub count : length inputs ≡ length schedule.first.request.inputs
   pub each : (i : ℕ) (x : SerialInput R) → slice_get inputs i ≡ Some x → IsHalted schedule h i x.inlet.report.stopped

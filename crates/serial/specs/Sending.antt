@@ -1,7 +1,7 @@
 -- What waits to go out is written before an input is read (profile).
 use Rattle.std.specs.Prelude.{◌≡◌, ◌⊎◌, ℕ, List, [], Option, Result, Err, OnOk}
 use Rattle.reading.specs.Failures.{FailsOnce}
-use Rattle.reading.specs.declared.packet_reader.PacketReader.{PacketReader}
+use Rattle.reading.specs.Holding.{PacketReader}
 use Rattle.outlet.specs.Written.{Sends, SendsBeginning}
 use Rattle.outlet.specs.declared.run_fault.RunFault.{RunFault}
 use Rattle.outlet.specs.declared.run_fault.RunFault.TheVariants.{Memory, Write}

@@ -10,7 +10,6 @@ ghost use Rattle.reading.specs.declared.stop.Stop.TheVariants as stops;
 ghost use Rattle.serial.specs.Sending.{WritesWaiting, ReadsWritten};
 ghost use Rattle.reading.specs.PacketReading.{TellsFailures};
 
-use crate::run::known;
 use inlets::{Entry, take};
 use mux::Mux;
 use outlet::{RunFault, Sink, SlotWriter};
@@ -46,7 +45,7 @@ pub(crate) fn read_on<R: Source, W: Sink>(
     ensures unread { result ≡ Err RunFault.Write → input.new.inlet.stream.source ≡ input.old.inlet.stream.source }
     ensures out { WritesWaiting W.contents W.failures output.old sink.old output.new sink.new result }
 {
-    known(mux.schedule());
+    mux.schedule().known();
     output.flush(sink)?;
     input.inlet.find(mux.schedule(), piece)?;
     take(mux, number, input);

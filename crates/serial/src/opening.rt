@@ -9,7 +9,7 @@ use reading::{InputLimit, PacketReader, Source};
 use schedule::Schedule;
 use std::alloc::{AllocError, Global};
 
-/// The inputs of a schedule, one a reader, each of at most so many bytes at its format.
+/// The inputs of a schedule, one a reader, each of at most so many bytes at its size.
 pub(crate) fn open_inputs<R: Source + Drop>(
     alloc: Global,
     schedule: &Schedule,
@@ -28,7 +28,7 @@ pub(crate) fn open_inputs<R: Source + Drop>(
 }
 
 /// The input with this number of a schedule's plans, of which nothing was taken, and of which at most so many bytes may come at its
-/// format.
+/// size.
 fn open_input<R: Source>(
     alloc: Global,
     schedule: &Schedule,
@@ -40,10 +40,9 @@ fn open_input<R: Source>(
     requires limit { IsAllowed limit }
     ensures { IsOpened R.remaining R.failures limit schedule.now number source result }
 {
-    // What all schedules keep is known with this.
-    let _ = schedule.later_plans();
+    schedule.known();
     let input = &schedule.plan(0).inputs()[number];
-    let most = limit.bytes(input.format);
+    let most = limit.bytes(input.size);
     Entry {
         inlet: PacketReader::new(alloc, number, input, source, most),
         is_closed: false,

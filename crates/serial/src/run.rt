@@ -2,10 +2,9 @@
 
 ghost use Rattle.std.specs.Prelude.{◌≡◌, ◌^◌, ◌≤◌, ℕ, List, length, map, Err, IfOk, IfErr, OnOk};
 ghost use Rattle.mux.specs.declared.event.Event.{Event};
-ghost use Rattle.mux.specs.Plans.{IsMultiplexSchedule};
 ghost use Rattle.reading.specs.Failures.{FailsOnce};
 ghost use Rattle.reading.specs.InputLimit.{IsAllowed};
-ghost use Rattle.reading.specs.declared.input_limit.InputLimit.TheVariants.{OfFormat};
+ghost use Rattle.reading.specs.declared.input_limit.InputLimit.TheVariants.{OfSize};
 ghost use Rattle.outcome.specs.Outcome.{FailuresAreTold};
 ghost use Rattle.serial.specs.Outcome.{HasRun, HasBegun};
 
@@ -34,11 +33,11 @@ pub fn run_serial<R: Source + Drop, W: Sink>(
     requires slots { slots ≤ 2 ^ 40 }
     requires readers { length readers.items ≡ length schedule.first.request.inputs }
     ensures runs { IfOk result.1 (λ done. (h : List Event)
-        × HasRun (record { run = record { schedule = schedule; limit = slots }; events = h }) OfFormat
+        × HasRun (record { run = record { schedule = schedule; limit = slots }; events = h }) OfSize
         (map R.remaining readers.items) (map R.remaining done.1.items)
         (W.contents writer) (W.contents result.0) done.0) }
     ensures begins { IfErr result.1 (λ fault. (h : List Event)
-        × HasBegun R.remaining R.failures (record { run = record { schedule = schedule; limit = slots }; events = h }) OfFormat
+        × HasBegun R.remaining R.failures (record { run = record { schedule = schedule; limit = slots }; events = h }) OfSize
         readers.items (W.contents writer) (W.contents result.0) fault) }
     ensures readers { IfOk result.1 (λ done. length done.1.items ≡ length readers.items) }
     ensures read_failed { IfOk result.1 (λ done.
@@ -47,14 +46,7 @@ pub fn run_serial<R: Source + Drop, W: Sink>(
     ensures memory { result.1 ≡ Err RunFault.Memory → W.failures result.0 ≡ W.failures writer }
     ensures write_failed { result.1 ≡ Err RunFault.Write → FailsOnce (W.failures writer) (W.failures result.0) }
 {
-    run_serial_within(
-        alloc,
-        schedule,
-        slots,
-        InputLimit::OfFormat,
-        readers,
-        writer,
-    )
+    run_serial_within(alloc, schedule, slots, InputLimit::OfSize, readers, writer)
 }
 
 /// The same with inputs of at most as many bytes as `limit` says: up to 140,737,488,355,328.
@@ -88,13 +80,6 @@ pub fn run_serial_within<R: Source + Drop, W: Sink>(
     (sink, result)
 }
 
-/// What every schedule keeps.
-pub(crate) fn known(schedule: &Schedule)
-    ensures { IsMultiplexSchedule schedule.now }
-{
-    let _ = schedule.later_plans();
-}
-
 /// The same, with the writer lent.
 fn run_to<R: Source + Drop, W: Sink>(
     alloc: Global,
@@ -121,11 +106,10 @@ fn run_to<R: Source + Drop, W: Sink>(
     ensures memory { result ≡ Err RunFault.Memory → W.failures sink.new ≡ W.failures sink.old }
     ensures write_failed { result ≡ Err RunFault.Write → FailsOnce (W.failures sink.old) (W.failures sink.new) }
 {
-    known(&schedule);
+    schedule.known();
     let mut run = SerialRun::open(alloc, schedule, slots, limit, readers)?;
     let driven = run.drive(sink);
-    // What every multiplex keeps is known with this.
-    let _ = run.slots();
+    run.known();
     driven?;
     Ok(run.finish(alloc)?)
 }

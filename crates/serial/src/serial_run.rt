@@ -3,18 +3,14 @@
 use crate::ending::end_inputs;
 use crate::feeding::read_on;
 use crate::opening::open_inputs;
-use crate::run::known;
 use crate::turn::Turn;
 use inlets::{Entry, Step, take_step};
-use mux::Mux;
+use mux::{Mux, OnePacket, Outgoing};
 use outcome::{Summary, end_run};
 use outlet::{RunFault, Sink, SlotWriter};
-use reading::{InputLimit, PacketReader, Source};
+use reading::{InputLimit, PIECE, PacketReader, Source};
 use schedule::Schedule;
 use std::alloc::{AllocError, Global};
-
-/// How many bytes are read at once, at most.
-const PIECE: usize = 65_536;
 
 /// A run in one thread: the multiplex, its inputs, and what the output goes through.
 #[derive(Drop)]
@@ -22,12 +18,14 @@ pub(crate) struct SerialRun<R> {
     mux: Mux,
     inputs: Vec<Entry<PacketReader<R>>>,
     piece: Vec<u8>,
+    /// The packet of a slot on its way from the multiplex to the output.
+    sent: OnePacket,
     output: SlotWriter,
 }
 
 impl<R: Source + Drop> SerialRun<R> {
     ghost use Rattle.std.specs.Prelude.{◌≡◌, ◌^◌, ◌<◌, ◌≤◌, ℕ, List, [], Option, Ok, length, map, IfOk, OnOk};
-    ghost use Rattle.mux.specs.History.{Run, slots};
+    ghost use Rattle.mux.specs.History.{Run};
     ghost use Rattle.mux.specs.Headline.{IsSound};
     ghost use Rattle.outcome.specs.Taking.{IsOver};
     ghost use Rattle.outcome.specs.Ending.{IsTold};
@@ -37,7 +35,7 @@ impl<R: Source + Drop> SerialRun<R> {
     ghost use Rattle.reading.specs.declared.input_limit.InputLimit.{InputLimit as Limit};
     ghost use Rattle.serial.specs.Running.{IsRunning, GoesOn, steps_left};
 
-    /// A run of a schedule for at most this many slots, whose inputs may have as many bytes as `limit` says at their formats, and of
+    /// A run of a schedule for at most this many slots, whose inputs may have as many bytes as `limit` says at their sizes, and of
     /// which nothing was taken or sent.
     pub fn open(
         alloc: Global,
@@ -63,16 +61,16 @@ impl<R: Source + Drop> SerialRun<R> {
             mux,
             inputs,
             piece,
+            sent: OnePacket::new(),
             output,
         })
     }
 
-    /// How many slots were sent. What every multiplex keeps is known with it.
-    pub fn slots(&self) -> u64
-        ensures count { result ≡ slots self.now.mux.events }
-        ensures sound { IsSound self.now.mux }
+    /// What every run keeps.
+    pub fn known(&self)
+        ensures { IsSound self.now.mux }
     {
-        self.mux.slots()
+        self.mux.known();
     }
 
     /// What became of the run, and its readers.
@@ -115,17 +113,18 @@ impl<R: Source + Drop> SerialRun<R> {
             → steps_left self.old.mux.run self.new.mux.events < steps_left self.old.mux.run self.old.mux.events }
         ensures over { result ≡ Ok Turn.Over → IsOver self.new.mux.run self.new.mux.events }
     {
-        known(self.mux.schedule());
+        self.mux.schedule().known();
         let SerialRun {
             mux,
             inputs,
             piece,
+            sent,
             output,
         } = self;
-        match take_step(mux, inputs) {
+        sent.clear();
+        match take_step(mux, inputs, sent) {
             Step::Sent => {
-                let packet = mux.last().unwrap();
-                output.put(packet, sink)?;
+                output.put(sent.last(), sink)?;
                 Ok(Turn::Goes)
             }
             Step::Switched | Step::Turned => Ok(Turn::Goes),

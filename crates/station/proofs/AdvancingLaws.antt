@@ -8,7 +8,7 @@ use Rattle.mux.specs.declared.event.Event.TheVariants.{Took, Close, Switch}
 use Rattle.tspkt.specs.declared.stamped.Stamped.{Stamped}
 use Rattle.mux.specs.History.{History, with_event, emitted, in_force, is_closed, full_noted, early_noted}
 use Rattle.mux.specs.Lawful.{is_ready}
-use Rattle.mux.specs.Answers.{SendAnswers, SlotAnswers}
+use Rattle.mux.specs.Answers.{SendAnswers, SlotAnswers, SendsOn}
 use Rattle.mux.specs.declared.sending.Sending.{Sending}
 use Rattle.mux.specs.declared.sending.Sending.TheVariants as sending
 use Rattle.mux.specs.declared.slot.Slot.TheVariants as slot
@@ -52,7 +52,7 @@ pulled i h x turn.Waits new y seen is = absurd (seen refl)
 
 -- One step.
 
-pub step_sent : (h new : History) (xs ys : List Input) (packet : List ℕ) → ys ≡ xs → SlotAnswers h (slot.Sent packet) new
+step_sent : (h new : History) (xs ys : List Input) (packet : List ℕ) → ys ≡ xs → SlotAnswers h (slot.Sent packet) new
     → IsStep (record { history = h; inputs = xs }) (record { history = new; inputs = ys }) (packet ∷ [])
 step_sent h new xs ys packet same answer = inl (packet, refl, record { slot = answer; inputs = same })
 
@@ -69,7 +69,7 @@ lawful_turned h new xs ys i answer run lawful t =
     subst P (sym t.entries) (lawful_set h new xs i t.after run lawful w.others w.lawful)
 
 -- nothing was sent
-pub step_unsent : (h new : History) (xs ys : List Input) (answer : Step) → (answer ≡ steps.Switched) ⊎ (answer ≡ steps.Turned) → IsLawfulStation h xs → RingSteps h xs answer new ys
+step_unsent : (h new : History) (xs ys : List Input) (answer : Step) → (answer ≡ steps.Switched) ⊎ (answer ≡ steps.Turned) → IsLawfulStation h xs → RingSteps h xs answer new ys
     → IsStep (record { history = h; inputs = xs }) (record { history = new; inputs = ys }) []
 step_unsent h new xs ys answer (inl e) lawful is =
     let P : Step → Type 0 = λ v. RingSteps h xs v new ys in
@@ -80,7 +80,7 @@ step_unsent h new xs ys answer (inr e) lawful is =
     let t = subst P e is in
     step_turned h new xs ys t.0 t.1 t.2 lawful t.3
 
-pub lawful_unsent : (h new : History) (xs ys : List Input) (answer : Step) → (answer ≡ steps.Switched) ⊎ (answer ≡ steps.Turned) → new.run ≡ h.run → IsLawfulStation h xs → RingSteps h xs answer new ys → IsLawfulStation new ys
+lawful_unsent : (h new : History) (xs ys : List Input) (answer : Step) → (answer ≡ steps.Switched) ⊎ (answer ≡ steps.Turned) → new.run ≡ h.run → IsLawfulStation h xs → RingSteps h xs answer new ys → IsLawfulStation new ys
 lawful_unsent h new xs ys answer (inl e) run lawful is =
     let P : Step → Type 0 = λ v. RingSteps h xs v new ys in
     let s = subst P e is in
@@ -90,6 +90,30 @@ lawful_unsent h new xs ys answer (inr e) run lawful is =
     let P : Step → Type 0 = λ v. RingSteps h xs v new ys in
     let t = subst P e is in
     lawful_turned h new xs ys t.0 t.1 run lawful t.3
+
+not_sent : (answer : Step) → (answer ≡ steps.Switched) ⊎ (answer ≡ steps.Turned) → answer ≢ steps.Sent
+not_sent answer (inl e) s = cc (e, s)
+not_sent answer (inr e) s = cc (e, s)
+
+-- a step, and what stands behind what was there
+pub stepped : (h new : History) (xs ys : List Input) (answer : Step) (before after : List (List ℕ)) → (answer ≡ steps.Sent) ⊎ ((answer ≡ steps.Switched) ⊎ (answer ≡ steps.Turned)) → IsLawfulStation h xs → RingSteps h xs answer new ys
+    → (answer ≡ steps.Sent → SendsOn h new before after) → (answer ≢ steps.Sent → after ≡ before)
+    → (packets : List (List ℕ)) × (after ≡ before ++ packets) × IsStep (record { history = h; inputs = xs }) (record { history = new; inputs = ys }) packets
+stepped h new xs ys answer before after (inl e) lawful is sent unsent =
+    let P : Step → Type 0 = λ v. RingSteps h xs v new ys in
+    let s = subst P e is in
+    let out = sent e in
+    (out.packet ∷ [], out.behind, step_sent h new xs ys out.packet s.1 out.slot)
+stepped h new xs ys answer before after (inr e) lawful is sent unsent =
+    ([], unsent (not_sent answer e) ∙ sym (append-nil before), step_unsent h new xs ys answer e lawful is)
+
+pub lawful_stepped : (h new : History) (xs ys : List Input) (answer : Step) → (answer ≡ steps.Sent) ⊎ ((answer ≡ steps.Switched) ⊎ (answer ≡ steps.Turned)) → new.run ≡ h.run → IsLawfulStation h xs → RingSteps h xs answer new ys → IsLawfulStation new ys
+lawful_stepped h new xs ys answer (inl e) run lawful is =
+    let P : Step → Type 0 = λ v. RingSteps h xs v new ys in
+    let s = subst P e is in
+    let L : List Input → Type 0 = IsLawfulStation new in
+    subst L (sym s.1) (lawful_sent h new sending.Sent xs s.0 lawful)
+lawful_stepped h new xs ys answer (inr e) run lawful is = lawful_unsent h new xs ys answer e run lawful is
 
 -- No step.
 

@@ -6,7 +6,7 @@ use Rattle.std.proofs.lemmas.List.{append-nil, nil_from_length}
 use Rattle.std.proofs.lemmas.Option.{slice_get_cases}
 use Rattle.tspkt.specs.declared.stamped.Stamped.{Stamped}
 use Rattle.schedule.specs.Schedule.{ScheduleValue}
-use Rattle.mux.specs.Plans.{IsMultiplexSchedule}
+use Rattle.schedule.specs.Laws.{IsMultiplexSchedule}
 use Rattle.mux.specs.History.{taken, emitted}
 use Rattle.mux.specs.Lawful.{IsLawful, input_count}
 use Rattle.mux.specs.Faithful.{PacketLists, IsPrefix, IsRunOf}

@@ -5,3 +5,4 @@ pub mod OpeningLaws
 pub mod TakingLaws
 pub mod AdvancingLaws
 pub mod AgreementLaws
+pub mod TickLaws

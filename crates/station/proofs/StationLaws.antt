@@ -5,9 +5,11 @@ use Rattle.mux.specs.declared.event.Event.TheVariants.{Slot, Switch}
 use Rattle.mux.specs.declared.content.Content.{Content}
 use Rattle.mux.specs.History.{History, Run, with_event, in_force}
 use Rattle.mux.specs.Lawful.{input_count}
-use Rattle.mux.specs.Answers.{SendAnswers}
+use Rattle.mux.specs.Answers.{SendAnswers, SlotAnswers}
 use Rattle.mux.specs.declared.sending.Sending.{Sending}
 use Rattle.mux.specs.declared.sending.Sending.TheVariants as sending
+use Rattle.mux.specs.declared.slot.Slot.{Slot as SlotAnswer}
+use Rattle.mux.specs.declared.slot.Slot.TheVariants as slot
 use Rattle.port.specs.Rings.{RingEndValue}
 use Rattle.station.specs.Stations.{Input, IsLawfulInput, IsLawfulStation, LeavesOthers, rings_of}
 use Rattle.station.specs.Moving.{MovesIn, EndsBy, Ending, Nothing, Mark, HeldBack}
@@ -54,6 +56,15 @@ lawful_sent h new sending.RunFull xs is old = (let P : History → Type 0 = λ v
 lawful_sent h new (sending.NotReady i) xs is old = (let P : History → Type 0 = λ v. IsLawfulStation v xs in subst P (sym is.0) old)
 lawful_sent h new sending.Switched xs is old = (let P : History → Type 0 = λ v. IsLawfulStation v xs in subst P (sym is.2) (plan_switched h (in_force h.events + 1) xs old))
 lawful_sent h new sending.Sent xs is old = (let P : History → Type 0 = λ v. IsLawfulStation v xs in subst P (sym is.1.2) (slot_sent h is.1.0 xs old))
+
+-- the same where the answer has the packet
+pub lawful_with : (h new : History) (answer : SlotAnswer) (xs : List Input) → SlotAnswers h answer new → IsLawfulStation h xs → IsLawfulStation new xs
+lawful_with h new slot.Done xs is old = lawful_sent h new sending.Done xs is old
+lawful_with h new slot.RunFull xs is old = lawful_sent h new sending.RunFull xs is old
+lawful_with h new (slot.NotReady i) xs is old = lawful_sent h new (sending.NotReady i) xs is old
+lawful_with h new slot.Switched xs is old = lawful_sent h new sending.Switched xs is old
+lawful_with h new slot.Memory xs is old = (let P : History → Type 0 = λ v. IsLawfulStation v xs in subst P (sym is.0) old)
+lawful_with h new (slot.Sent packet) xs is old = lawful_sent h new sending.Sent xs (is.0, (is.1.0, is.1.1, is.1.2.0)) old
 
 -- rings stay
 

@@ -1,8 +1,9 @@
 -- What a tick does (profile).
 use Rattle.std.specs.Prelude.{◌≡◌, ℕ, suc, List, [], ◌∷◌, MatchBool}
 use Rattle.mux.specs.History.{History}
-use Rattle.mux.specs.Answers.{SendAnswers}
+use Rattle.mux.specs.Answers.{SendAnswers, SlotAnswers}
 use Rattle.mux.specs.declared.sending.Sending.{Sending}
+use Rattle.mux.specs.declared.slot.Slot.{Slot}
 use Rattle.station.specs.Stations.{Input, StationValue}
 use Rattle.station.specs.Moving.{MovesIn}
 
@@ -22,3 +23,9 @@ pub record Ticks (old : StationValue) (answer : Sending) (new : StationValue) : 
   pub between : History
   pub moves : MovesAll 0 old.history.run.schedule.first.request.ring old.history old.inputs between new.inputs
   pub sends : SendAnswers between answer new.history
+
+-- The same where the answer has the packet of a slot that is sent.
+pub record TicksWith (old : StationValue) (answer : Slot) (new : StationValue) : Type 0 where
+  pub between : History
+  pub moves : MovesAll 0 old.history.run.schedule.first.request.ring old.history old.inputs between new.inputs
+  pub sends : SlotAnswers between answer new.history

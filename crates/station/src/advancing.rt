@@ -7,7 +7,6 @@ ghost use Rattle.station.specs.Advancing.{AdvancesBehind, IsStep, IsStuck};
 use inlets::{Entry, Step, take_step};
 use mux::{Mux, Sending};
 use port::RingEnd;
-use std::slice;
 use tspkt::Packet;
 
 /// One step: the next slot is sent, and its packet goes behind those in `sent`; or the next plan comes into force; or what comes next
@@ -27,16 +26,8 @@ fn step_behind(
     ensures lawful { IsLawfulStation mux.new entries.new.items }
     ensures room { (vec_len sent.new ≤ vec_len sent.old + 1) × (vec_capacity sent.old ≤ vec_capacity sent.new) }
 {
-    match take_step(mux, entries) {
-        Step::Sent => {
-            let packet = mux.last().unwrap();
-            // So it is copied once, and by `push` twice.
-            let Ok(()) = sent.extend_from_slice(slice::from_ref(packet)) else {
-                unreachable!()
-            };
-            None
-        }
-        Step::Switched | Step::Turned => None,
+    match take_step(mux, entries, sent) {
+        Step::Sent | Step::Switched | Step::Turned => None,
         Step::Waits(input) => Some(Sending::NotReady(input)),
         Step::Done => Some(Sending::Done),
         Step::RunFull => Some(Sending::RunFull),

@@ -1,6 +1,8 @@
 //! The station: its state, and its ticks.
 
-ghost use Rattle.std.specs.Prelude.{◌≡◌, ◌<◌, ◌≤◌, ◌^◌, ◌+◌, ◌-◌, ◌++◌, ℕ, List, Some, length, map, vec_len, vec_capacity, IfOk, option_copied};
+mod by_value;
+
+ghost use Rattle.std.specs.Prelude.{◌≡◌, ◌<◌, ◌≤◌, ◌^◌, ◌+◌, ◌-◌, ◌++◌, ℕ, List, Some, length, map, vec_len, vec_capacity, IfOk};
 ghost use Rattle.std.specs.List.{slice_get};
 ghost use Rattle.request.specs.declared.stream.Stream.{Stream};
 ghost use Rattle.schedule.specs.Streams.{all_streams};
@@ -19,7 +21,7 @@ use crate::advancing::advance_behind;
 use crate::moving::move_in;
 use crate::settled::Settled;
 use inlets::Entry;
-use mux::{Counts, Mux, Peak, Sending, Totals};
+use mux::{Counts, Mux, Outgoing, Peak, Sending, Totals};
 use port::{FinishedPort, Port, RingEnd, ports};
 use schedule::Schedule;
 use std::alloc::{AllocError, Global};
@@ -99,14 +101,20 @@ impl Station {
     /// Moves what the rings show into the multiplex, input 0 first, at most as many packets an input as a ring has room for,
     /// and then sends the next slot, or goes over to the next plan, where the multiplex can. A packet that isn't taken is held, and stays
     /// the next one of its input. An input is closed at its end mark, and where its next packet can never be taken: its plan has no
-    /// stream of its PID, or its time is before that of the packet taken before it. No memory is asked for.
-    pub fn tick(&mut self) -> Sending
+    /// stream of its PID, or its time is before that of the packet taken before it. No memory is asked for. The packet of
+    /// the slot goes behind those that `out` has, which needs room for it.
+    pub fn tick_behind<O: Outgoing>(&mut self, out: &mut O) -> Sending
+        requires { 0 < O.room out.old }
         ensures ticks { Ticks self.old result self.new }
+        ensures emitted { (packets : List (List ℕ)) × (O.packets out.new ≡ O.packets out.old ++ packets)
+            × (emitted self.new.history.run.schedule self.new.history.events
+            ≡ emitted self.old.history.run.schedule self.old.history.events ++ packets)
+            × (O.room out.old ≤ O.room out.new + length packets) }
         ensures rings { rings_of self.new.inputs ≡ rings_of self.old.inputs }
         ensures run { self.new.history.run ≡ self.old.history.run }
     {
         move_all(&mut self.mux, &mut self.entries, self.ring);
-        self.mux.send_next()
+        self.mux.send_next(out)
     }
 
     /// Goes on as far as the rings show, by at most so many steps, in one go: a step sends the next slot, or goes over to the next plan,
@@ -148,21 +156,19 @@ impl Station {
         &self.mux
     }
 
-    /// How many slots were sent. What every station keeps is known with it.
-    pub fn slots(&self) -> u64
-        ensures count { result ≡ slots self.now.history.events }
+    /// What every station keeps.
+    pub fn known(&self)
         ensures sound { IsSound self.now.history }
         ensures lawful { IsLawfulStation self.now.history self.now.inputs }
     {
-        self.mux.slots()
+        self.mux.known();
     }
 
-    /// The packet of the slot that was sent last, lent; none where none was sent.
-    pub fn last(&self) -> Option<&Packet>
-        ensures { option_copied result
-            ≡ slice_get (emitted self.now.history.run.schedule self.now.history.events) (slots self.now.history.events - 1) }
+    /// How many slots were sent.
+    pub fn slots(&self) -> u64
+        ensures { result ≡ slots self.now.history.events }
     {
-        self.mux.last()
+        self.mux.slots()
     }
 
     /// What became of the packets that were taken of an input.

@@ -5,7 +5,7 @@ mod asking;
 mod opening;
 
 use crate::tests::asking::{
-    delayed, ends, is_open, offers, refuses, shows, ticks, waits, waits_behind,
+    delayed, ends, is_open, offers, refuses, sends, shows, ticks, waits, waits_behind,
 };
 use crate::tests::opening::open;
 use mux::{Sending, Totals};
@@ -19,8 +19,7 @@ fn a_packet_whose_queue_is_full_is_held(rt: HostRuntime) {
     offers(&rt, &mut port, 1);
     offers(&rt, &mut port, 2);
     let port = port.finish();
-    ticks(&rt, &mut station, Sending::Sent);
-    shows(&rt, &station, 0, 0);
+    sends(&rt, &mut station, 0, 0);
     is_open(&rt, &station, true);
     let became = Settled {
         taken: 1,
@@ -37,12 +36,12 @@ fn a_full_ring_has_room_once_its_packet_was_taken(rt: HostRuntime) {
     refuses(&rt, &mut port, 1, 28_436);
     ticks(&rt, &mut station, Sending::NotReady(0));
     offers(&rt, &mut port, 1);
-    ticks(&rt, &mut station, Sending::Sent);
-    shows(&rt, &station, 0, 0);
+    let sent = ticks(&rt, &mut station, Sending::Sent);
+    shows(&rt, &sent, 0, 0);
     is_open(&rt, &station, true);
     let port = ends(&rt, port);
-    ticks(&rt, &mut station, Sending::Sent);
-    shows(&rt, &station, 0x0200, 0);
+    let sent = ticks(&rt, &mut station, Sending::Sent);
+    shows(&rt, &sent, 0x0200, 0);
     is_open(&rt, &station, false);
     let became = Settled {
         taken: 2,
@@ -58,8 +57,8 @@ fn packets_are_taken_with_their_times(rt: HostRuntime) {
     let (mut station, mut port) = open(&rt, rt.alloc(), 64, 4);
     offers(&rt, &mut port, 0);
     offers(&rt, &mut port, 1);
-    ticks(&rt, &mut station, Sending::Sent);
-    shows(&rt, &station, 0, 0);
+    let sent = ticks(&rt, &mut station, Sending::Sent);
+    shows(&rt, &sent, 0, 0);
     let both = Totals {
         taken: 2,
         sent: 0,
@@ -80,8 +79,8 @@ fn packets_are_taken_with_their_times(rt: HostRuntime) {
 fn a_packet_is_taken_where_no_slot_can_be_sent(rt: HostRuntime) {
     let (mut station, mut port) = open(&rt, rt.alloc(), 64, 4);
     offers(&rt, &mut port, 0);
-    ticks(&rt, &mut station, Sending::NotReady(0));
-    assert!(rt; station.last().is_none());
+    let sent = ticks(&rt, &mut station, Sending::NotReady(0));
+    assert!(rt; sent.get().is_none());
     let waits = Totals {
         taken: 1,
         sent: 0,

@@ -6,6 +6,7 @@ pub mod LengthLaws
 pub mod HeaderLaws
 pub mod PatLaws
 pub mod InForceLaws
+pub mod SectionReadingLaws
 pub mod PmtLaws
 pub mod SdtLaws
 pub mod NitLaws

@@ -1,9 +1,9 @@
 -- The rows of a service description table, and a written section read back.
-use Rattle.std.proofs.Common.{◌≡◌, ℕ, ◌+◌, ◌*◌, ◌/◌, ◌%◌, ◌^◌, ◌<◌, ◌≤◌, ◌==◌, Bool, true, false, List, [], ◌∷◌, length, get_or, take, drop, map, sum, leb, refl, sym, ◌∙◌, ap, arith, Option, Some, None, option_map, IfSome, Result, Ok, subst, lit<}
+use Rattle.std.proofs.Common.{◌≡◌, ℕ, ◌+◌, ◌*◌, ◌/◌, ◌%◌, ◌^◌, ◌<◌, ◌≤◌, ◌==◌, Bool, true, false, List, [], ◌∷◌, length, get_or, drop, map, sum, leb, refl, sym, ◌∙◌, ap, arith, Option, Some, None, option_map, IfSome, Result, Ok, subst, lit<}
 use Rattle.std.specs.List.{All, flat_map}
 use Rattle.std.proofs.lemmas.List.{length-append}
 use Rattle.std.proofs.lemmas.List.Elements.{All-nil, All-cons, All-head, All-tail}
-use Rattle.std.proofs.lemmas.List.Sums.{sum-map, sum_by-cons, sum_by_more, sum_by-take-le}
+use Rattle.std.proofs.lemmas.List.Sums.{sum_by-cons}
 use Rattle.std.proofs.lemmas.Bool.Decides.{nat_tests}
 use Rattle.tspkt.specs.Bits.{field}
 use Rattle.tspkt.proofs.BitLaws.{field_in_byte, field_byte, field_and_byte, field_fits}
@@ -127,9 +127,6 @@ rows_back rows a = rows_read_back 5 sdt_parts IsShortRow rows (omega arith) part
 
 -- ---- lengths
 
-abbrev pub row_length : SdtRow → ℕ
-row_length r = 5 + length r.descriptors
-
 pub rows_bytes_length : (rows : List SdtRow) → length (flat_map sdt_row_bytes rows) ≡ sum (map (λ (r : SdtRow). 5 + length r.descriptors) rows)
 rows_bytes_length [] = refl
 rows_bytes_length (r ∷ rows) =
@@ -137,29 +134,6 @@ rows_bytes_length (r ∷ rows) =
     let e = sum_by-cons (λ (x : ℕ). x) (5 + length r.descriptors) (map (λ (r : SdtRow). 5 + length r.descriptors) rows) in
     let n = length-append (sdt_row_bytes r) (flat_map sdt_row_bytes rows) in
     omega (arith, ih, e, n)
-
--- the length of one row more
-pub sum_more : (rows : List SdtRow) (i : ℕ) (r : SdtRow) → i < length rows → r ≡ get_or rows i r → sum (map (λ (r : SdtRow). 5 + length r.descriptors) (take (i + 1) rows)) ≡ sum (map (λ (r : SdtRow). 5 + length r.descriptors) (take i rows)) + 5 + length r.descriptors
-sum_more rows i r l e =
-    let f : SdtRow → ℕ = λ (r : SdtRow). 5 + length r.descriptors in
-    let last : f (get_or rows i r) ≡ f r = ap f (sym e) in
-    let more = sum_by_more f rows i r l in
-    let before = sum-map f (take i rows) in
-    let after = sum-map f (take (i + 1) rows) in
-    omega (arith, last, more, before, after)
-
--- the rows so far are no longer than all
-pub sum_front : (rows : List SdtRow) (i : ℕ) → sum (map (λ (r : SdtRow). 5 + length r.descriptors) (take i rows)) ≤ sum (map (λ (r : SdtRow). 5 + length r.descriptors) rows)
-sum_front rows i =
-    let f : SdtRow → ℕ = λ (r : SdtRow). 5 + length r.descriptors in
-    let part = sum_by-take-le f rows i in
-    let front = sum-map f (take i rows) in
-    let all = sum-map f rows in
-    omega (arith, part, front, all)
-
--- a row of which a section holds all is short
-pub row_short : (rows : List SdtRow) (i : ℕ) (r : SdtRow) → i < length rows → r ≡ get_or rows i r → sum (map (λ (r : SdtRow). 5 + length r.descriptors) rows) ≤ 1009 → length r.descriptors < 2 ^ 12
-row_short rows i r l e s = let more = sum_more rows i r l e in let front = sum_front rows (i + 1) in omega (arith, more, front)
 
 -- rows that a section holds are short
 pub short_rows : (rows : List SdtRow) → All IsSdtRow rows → sum (map (λ (r : SdtRow). 5 + length r.descriptors) rows) ≤ 1009 → All IsShortRow rows

@@ -12,4 +12,5 @@ pub mod Sdt
 pub mod Nit
 pub mod InForce
 pub mod OnPid
+pub mod SectionReading
 pub mod Kept

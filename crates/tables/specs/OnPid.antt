@@ -21,6 +21,10 @@ section_in BadCrc = None
 section_in TooLong = None
 section_in Cut = None
 
+-- the sections among what was told
+abbrev pub sections_in : List Told → List (List ℕ)
+sections_in told = filter_map section_in told
+
 -- the sections that the packets of a PID told
 abbrev pub sections_on : ℕ → List (List ℕ) → List (List ℕ)
 sections_on pid packets = filter_map section_in (assembled (packets_on pid packets))

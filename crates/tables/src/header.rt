@@ -9,11 +9,8 @@ ghost use Rattle.tables.specs.Header.{has_bad_length, has_bad_header, header_fie
 
 use crate::table_fault::TableFault;
 use byteorder::{BigEndian, ByteOrder};
-use section::crc;
+use section::{MAX_SECTION_LENGTH, crc};
 use std::alloc::{AllocError, Global};
-
-/// The most that section_length may be.
-pub const MAX_SECTION_LENGTH: usize = 1021;
 
 /// What stands in the header of a section (ISO/IEC 13818-1, 2.4.4.3; EN 300 468, 5.2).
 #[derive(Clone, Copy, Debug, PartialEq, Eq)]

@@ -1,18 +1,17 @@
 //! The network information table of the actual network.
 
-ghost use Rattle.std.specs.Prelude.{◌≡◌, ◌+◌, ◌/◌, ◌%◌, ◌<◌, ◌≤◌, ◌^◌, [], ◌∷◌, ◌++◌, ◌↔◌, true, length, drop, map, Some, option_map, IsSome, IfSome, IfOk, OnOk};
-ghost use Rattle.std.specs.List.{All, flat_map};
+ghost use Rattle.std.specs.Prelude.{◌≡◌, ◌+◌, ◌/◌, ◌%◌, ◌<◌, ◌^◌, [], ◌∷◌, ◌↔◌, true, drop, IsSome, IfSome};
 ghost use Rattle.tables.specs.Descriptors.{are_whole};
-ghost use Rattle.tables.specs.Rows.{first_row, rows_of};
-ghost use Rattle.tables.specs.Nit.{nit_row_of, nit_row_bytes, transport_stream_loop_of, has_whole_parts, IsNitRow};
+ghost use Rattle.tables.specs.Rows.{first_row};
+ghost use Rattle.tables.specs.Nit.{transport_stream_loop_of, has_whole_parts};
 
 use crate::descriptor_loop::DescriptorLoop;
-use crate::header::{Header, MAX_SECTION_LENGTH, read_header, write_section};
+use crate::header::{Header, read_header, write_section};
 use crate::nit_row::NitRow;
-use crate::rows::{count_rows, loop_length, split_row};
+use crate::rows::{loop_length, read_rows, rows_length, split_row, write_rows};
 use crate::table_fault::TableFault;
 use crate::write_fault::WriteFault;
-use byteorder::{BigEndian, ByteOrder};
+use section::MAX_SECTION_LENGTH;
 use std::alloc::{AllocError, Global};
 use std::marker::Model;
 
@@ -23,9 +22,6 @@ const BIT_BEHIND_SYNTAX_INDICATOR: u8 = 1;
 
 /// The bytes up to network_descriptors_length.
 const HEAD_LENGTH: usize = 2;
-
-/// The bytes of a row up to transport_descriptors_length.
-const ROW_HEAD_LENGTH: usize = 6;
 
 /// A section of the network information table of the actual network (EN 300 468, 5.2.1). Its
 /// table_id_extension is network_id. Contracts see its header, its descriptors and its rows.
@@ -104,11 +100,8 @@ impl Nit {
         let Some((network_descriptors, rows)) = split_body(body) else {
             return Err(TableFault::BadLoop);
         };
-        let Some(count) = count_rows(rows, ROW_HEAD_LENGTH) else {
-            return Err(TableFault::BadLoop);
-        };
+        let rows = read_rows(alloc, rows)?;
         let network_descriptors = DescriptorLoop::copy(alloc, network_descriptors)?;
-        let rows = read_rows(alloc, rows, count)?;
         Ok(Nit {
             header,
             network_descriptors,
@@ -147,14 +140,10 @@ impl Nit {
         ensures fits { IfSome result (λ n. n ≤ MAX_SECTION_LENGTH) }
         ensures too_large { result ≡ None → MAX_SECTION_LENGTH < nit_section_length_of self.now }
     {
-        let network = self.network_descriptors.bytes();
-        let mut room = (MAX_SECTION_LENGTH - 13).checked_sub(network.len())?;
-        for row in &self.rows {
-            room = room
-                .checked_sub(ROW_HEAD_LENGTH)?
-                .checked_sub(row.descriptors.bytes().len())?;
-        }
-        Some(MAX_SECTION_LENGTH - room)
+        let network = self.network_descriptors.bytes().len();
+        let most = (MAX_SECTION_LENGTH - 13).checked_sub(network)?;
+        let rows = rows_length(&self.rows, most)?;
+        Some(13 + network + rows)
     }
 
     /// The body, where section_length is as said.
@@ -218,71 +207,10 @@ fn split_body(body: &[u8]) -> Option<(&[u8], &[u8])>
     Some((network.descriptors, rows))
 }
 
-/// The row with this head and these descriptors.
-#[tactic(auto, using(crate::proofs::NitLaws::nit_fields))]
-fn read_row(alloc: Global, head: &[u8], descriptors: &[u8]) -> Result<NitRow, AllocError>
-    requires head { length head.now ≡ 6 }
-    requires descriptors { are_whole 0 descriptors.now ≡ true }
-    ensures { IfOk result (λ row.
-        row ≡ nit_row_of (record { head = head.now; descriptors = descriptors.now })) }
-{
-    let descriptors = DescriptorLoop::copy(alloc, descriptors)?;
-    Ok(NitRow {
-        transport_stream_id: BigEndian::read_u16(head),
-        original_network_id: BigEndian::read_u16(&head[2..]),
-        descriptors,
-    })
-}
-
-/// The rows that the bytes are, of which there are so many.
-fn read_rows(alloc: Global, bytes: &[u8], count: usize) -> Result<Vec<NitRow>, AllocError>
-    requires { option_map length (rows_of 6 0 bytes.now) ≡ Some count }
-    ensures { IfOk result (λ v.
-        option_map (map nit_row_of) (rows_of 6 0 bytes.now) ≡ Some v.items) }
-{
-    let mut rows = Vec::with_capacity(alloc, count)?;
-    let mut rest = bytes;
-    while let Some(row) = split_row(rest, ROW_HEAD_LENGTH) {
-        rows.push_reserved(read_row(alloc, row.head, row.descriptors)?);
-        rest = row.rest;
-    }
-    Ok(rows)
-}
-
 /// Four reserved bits, ones, and a length of 12 bits.
 fn length_bytes(length: usize) -> [u8; 2]
     requires { length < 2 ^ 12 }
     ensures { result ≡ (0xF0 + length / 256) ∷ (length % 256) ∷ [] }
 {
     [0xF0 + (length / 256) as u8, (length % 256) as u8]
-}
-
-/// The row up to its descriptors.
-fn row_head(row: &NitRow) -> [u8; 6]
-    requires row { IsNitRow row.now }
-    requires short { length row.now.descriptors < 2 ^ 12 }
-    ensures { result ++ row.now.descriptors ≡ nit_row_bytes row.now }
-{
-    let length = row.descriptors.bytes().len();
-    [
-        (row.transport_stream_id / 256) as u8,
-        (row.transport_stream_id % 256) as u8,
-        (row.original_network_id / 256) as u8,
-        (row.original_network_id % 256) as u8,
-        0xF0 + (length / 256) as u8,
-        (length % 256) as u8,
-    ]
-}
-
-/// Adds the rows.
-fn write_rows(out: &mut Vec<u8>, rows: &[NitRow]) -> Result<(), AllocError>
-    requires rows { All IsNitRow rows.now }
-    requires short { All (λ r. length r.descriptors < 2 ^ 12) rows.now }
-    ensures { OnOk result (out.new.items ≡ out.old.items ++ flat_map nit_row_bytes rows.now) }
-{
-    for row in rows {
-        out.extend_from_slice(&row_head(row))?;
-        out.extend_from_slice(row.descriptors.bytes())?;
-    }
-    Ok(())
 }

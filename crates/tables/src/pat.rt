@@ -4,11 +4,12 @@ ghost use Rattle.std.specs.Prelude.{◌≡◌, ◌+◌, ◌*◌, ◌<◌, ◌≤
 ghost use Rattle.std.specs.List.{All, flat_map};
 ghost use Rattle.tables.specs.Pat.{pat_rows_of, pat_row_of, pat_row_bytes, IsPatRow};
 
-use crate::header::{Header, MAX_SECTION_LENGTH, read_header, write_section};
+use crate::header::{Header, read_header, write_section};
 use crate::pat_row::PatRow;
 use crate::table_fault::TableFault;
 use crate::write_fault::WriteFault;
 use byteorder::{BigEndian, ByteOrder};
+use section::MAX_SECTION_LENGTH;
 use std::alloc::{AllocError, Global};
 use std::marker::Model;
 

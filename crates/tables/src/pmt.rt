@@ -1,19 +1,16 @@
 //! The program map table.
 
-ghost use Rattle.std.specs.Prelude.{◌≡◌, ◌+◌, ◌<◌, ◌≤◌, ◌^◌, ◌++◌, true, length, map, Some, option_map, IfOk, OnOk};
-ghost use Rattle.std.specs.List.{All, flat_map};
+ghost use Rattle.std.specs.Prelude.{◌≡◌, ◌<◌, ◌≤◌, ◌^◌, length};
 ghost use Rattle.tspkt.specs.Bits.{field};
-ghost use Rattle.tables.specs.Descriptors.{are_whole};
-ghost use Rattle.tables.specs.Rows.{rows_of};
-ghost use Rattle.tables.specs.Pmt.{pmt_row_of, pmt_row_bytes, IsPmtRow};
 
 use crate::descriptor_loop::DescriptorLoop;
-use crate::header::{Header, MAX_SECTION_LENGTH, read_header, write_section};
+use crate::header::{Header, read_header, write_section};
 use crate::pmt_row::PmtRow;
-use crate::rows::{count_rows, split_row};
+use crate::rows::{read_rows, rows_length, split_row, write_rows};
 use crate::table_fault::TableFault;
 use crate::write_fault::WriteFault;
 use byteorder::{BigEndian, ByteOrder};
+use section::MAX_SECTION_LENGTH;
 use std::alloc::{AllocError, Global};
 use std::marker::Model;
 
@@ -24,9 +21,6 @@ const BIT_BEHIND_SYNTAX_INDICATOR: u8 = 0;
 
 /// The bytes up to program_info_length.
 const HEAD_LENGTH: usize = 4;
-
-/// The bytes of a row up to ES_info_length.
-const ROW_HEAD_LENGTH: usize = 5;
 
 /// The program map table of a program (ISO/IEC 13818-1, 2.4.4.8), always of one section. Its
 /// table_id_extension is program_number. Contracts see its header, its fields and its rows.
@@ -111,11 +105,8 @@ impl Pmt {
         let Some(program) = split_row(body, HEAD_LENGTH) else {
             return Err(TableFault::BadLoop);
         };
-        let Some(count) = count_rows(program.rest, ROW_HEAD_LENGTH) else {
-            return Err(TableFault::BadLoop);
-        };
+        let rows = read_rows(alloc, program.rest)?;
         let program_info = DescriptorLoop::copy(alloc, program.descriptors)?;
-        let rows = read_rows(alloc, program.rest, count)?;
         Ok(Pmt {
             header,
             pcr_pid: read_pcr_pid(program.head),
@@ -155,14 +146,10 @@ impl Pmt {
         ensures fits { IfSome result (λ n. n ≤ MAX_SECTION_LENGTH) }
         ensures too_large { result ≡ None → MAX_SECTION_LENGTH < pmt_section_length_of self.now }
     {
-        let info = self.program_info.bytes();
-        let mut room = (MAX_SECTION_LENGTH - 13).checked_sub(info.len())?;
-        for row in &self.rows {
-            room = room
-                .checked_sub(ROW_HEAD_LENGTH)?
-                .checked_sub(row.descriptors.bytes().len())?;
-        }
-        Some(MAX_SECTION_LENGTH - room)
+        let info = self.program_info.bytes().len();
+        let most = (MAX_SECTION_LENGTH - 13).checked_sub(info)?;
+        let rows = rows_length(&self.rows, most)?;
+        Some(13 + info + rows)
     }
 
     /// The body, where section_length is as said.
@@ -226,64 +213,4 @@ fn read_pcr_pid(head: &[u8]) -> u16
     ensures fits { result < 2 ^ 13 }
 {
     BigEndian::read_u16(head) % 0x2000
-}
-
-/// The row with this head and these descriptors.
-#[tactic(auto, using(crate::proofs::PmtLaws::pmt_fields))]
-fn read_row(alloc: Global, head: &[u8], descriptors: &[u8]) -> Result<PmtRow, AllocError>
-    requires head { length head.now ≡ 5 }
-    requires descriptors { are_whole 0 descriptors.now ≡ true }
-    ensures { IfOk result (λ row.
-        row ≡ pmt_row_of (record { head = head.now; descriptors = descriptors.now })) }
-{
-    let descriptors = DescriptorLoop::copy(alloc, descriptors)?;
-    Ok(PmtRow {
-        stream_type: head[0],
-        elementary_pid: BigEndian::read_u16(&head[1..3]) % 0x2000,
-        descriptors,
-    })
-}
-
-/// The rows that the bytes are, of which there are so many.
-fn read_rows(alloc: Global, bytes: &[u8], count: usize) -> Result<Vec<PmtRow>, AllocError>
-    requires { option_map length (rows_of 5 0 bytes.now) ≡ Some count }
-    ensures { IfOk result (λ v.
-        option_map (map pmt_row_of) (rows_of 5 0 bytes.now) ≡ Some v.items) }
-{
-    let mut rows = Vec::with_capacity(alloc, count)?;
-    let mut rest = bytes;
-    while let Some(row) = split_row(rest, ROW_HEAD_LENGTH) {
-        rows.push_reserved(read_row(alloc, row.head, row.descriptors)?);
-        rest = row.rest;
-    }
-    Ok(rows)
-}
-
-/// The row up to its descriptors.
-fn row_head(row: &PmtRow) -> [u8; 5]
-    requires pid { row.now.elementary_pid < 2 ^ 13 }
-    requires length { length row.now.descriptors < 2 ^ 12 }
-    ensures { result ++ row.now.descriptors ≡ pmt_row_bytes row.now }
-{
-    let length = row.descriptors.bytes().len();
-    [
-        row.stream_type,
-        0xE0 + (row.elementary_pid / 256) as u8,
-        (row.elementary_pid % 256) as u8,
-        0xF0 + (length / 256) as u8,
-        (length % 256) as u8,
-    ]
-}
-
-/// Adds the rows.
-fn write_rows(out: &mut Vec<u8>, rows: &[PmtRow]) -> Result<(), AllocError>
-    requires rows { All IsPmtRow rows.now }
-    requires short { All (λ r. length r.descriptors < 2 ^ 12) rows.now }
-    ensures { OnOk result (out.new.items ≡ out.old.items ++ flat_map pmt_row_bytes rows.now) }
-{
-    for row in rows {
-        out.extend_from_slice(&row_head(row))?;
-        out.extend_from_slice(row.descriptors.bytes())?;
-    }
-    Ok(())
 }

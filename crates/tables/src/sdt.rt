@@ -1,16 +1,13 @@
 //! The service description table.
 
-ghost use Rattle.std.specs.Prelude.{◌≡◌, ◌≢◌, ◌+◌, ◌*◌, ◌/◌, ◌%◌, ◌^◌, ◌<◌, ◌≤◌, ◌⊎◌, [], ◌∷◌, ◌++◌, length, map, sum, take, true, Some, None, option_map, IfOk, IfErr, IsSome, MatchOption, vec_capacity};
+ghost use Rattle.std.specs.Prelude.{◌≡◌, ◌+◌, ◌/◌, ◌%◌, ◌≤◌, ◌∷◌, length, map, sum, IfOk};
 ghost use Rattle.std.specs.List.{All, flat_map};
 ghost use Rattle.tspkt.specs.Bits.{field};
-ghost use Rattle.tables.specs.Descriptors.{are_whole};
-ghost use Rattle.tables.specs.Rows.{rows_of};
 ghost use Rattle.tables.specs.declared.sdt_row.SdtRow.{SdtRow};
-ghost use Rattle.tables.specs.Sdt.{sdt_row_of, sdt_row_bytes, IsSdtRow, rows_room};
+ghost use Rattle.tables.specs.Sdt.{sdt_row_bytes, IsSdtRow, rows_room};
 
-use crate::descriptor_loop::DescriptorLoop;
 use crate::header::{Header, read_header, write_section};
-use crate::rows::{RowSlices, count_rows, split_row};
+use crate::rows::{read_rows, rows_length, write_rows};
 use crate::sdt_row::SdtRow;
 use crate::table_fault::TableFault;
 use crate::write_fault::WriteFault;
@@ -23,9 +20,6 @@ const TABLE_ID: u8 = 0x42;
 
 /// Behind section_syntax_indicator a section of this table has reserved_future_use.
 const BIT_BEHIND_SYNTAX_INDICATOR: u8 = 1;
-
-/// The bytes of a row in front of its descriptors.
-const ROW_HEAD_LENGTH: usize = 5;
 
 /// The bytes of a body in front of its rows: original_network_id, and reserved bits.
 const BODY_HEAD_LENGTH: usize = 3;
@@ -116,7 +110,7 @@ impl Sdt {
         ensures crc { IfOk result (λ v. crc_of v.items ≡ 0) }
         ensures length { IfOk result (λ v. length v.items ≡ sdt_section_length_of self.now + 3) }
     {
-        let Some(length) = rows_length(&self.rows) else {
+        let Some(length) = rows_length(&self.rows, MAX_SDT_ROWS_LENGTH) else {
             return Err(WriteFault::TooLarge);
         };
         let body = write_body(alloc, self.original_network_id, &self.rows, length)?;
@@ -163,76 +157,6 @@ fn read_original_network_id(body: &[u8]) -> u16
     BigEndian::read_u16(body)
 }
 
-/// The row with this head and these descriptors. It fails only for want of memory.
-#[tactic(auto, using(crate::proofs::SdtLaws::sdt_row_fields))]
-fn read_row(alloc: Global, head: &[u8], descriptors: &[u8]) -> Result<SdtRow, AllocError>
-    requires head { length head.now ≡ ROW_HEAD_LENGTH }
-    requires descriptors { are_whole 0 descriptors.now ≡ true }
-    ensures { IfOk result (λ r. r ≡ sdt_row_of (record { head = head.now; descriptors = descriptors.now })) }
-{
-    let descriptors = DescriptorLoop::copy(alloc, descriptors)?;
-    Ok(SdtRow {
-        service_id: BigEndian::read_u16(head),
-        eit_schedule_flag: head[2] / 2 % 2 == 1,
-        eit_present_following_flag: head[2] % 2 == 1,
-        running_status: head[3] / 32,
-        free_ca_mode: head[3] / 16 % 2 == 1,
-        descriptors,
-    })
-}
-
-/// The rows that the bytes are. Memory is asked for once it is known that there is no fault: one
-/// piece with room for just the rows, and one for the descriptors of each.
-fn read_rows(alloc: Global, bytes: &[u8]) -> Result<Vec<SdtRow>, TableFault>
-    ensures rows { IfOk result (λ v. option_map (map sdt_row_of) (rows_of ROW_HEAD_LENGTH 0 bytes.now) ≡ Some v.items) }
-    ensures fault { IfErr result (λ e.
-        (e ≡ TableFault.Memory) ⊎ ((e ≡ TableFault.BadLoop) × (rows_of ROW_HEAD_LENGTH 0 bytes.now ≡ None))) }
-    ensures memory { result ≡ Err TableFault.Memory → IsSome (rows_of ROW_HEAD_LENGTH 0 bytes.now) }
-    ensures room { IfOk result (λ v. vec_capacity v ≡ length v.items) }
-{
-    let Some(count) = count_rows(bytes, ROW_HEAD_LENGTH) else {
-        return Err(TableFault::BadLoop);
-    };
-    let mut rows = Vec::with_capacity(alloc, count)?;
-    let mut rest = bytes;
-    while let Some(row) = split_row(rest, ROW_HEAD_LENGTH) {
-        rows.push_reserved(read_row(alloc, row.head, row.descriptors)?);
-        rest = row.rest;
-    }
-    Ok(rows)
-}
-
-/// The bytes of the rows as they are written; none where no section holds them.
-fn rows_length(rows: &[SdtRow]) -> Option<usize>
-    ensures { MatchOption result
-        (rows_room < sum (map (λ (r : SdtRow). 5 + length r.descriptors) rows.now))
-        (λ n. (n ≡ sum (map (λ (r : SdtRow). 5 + length r.descriptors) rows.now)) × (n ≤ rows_room)) }
-{
-    let mut room = MAX_SDT_ROWS_LENGTH;
-    for row in rows {
-        room = room
-            .checked_sub(ROW_HEAD_LENGTH)?
-            .checked_sub(row.descriptors.bytes().len())?;
-    }
-    Some(MAX_SDT_ROWS_LENGTH - room)
-}
-
-/// The row in front of its descriptors.
-fn row_head(row: &SdtRow) -> [u8; 5]
-    requires running_status { row.now.running_status < 8 }
-    requires short { length row.now.descriptors < 2 ^ 12 }
-    ensures { result ++ row.now.descriptors ≡ sdt_row_bytes row.now }
-{
-    let count = row.descriptors.bytes().len();
-    [
-        (row.service_id / 256) as u8,
-        (row.service_id % 256) as u8,
-        0xFC + u8::from(row.eit_schedule_flag) * 2 + u8::from(row.eit_present_following_flag),
-        row.running_status * 32 + u8::from(row.free_ca_mode) * 16 + (count / 256) as u8,
-        (count % 256) as u8,
-    ]
-}
-
 /// The body of a section with these rows, of so many bytes.
 fn write_body(
     alloc: Global,
@@ -252,9 +176,6 @@ fn write_body(
         (original_network_id % 256) as u8,
         0xFF,
     ])?;
-    for row in rows {
-        body.extend_from_slice(&row_head(row))?;
-        body.extend_from_slice(row.descriptors.bytes())?;
-    }
+    write_rows(&mut body, rows)?;
     Ok(body)
 }

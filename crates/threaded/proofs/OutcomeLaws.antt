@@ -15,7 +15,7 @@ use Rattle.reading.specs.declared.stop.Stop.{Stop}
 use Rattle.mux.specs.declared.event.Event.{Event}
 use Rattle.mux.specs.History.{Run, History, emitted}
 use Rattle.mux.specs.Headline.{IsSound}
-use Rattle.mux.specs.Plans.{IsMultiplexSchedule}
+use Rattle.schedule.specs.Laws.{IsMultiplexSchedule}
 use Rattle.mux.proofs.Plans.{first_request}
 use Rattle.port.specs.Rings.{RingId, PortValue}
 use Rattle.worker.proofs.PlanLaws.{all_at}
@@ -183,7 +183,7 @@ module _ {R G : Type 0} (remaining : R → Option (List ℕ)) (failures : R → 
         end = e.0;
         end_is = e.1;
         closed = x.1;
-        served = served remaining (limit_of_input limit input.format) p station i input seat.0.0.0 e.0.lent.0 e.0.report x.0 (kept.each i x.0.entry x.0.entry_is) plan_is schedule (all_at IsInput p.first.request.inputs i input (first_request p schedule).inputs at);
+        served = served remaining (limit_of_input limit input.size) p station i input seat.0.0.0 e.0.lent.0 e.0.report x.0 (kept.each i x.0.entry x.0.entry_is) plan_is schedule (all_at IsInput p.first.request.inputs i input (first_request p schedule).inputs at);
         told = (λ stopped. subst (λ v. FailsOnce v (failures e.0.lent.0)) source (end.work.failed stopped), λ other. end.work.unfailed other ∙ source);
       }
 

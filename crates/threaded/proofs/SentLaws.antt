@@ -8,7 +8,7 @@ use Rattle.request.specs.Request.{InputValue, IsInput}
 use Rattle.schedule.specs.Schedule.{ScheduleValue}
 use Rattle.mux.specs.History.{taken, is_closed}
 use Rattle.mux.specs.Lawful.{is_mapped}
-use Rattle.mux.specs.Plans.{IsMultiplexSchedule}
+use Rattle.schedule.specs.Laws.{IsMultiplexSchedule}
 use Rattle.reading.specs.InputLimit.{limit_of_input}
 use Rattle.reading.specs.Takeable.{origin_of, framed_at, takeable}
 use Rattle.reading.specs.declared.input_limit.InputLimit.{InputLimit}
@@ -41,10 +41,10 @@ pub record IsSettledInput {R : Type 0} (remaining : R → Option (List ℕ)) (li
 
 pub settled_input : {R G : Type 0} (remaining : R → Option (List ℕ)) (failures : R → ℕ) (limit : InputLimit) (p : ScheduleValue) (station : StationValue) (i : ℕ) (input : InputValue) (reader : R) (port : PortValue) (w : Worker R (RunGate G)) (e : Ended (R × G))
     → IsStarted limit p i reader port w → port.ring.input ≡ i → slice_get p.first.request.inputs i ≡ Some input → IsEnded remaining failures station w e
-    → IsSettledInput remaining (limit_of_input limit input.format) p station i input reader e.lent.0 e.report × (e.is_closed ≡ is_closed i station.history.events)
+    → IsSettledInput remaining (limit_of_input limit input.size) p station i input reader e.lent.0 e.report × (e.is_closed ≡ is_closed i station.history.events)
 settled_input {R} {G} remaining failures limit p station i input reader port w e started own at ended =
     let worked = ended.work.sent input ((λ k. slice_get (started.plan_is k).first.request.inputs (started.number_is k)) ∙ at) in
-    let T : (InputLimit × ScheduleValue × ℕ × R) → Type 0 = λ v. HasSentOf (limit_of_input v.0 input.format) v.1 (origin_of v.2 input) (remaining v.3) (remaining e.lent.0) e.report ended.finished.is_ended worked.0 in
+    let T : (InputLimit × ScheduleValue × ℕ × R) → Type 0 = λ v. HasSentOf (limit_of_input v.0 input.size) v.1 (origin_of v.2 input) (remaining v.3) (remaining e.lent.0) e.report ended.finished.is_ended worked.0 in
     let number : ended.finished.port.ring.input ≡ i = ap (λ (v : PortValue). v.ring.input) worked.2 ∙ (ap (λ (v : PortValue). v.ring.input) started.port_is ∙ own) in
     let events = station.history.events in (
       record {

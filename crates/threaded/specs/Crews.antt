@@ -19,7 +19,7 @@ use Rattle.threaded.specs.declared.run_gate.RunGate.{RunGate}
 abbrev pub AreUnsent : {R G : Type 0} → List ((R × G) × PortValue) → Type 0
 AreUnsent {R} {G} seats = (i : ℕ) (seat : (R × G) × PortValue) → slice_get seats i ≡ Some seat → seat.1.sent ≡ []
 
--- the worker reads the schedule's input i, of at most so many bytes at its format, from this reader, and sends by this port
+-- the worker reads the schedule's input i, of at most so many bytes at its size, from this reader, and sends by this port
 pub record IsStarted {R G : Type 0} (limit : InputLimit) (schedule : ScheduleValue) (i : ℕ) (reader : R) (port : PortValue) (worker : Worker R G) : Type 0 where
   pub plan_is : worker.schedule ≡ schedule
   pub number_is : worker.number ≡ i

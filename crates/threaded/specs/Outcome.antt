@@ -20,7 +20,7 @@ use Rattle.station.specs.Stations.{StationValue, IsLawfulStation}
 use Rattle.threaded.specs.Crews.{HaveWorked, WantedMemory}
 use Rattle.threaded.specs.Driving.{IsDriven, BreaksOff}
 
--- What a run in threads makes of these readers, each of at most so many bytes at its input's format, where it doesn't end by itself but
+-- What a run in threads makes of these readers, each of at most so many bytes at its input's size, where it doesn't end by itself but
 -- with this fault. So many writes had failed before the run, and so many after it.
 pub record HasBegun {R : Type 0} (remaining : R → Option (List ℕ)) (failures : R → ℕ) (h : History) (limit : InputLimit) (readers : List R) (before after : Option (List ℕ)) (failed_before failed_after : ℕ) (fault : RunFault) : Type 0 where
   -- nothing ties the labels in it to the workers of the run

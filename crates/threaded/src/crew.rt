@@ -19,7 +19,7 @@ use std::thread::Threads;
 use std::time::Clock;
 use worker::{Gate, Worker};
 
-/// Starts a worker for each input of a schedule, in their order, each of which may have as many bytes as `limit` says at its format.
+/// Starts a worker for each input of a schedule, in their order, each of which may have as many bytes as `limit` says at its size.
 /// `Err` is want of memory, or that no thread can be made; the threads that were started then run.
 pub(crate) fn start_all<
     T: Threads + Wait + Clock + Copy + Send + Drop + 'static,
@@ -71,8 +71,7 @@ pub(crate) fn join_all<T: Threads, R: Source + Drop, G: Gate + Drop>(
     ensures ended { AreEnded R.remaining R.failures station.old
         (map (λ h. h.promise.worker.value) handles.items) ended.new.items }
 {
-    // What every station keeps is known with this.
-    let _ = station.slots();
+    station.known();
     for handle in handles {
         let (report, port, reader, gate) = handle.join(rt);
         let is_closed = station.is_closed(port.input());

@@ -2,7 +2,6 @@
 
 ghost use Rattle.std.specs.Prelude.{◌≡◌, ◌⊎◌, ◌^◌, ◌≤◌, List, length, map, Err, IfOk, IfErr, OnOk};
 ghost use Rattle.mux.specs.declared.event.Event.{Event};
-ghost use Rattle.mux.specs.Plans.{IsMultiplexSchedule};
 ghost use Rattle.reading.specs.Failures.{FailsOnce};
 ghost use Rattle.reading.specs.InputLimit.{IsAllowed};
 ghost use Rattle.outcome.specs.Outcome.{HasRun, FailuresAreTold};
@@ -24,7 +23,7 @@ use std::time::Clock;
 use worker::Gate;
 
 /// Runs a schedule in threads: reads one reader an input, each in a thread of its own and at most as many bytes of each as `limit` says
-/// at the input's format (up to 140,737,488,355,328), and analyses and writes the packet of each slot in one thread more, at most so
+/// at the input's size (up to 140,737,488,355,328), and analyses and writes the packet of each slot in one thread more, at most so
 /// many slots (0 to 2^40). It ends where all inputs have ended and nothing waits, or where it has all its slots. What goes out is
 /// written 65,424 bytes at a time, or sooner: before that thread, which finds no packets to come, sleeps twice in a row.
 ///
@@ -68,7 +67,7 @@ pub fn run_threads<
         ⊎ FailsOnce (W.failures writer) (W.failures result.0) }
     ensures write_failed { result.1 ≡ Err RunFault.Write → FailsOnce (W.failures writer) (W.failures result.0) }
 {
-    known(&schedule);
+    schedule.known();
     let Ok(opening) = open(alloc, &schedule, slots, readers, gates) else {
         return (writer, Err(RunFault::Memory));
     };
@@ -97,14 +96,6 @@ pub fn run_threads<
     );
     is_over.store(true, Ordering::SeqCst);
     join_all(&rt, &mut station, handles, &mut ended);
-    // What every station keeps is known with this.
-    let _ = station.slots();
+    station.known();
     tell(alloc, &station, driven, ended, outlet)
-}
-
-/// What every schedule keeps.
-fn known(schedule: &Schedule)
-    ensures { IsMultiplexSchedule schedule.now }
-{
-    let _ = schedule.later_plans();
 }

@@ -8,9 +8,9 @@ use Rattle.std.proofs.lemmas.List.{append_assoc, append-nil, drop-drop, drop_at,
 use Rattle.std.proofs.Math.Nat.{suc-mul, mul-le-mul_right}
 use Rattle.std.proofs.lemmas.Bool.{cases_Bool, cases_lt}
 use Rattle.std.proofs.lemmas.Bool.Decides.{nat_tests}
-use Rattle.tspkt.specs.PacketFormat.{stride_of}
-use Rattle.tspkt.specs.declared.packet_format.PacketFormat.{PacketFormat}
-use Rattle.tspkt.specs.declared.packet_format.PacketFormat.TheVariants.{Ts188, Ts204}
+use Rattle.tspkt.specs.PacketSize.{stride_of}
+use Rattle.tspkt.specs.declared.packet_size.PacketSize.{PacketSize}
+use Rattle.tspkt.specs.declared.packet_size.PacketSize.TheVariants.{Ts188, Ts204}
 use Rattle.tspkt.specs.Framed.{framed, framed_from, is_sync, acquires_sync, keeps_sync, lost, covered, IsCovered, IsAtItsPlace, IsWhole, packets_at, ExactOnPackets, ExactOnLastPacket}
 use Rattle.tspkt.specs.declared.item.Item.{Item}
 use Rattle.tspkt.specs.declared.item.Item.TheVariants.{Packet, Bad, SyncLoss, Lost}
@@ -19,7 +19,7 @@ use Rattle.tspkt.specs.declared.mode.Mode.TheVariants.{Hunting, Synced}
 use Rattle.tspkt.proofs.FramingLaws.{short, passed, told_packet, told_whole, acquired_whole, synced_ends}
 
 -- a packet has room in what lies from one to the next
-pub stride_long : (format : PacketFormat) → 188 ≤ stride_of format
+pub stride_long : (size : PacketSize) → 188 ≤ stride_of size
 stride_long Ts188 = omega arith
 stride_long Ts204 = omega arith
 

@@ -4,6 +4,7 @@ pub mod PacketFields
 pub mod RewrittenLaws
 pub mod CountedLaws
 pub mod CounterLaws
+pub mod ItemListLaws
 pub mod FramingLaws
 pub mod FramedLaws
 pub mod DecidedLaws

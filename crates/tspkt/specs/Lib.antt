@@ -5,6 +5,7 @@ pub mod Rewritten
 pub mod Counted
 pub mod Stamps
 pub mod PositionClock
-pub mod PacketFormat
+pub mod PacketSize
 pub mod Framed
+pub mod ItemLists
 pub mod Stepping

@@ -2,8 +2,10 @@
 
 use crate::feed_fault::FeedFault;
 use crate::item::Item;
+use crate::item_buffer::ItemBuffer;
+use crate::item_list::ItemList;
 use crate::mode::Mode;
-use crate::packet_format::PacketFormat;
+use crate::packet_size::PacketSize;
 use crate::stepping::{advance, tell_end};
 use crate::window::Window;
 use std::alloc::AllocError;
@@ -55,9 +57,10 @@ impl Model for Framer {
 }
 
 impl Framer {
-    ghost use Rattle.std.specs.Prelude.{◌≡◌, List, ℕ, [], ◌+◌, ◌*◌, ◌<◌, ◌≤◌, ◌↔◌, ◌++◌, length, take, vec_len, vec_capacity, OnOk, OnErr, IfOk, IfErr, Err};
+    ghost use Rattle.std.specs.Prelude.{◌≡◌, List, ℕ, [], ◌+◌, ◌*◌, ◌<◌, ◌≤◌, ◌↔◌, ◌++◌, length, vec_len, vec_capacity, OnOk, OnErr, IfErr, Err};
+    ghost use Rattle.tspkt.specs.ItemLists.{IsLater, Tells};
     ghost use Rattle.tspkt.specs.Stepping.{IsFramer};
-    ghost use Rattle.tspkt.specs.PacketFormat.{stride_of};
+    ghost use Rattle.tspkt.specs.PacketSize.{stride_of};
     ghost use Rattle.tspkt.specs.Framed.{new_framer, seen, still_to_tell, packets_of, framed, HasToldAll, TakesPiece, WantsRoom, IsFramedSoFar};
 
     /// A framer that has seen nothing, for a stream of packets of 188 bytes, at most 3,154,116,608 bytes in all.
@@ -67,7 +70,7 @@ impl Framer {
         ensures prompt { packets_of (still_to_tell result []) ≡ [] }
         ensures told_all { HasToldAll result }
     {
-        Framer::with_limit(PacketFormat::Ts188.limit())
+        Framer::with_limit(PacketSize::Ts188.limit())
     }
 
     /// The same for a stream of at most so many bytes in all, of which there may be up to 140,737,488,355,328.
@@ -78,20 +81,20 @@ impl Framer {
         ensures prompt { packets_of (still_to_tell result []) ≡ [] }
         ensures told_all { HasToldAll result }
     {
-        Framer::with_size(PacketFormat::Ts188, limit)
+        Framer::with_size(PacketSize::Ts188, limit)
     }
 
-    /// The same for packets that follow one another as the format says. The limit counts the bytes after packets too.
+    /// The same for packets of this size. The limit counts the bytes after packets too.
     #[tactic(auto, unfolding(crate::specs::Framed::framed_from))]
-    pub fn with_size(format: PacketFormat, limit: u64) -> Framer
+    pub fn with_size(size: PacketSize, limit: u64) -> Framer
         requires { limit ≤ MAX_LIMIT }
-        ensures state { result ≡ new_framer (stride_of format) limit }
+        ensures state { result ≡ new_framer (stride_of size) limit }
         ensures framed { IsFramedSoFar result [] [] }
         ensures prompt { packets_of (still_to_tell result []) ≡ [] }
         ensures told_all { HasToldAll result }
     {
         Framer {
-            stride: format.stride(),
+            stride: size.stride(),
             limit,
             position: 0,
             mode: Mode::Hunting(0),
@@ -131,68 +134,57 @@ impl Framer {
         ensures capacity { vec_capacity out.old ≤ vec_capacity out.new }
     {
         let before = out.len();
-        let mut told = before;
-        let taken = self.take_piece(piece, out, &mut told);
+        let taken = self.take_piece(piece, out);
         if taken.is_err() {
             out.truncate(before);
         }
         taken
     }
 
-    /// The same, but what is told is put over the items of `out`, from the first on, and then behind them. It answers how many
-    /// items these are: the others are left from before. Where a packet stood the bytes of the next are copied once, into its
-    /// place. `TooMuch` and `Memory` come as from `feed`; then the framer is as it was, and `out` has what was put there.
+    /// The same, but what is told is put over the items that `out` has from before: the items of this piece are then all that was told
+    /// to it. Where a packet stood the bytes of the next are copied once, into its place. `TooMuch` and `Memory` come as from `feed`;
+    /// then the framer is as it was, and nothing was told.
     #[tactic(auto, using(crate::proofs::FramingLaws::no_packet_kept))]
-    pub fn refill(&mut self, piece: &[u8], out: &mut Vec<Item>) -> Result<usize, FeedFault>
-        ensures ok { IfOk result (λ told. TakesPiece self.old piece.now [] self.new (take told out.new.items)) }
-        ensures within { IfOk result (λ told. told ≤ vec_len out.new) }
+    pub fn refill(&mut self, piece: &[u8], out: &mut ItemBuffer) -> Result<(), FeedFault>
+        ensures ok { OnOk result (TakesPiece self.old piece.now [] self.new out.new.told) }
 
-        // The list gets no shorter, and no longer than what is told.
-        ensures stays { vec_len out.old ≤ vec_len out.new }
-        ensures grows { IfOk result (λ told. vec_len out.old < vec_len out.new → told ≡ vec_len out.new) }
+        // With the items from before the list gets no shorter, and no longer than what is told.
+        ensures stays { length out.old.told + out.old.stale ≤ length out.new.told + out.new.stale }
+        ensures grows { OnOk result (length out.old.told + out.old.stale < length out.new.told + out.new.stale → out.new.stale ≡ 0) }
 
         ensures prompt { OnOk result (packets_of (still_to_tell self.new []) ≡ []) }
         ensures told_all { OnOk result (HasToldAll self.new) }
         ensures kept { OnOk result (length self.new.kept ≤ 4 * self.new.stride) }
         ensures too_much { (result ≡ Err FeedFault.TooMuch) ↔ (self.old.limit < seen self.old + length piece.now) }
         ensures room { result ≡ Err FeedFault.Memory
-            → vec_capacity out.old < length self.old.kept + length piece.now }
-        ensures full { result ≡ Err FeedFault.Memory → WantsRoom self.old piece.now [] (vec_capacity out.old) }
+            → out.old.places < length self.old.kept + length piece.now }
+        ensures full { result ≡ Err FeedFault.Memory → WantsRoom self.old piece.now [] out.old.places }
         ensures piece { result ≡ Err FeedFault.Memory → 0 < length piece.now }
         ensures long { result ≡ Err FeedFault.Memory → 188 ≤ length self.old.kept + length piece.now }
-        ensures err { OnErr result (self.new ≡ self.old) }
-        ensures capacity { vec_capacity out.old ≤ vec_capacity out.new }
+        ensures err { OnErr result ((self.new ≡ self.old) × (out.new.told ≡ [])) }
+        ensures places { out.old.places ≤ out.new.places }
     {
-        let mut told = 0;
-        self.take_piece(piece, out, &mut told)?;
-        Ok(told)
+        out.clear();
+        let taken = self.take_piece(piece, out);
+        if taken.is_err() {
+            out.clear();
+        }
+        taken
     }
 
-    /// Takes the next piece, and keeps what waits for more. The first `told` items of `out` stay, and what is told is put over
-    /// the others and then behind them.
-    fn take_piece(
-        &mut self,
-        piece: &[u8],
-        out: &mut Vec<Item>,
-        told: &mut usize,
-    ) -> Result<(), FeedFault>
-        requires { told.old ≤ vec_len out.old }
-        ensures ok { OnOk result (TakesPiece self.old piece.now (take told.old out.old.items) self.new (take told.new out.new.items)) }
+    /// Takes the next piece, and keeps what waits for more.
+    fn take_piece<L: ItemList>(&mut self, piece: &[u8], out: &mut L) -> Result<(), FeedFault>
+        ensures ok { OnOk result (TakesPiece self.old piece.now (L.list out.old).told self.new (L.list out.new).told) }
         ensures waits { OnOk result (IsFramer self.new.stride self.new.limit self.new.position self.new.mode self.new.kept) }
         ensures too_much { (result ≡ Err FeedFault.TooMuch) ↔ (self.old.limit < seen self.old + length piece.now) }
         ensures room { result ≡ Err FeedFault.Memory
-            → vec_capacity out.old < told.old + length self.old.kept + length piece.now }
+            → (L.list out.old).places < length (L.list out.old).told + length self.old.kept + length piece.now }
         ensures full { result ≡ Err FeedFault.Memory
-            → WantsRoom self.old piece.now (take told.old out.old.items) (vec_capacity out.old) }
+            → WantsRoom self.old piece.now (L.list out.old).told (L.list out.old).places }
         ensures piece { result ≡ Err FeedFault.Memory → 0 < length piece.now }
         ensures long { result ≡ Err FeedFault.Memory → 188 ≤ length self.old.kept + length piece.now }
         ensures err { OnErr result (self.new ≡ self.old) }
-        ensures kept { take told.old out.new.items ≡ take told.old out.old.items }
-        ensures within { told.new ≤ vec_len out.new }
-        ensures ends { told.old ≡ vec_len out.old → OnOk result (told.new ≡ vec_len out.new) }
-        ensures stays { vec_len out.old ≤ vec_len out.new }
-        ensures grows { OnOk result (vec_len out.old < vec_len out.new → told.new ≡ vec_len out.new) }
-        ensures capacity { vec_capacity out.old ≤ vec_capacity out.new }
+        ensures later { IsLater (L.list out.old) (L.list out.new) }
     {
         if piece.len() as u64 > self.limit - self.position - self.count as u64 {
             return Err(FeedFault::TooMuch);
@@ -200,10 +192,9 @@ impl Framer {
         if piece.is_empty() {
             return Ok(());
         }
-        let before = *told;
         let kept = self.kept;
         let window = Window::new(&kept[..self.count], piece);
-        match advance(self.stride, self.position, &window, self.mode, out, told) {
+        match advance(self.stride, self.position, &window, self.mode, out) {
             Ok((done, mode)) => {
                 let left = window.len() - done;
                 window.copy(done, &mut self.kept[..left]);
@@ -212,10 +203,7 @@ impl Framer {
                 self.mode = mode;
                 Ok(())
             }
-            Err(_) => {
-                *told = before;
-                Err(FeedFault::Memory)
-            }
+            Err(_) => Err(FeedFault::Memory),
         }
     }
 
@@ -227,6 +215,25 @@ impl Framer {
         ensures left { OnErr result (0 < length (still_to_tell self [])) }
         ensures err { IfErr result (λ back. (back.0 ≡ self) × (out.new.items ≡ out.old.items)) }
         ensures capacity { vec_capacity out.old ≤ vec_capacity out.new }
+    {
+        self.end(out)
+    }
+
+    /// The same, told to a list that is filled anew from piece to piece, behind what was told to it.
+    pub fn finish_refill(self, out: &mut ItemBuffer) -> Result<(), (Framer, AllocError)>
+        ensures ok { OnOk result (out.new.told ≡ out.old.told ++ still_to_tell self []) }
+        ensures room { OnErr result (out.old.places ≤ length out.old.told) }
+        ensures left { OnErr result (0 < length (still_to_tell self [])) }
+        ensures err { IfErr result (λ back. (back.0 ≡ self) × (out.new.told ≡ out.old.told)) }
+        ensures places { out.old.places ≤ out.new.places }
+    {
+        self.end(out)
+    }
+
+    /// Ends the stream, and tells the items that are left.
+    fn end<L: ItemList>(self, out: &mut L) -> Result<(), (Framer, AllocError)>
+        ensures tells { Tells (L.list out.old) (still_to_tell self []) (L.list out.new) result }
+        ensures back { IfErr result (λ back. back.0 ≡ self) }
     {
         let end = self.position + self.count as u64;
         match tell_end(self.mode, self.position, end, out) {

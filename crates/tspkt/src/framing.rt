@@ -2,31 +2,31 @@
 
 ghost use Rattle.std.specs.Prelude.{◌≡◌, ◌<◌, ◌≤◌, ◌↔◌, IsTrue, [], length, All, sum_by, Err, IfOk, OnOk};
 ghost use Rattle.std.specs.List.{flat_map};
-ghost use Rattle.tspkt.specs.PacketFormat.{stride_of, limit_of};
+ghost use Rattle.tspkt.specs.PacketSize.{stride_of, limit_of};
 ghost use Rattle.tspkt.specs.Framed.{framed, packets_of, still_to_tell, IsFramedSoFar, covered, IsCovered, IsAtItsPlace, ExactOnPackets, ExactOnLastPacket};
 
 use crate::feed_fault::FeedFault;
 use crate::framer::Framer;
 use crate::item::Item;
-use crate::packet_format::PacketFormat;
+use crate::packet_size::PacketSize;
 use std::alloc::Global;
 
 /// A framer that was fed these pieces, and what it told.
 fn fed(
     alloc: Global,
-    format: PacketFormat,
+    size: PacketSize,
     pieces: &[Vec<u8>],
 ) -> Result<(Framer, Vec<Item>), FeedFault>
     ensures told { IfOk result (λ fed.
         IsFramedSoFar fed.0 fed.1.items (flat_map (λ piece. piece.items) pieces.now)) }
-    ensures stride { IfOk result (λ fed. fed.0.stride ≡ stride_of format) }
+    ensures stride { IfOk result (λ fed. fed.0.stride ≡ stride_of size) }
     ensures prompt { IfOk result (λ fed. packets_of (still_to_tell fed.0 []) ≡ []) }
-    ensures within { OnOk result (length (flat_map (λ piece. piece.items) pieces.now) ≤ limit_of format) }
+    ensures within { OnOk result (length (flat_map (λ piece. piece.items) pieces.now) ≤ limit_of size) }
     ensures too_much { result ≡ Err FeedFault.TooMuch
-        → limit_of format < length (flat_map (λ piece. piece.items) pieces.now) }
+        → limit_of size < length (flat_map (λ piece. piece.items) pieces.now) }
     ensures memory { result ≡ Err FeedFault.Memory → 0 < length (flat_map (λ piece. piece.items) pieces.now) }
 {
-    let mut framer = Framer::with_size(format, format.limit());
+    let mut framer = Framer::with_size(size, size.limit());
     let mut items = Vec::new(alloc);
     for piece in pieces {
         framer.feed(piece, &mut items)?;
@@ -67,36 +67,36 @@ pub fn frame(alloc: Global, pieces: &[Vec<u8>]) -> Result<Vec<Item>, FeedFault>
         ↔ (3154116608 < length (flat_map (λ piece. piece.items) pieces.now)) }
     ensures memory { result ≡ Err FeedFault.Memory → 0 < length (flat_map (λ piece. piece.items) pieces.now) }
 {
-    frame_with_size(alloc, PacketFormat::Ts188, pieces)
+    frame_with_size(alloc, PacketSize::Ts188, pieces)
 }
 
-/// The same for packets that follow one another as the format says, at most as many bytes in all as its limit.
+/// The same for packets of this size, at most as many bytes in all as its limit.
 pub fn frame_with_size(
     alloc: Global,
-    format: PacketFormat,
+    size: PacketSize,
     pieces: &[Vec<u8>],
 ) -> Result<Vec<Item>, FeedFault>
     ensures items { IfOk result (λ items.
-        items.items ≡ framed (stride_of format) (flat_map (λ piece. piece.items) pieces.now)) }
+        items.items ≡ framed (stride_of size) (flat_map (λ piece. piece.items) pieces.now)) }
 
     // What that means.
     ensures cover { IfOk result (λ items.
-        IsCovered (stride_of format) (flat_map (λ piece. piece.items) pieces.now) items.items) }
+        IsCovered (stride_of size) (flat_map (λ piece. piece.items) pieces.now) items.items) }
     ensures places { IfOk result (λ items.
         All (IsAtItsPlace (flat_map (λ piece. piece.items) pieces.now)) items.items) }
     ensures found { IfOk result (λ items.
-        ExactOnPackets (stride_of format) (flat_map (λ piece. piece.items) pieces.now) items.items) }
+        ExactOnPackets (stride_of size) (flat_map (λ piece. piece.items) pieces.now) items.items) }
     ensures last { IfOk result (λ items.
-        ExactOnLastPacket (stride_of format) (flat_map (λ piece. piece.items) pieces.now) items.items) }
+        ExactOnLastPacket (stride_of size) (flat_map (λ piece. piece.items) pieces.now) items.items) }
 
     ensures too_much { (result ≡ Err FeedFault.TooMuch)
-        ↔ (limit_of format < length (flat_map (λ piece. piece.items) pieces.now)) }
+        ↔ (limit_of size < length (flat_map (λ piece. piece.items) pieces.now)) }
     ensures memory { result ≡ Err FeedFault.Memory → 0 < length (flat_map (λ piece. piece.items) pieces.now) }
 {
-    if is_too_long(format.limit(), pieces) {
+    if is_too_long(size.limit(), pieces) {
         return Err(FeedFault::TooMuch);
     }
-    let (framer, mut items) = fed(alloc, format, pieces)?;
+    let (framer, mut items) = fed(alloc, size, pieces)?;
     match framer.finish(&mut items) {
         Ok(()) => Ok(items),
         Err(_) => Err(FeedFault::Memory),

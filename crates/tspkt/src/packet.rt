@@ -8,6 +8,9 @@ use std::marker::Model;
 /// The modulus of a PCR in ticks of 27 MHz: 2^33 * 300 (ISO/IEC 13818-1, 2.4.3.5).
 pub const PCR_MODULUS: u64 = 2_576_980_377_600;
 
+/// How many PIDs there are: a PID has 13 bits (ISO/IEC 13818-1, 2.4.3.2).
+pub const PID_COUNT: usize = 8_192;
+
 /// The PID of null packets (ISO/IEC 13818-1, 2.4.3.3).
 pub const NULL_PID: u16 = 0x1FFF;
 
@@ -78,14 +81,13 @@ impl Packet {
         }
     }
 
-    /// Becomes the packet in these bytes, which are one. They are copied once.
-    pub fn set(&mut self, bytes: &[u8; 188])
-        requires { fault_of bytes.now ≡ None }
-        ensures { self.new ≡ bytes.now }
+    /// The packet in these bytes, which are known to be one. They are copied once.
+    #[inline(always)]
+    pub(crate) fn holding(bytes: &[u8; 188]) -> Packet
+        requires { IsPacket bytes.now }
+        ensures { result ≡ bytes.now }
     {
-        // That each of them is a byte is known with this.
-        let _ = fields::sync_byte(bytes);
-        self.bytes = *bytes;
+        Packet { bytes: *bytes }
     }
 
     /// Becomes what `rewrite` makes of a packet: it goes on another PID, below 0x2000, and later by a delay in ticks of 27 MHz. Its
@@ -99,10 +101,27 @@ impl Packet {
         fields::add_to_pcr(&mut self.bytes, packet.pcr(), delay);
     }
 
+    /// What every packet keeps.
+    #[inline(always)]
+    pub fn known(&self)
+        ensures { IsPacket self.now }
+    {
+        let _ = &self.bytes;
+    }
+
+    /// Becomes the same in its place.
+    pub fn move_on(&mut self, pid: u16, delay: u64)
+        requires { pid < 2 ^ 13 }
+        ensures { self.new ≡ rewritten self.old pid delay }
+    {
+        let pcr = self.pcr();
+        fields::set_pid(&mut self.bytes, pid);
+        fields::add_to_pcr(&mut self.bytes, pcr, delay);
+    }
+
     /// The 188 bytes.
     pub fn bytes(&self) -> &[u8; 188]
         ensures value { result.now ≡ self.now }
-        ensures packet { IsPacket self.now }
     {
         &self.bytes
     }

@@ -4,7 +4,7 @@ ghost use Rattle.std.specs.Prelude.{◌≡◌, ◌+◌, ◌≤◌};
 ghost use Rattle.tspkt.specs.Stamps.{time_of};
 
 use crate::framer::MAX_LIMIT;
-use crate::packet_format::PacketFormat;
+use crate::packet_size::PacketSize;
 use std::marker::Model;
 
 /// The lowest rate that a clock goes by, in bits a second.
@@ -54,16 +54,16 @@ impl PositionClock {
         requires highest { rate ≤ HIGHEST_RATE }
         ensures { result ≡ record { rate = rate; position = 0 } }
     {
-        PositionClock::with_size(PacketFormat::Ts188, rate)
+        PositionClock::with_size(PacketSize::Ts188, rate)
     }
 
-    /// The same for packets that follow one another as the format says. The rate counts the bytes after packets too.
-    pub fn with_size(format: PacketFormat, rate: u64) -> PositionClock
+    /// The same for packets of this size. The rate counts the bytes after packets too.
+    pub fn with_size(size: PacketSize, rate: u64) -> PositionClock
         requires lowest { LOWEST_RATE ≤ rate }
         requires highest { rate ≤ HIGHEST_RATE }
         ensures { result ≡ record { rate = rate; position = 0 } }
     {
-        let stride = format.stride() as u64;
+        let stride = size.stride() as u64;
         let start = STAMPED_BYTE * TICKS_OF_A_BYTE;
         let length = stride * TICKS_OF_A_BYTE;
         PositionClock {

@@ -2,13 +2,13 @@
 
 use crate::names::Names;
 use crate::numbers::{first_word, number, numbers};
-use crate::packets::format_of;
+use crate::packets::size_of;
 use crate::told::{Kind, Told};
 use anyhow::{Error, Result, bail};
 use std::alloc::{AllocError, Global};
 use std::io;
 use std::io::Write;
-use tspkt::{FeedFault, Framer, Item, MAX_LIMIT, PacketFormat, frame, frame_with_size};
+use tspkt::{FeedFault, Framer, Item, ItemBuffer, MAX_LIMIT, PacketSize, frame, frame_with_size};
 
 /// What an item tells.
 fn told_of(item: &Item) -> Told {
@@ -52,11 +52,11 @@ fn finish(alloc: Global, framer: Framer, told: &mut Vec<Told>) -> Result<()> {
     }
 }
 
-/// What a framer tells that is fed these bytes in pieces of this size.
-fn in_pieces(alloc: Global, format: PacketFormat, bytes: &[u8], size: usize) -> Result<Vec<Told>> {
-    let mut framer = Framer::with_size(format, MAX_LIMIT);
+/// What a framer tells that is fed these bytes in pieces of so many.
+fn in_pieces(alloc: Global, size: PacketSize, bytes: &[u8], step: usize) -> Result<Vec<Told>> {
+    let mut framer = Framer::with_size(size, MAX_LIMIT);
     let mut items = Vec::new(alloc);
-    for piece in bytes.chunks(size.max(1)) {
+    for piece in bytes.chunks(step.max(1)) {
         framer.feed(piece, &mut items)?;
     }
     let mut told = Vec::new(alloc);
@@ -65,67 +65,72 @@ fn in_pieces(alloc: Global, format: PacketFormat, bytes: &[u8], size: usize) -> 
     Ok(told)
 }
 
-/// What a framer tells that is refilled by these bytes in pieces of this size, over the items from before.
-fn in_refills(alloc: Global, format: PacketFormat, bytes: &[u8], size: usize) -> Result<Vec<Told>> {
-    let mut framer = Framer::with_size(format, MAX_LIMIT);
-    let mut items = Vec::new(alloc);
+/// What a framer tells that is refilled by these bytes in pieces of so many, over the items from before.
+fn in_refills(alloc: Global, size: PacketSize, bytes: &[u8], step: usize) -> Result<Vec<Told>> {
+    let mut framer = Framer::with_size(size, MAX_LIMIT);
+    let mut items = ItemBuffer::new(alloc);
     let mut told = Vec::new(alloc);
-    for piece in bytes.chunks(size.max(1)) {
-        let count = framer.refill(piece, &mut items)?;
-        add_told(&mut told, items.get(..count).unwrap_or(&[]))?;
+    for piece in bytes.chunks(step.max(1)) {
+        framer.refill(piece, &mut items)?;
+        add_told(&mut told, items.told())?;
     }
-    finish(alloc, framer, &mut told)?;
-    Ok(told)
+    items.clear();
+    let finished = framer.finish_refill(&mut items);
+    add_told(&mut told, items.told())?;
+    match finished {
+        Ok(()) => Ok(told),
+        Err((_, fault)) => Err(Error::from(fault)),
+    }
 }
 
 /// What is told of a whole stream.
-fn whole(alloc: Global, format: PacketFormat, bytes: &[u8]) -> Result<Vec<Told>> {
+fn whole(alloc: Global, size: PacketSize, bytes: &[u8]) -> Result<Vec<Told>> {
     let pieces = vec![in alloc; bytes.to_vec(alloc)?]?;
-    let items = match format {
-        PacketFormat::Ts188 => frame(alloc, &pieces)?,
-        format => frame_with_size(alloc, format, &pieces)?,
+    let items = match size {
+        PacketSize::Ts188 => frame(alloc, &pieces)?,
+        size => frame_with_size(alloc, size, &pieces)?,
     };
     let mut told = Vec::new(alloc);
     add_told(&mut told, &items)?;
     Ok(told)
 }
 
-/// Prints what is told of a stream in pieces of some size, where it isn't what is told of the whole stream.
-fn print_other<W: Write>(whole: &[Told], size: u64, other: &[Told], out: &mut W) -> io::Result<()> {
+/// Prints what is told of a stream in pieces of so many bytes, where it isn't what is told of the whole stream.
+fn print_other<W: Write>(whole: &[Told], step: u64, other: &[Told], out: &mut W) -> io::Result<()> {
     if whole == other {
         return Ok(());
     }
-    write!(out, " | in pieces of {size}: ")?;
+    write!(out, " | in pieces of {step}: ")?;
     print_told(other, out)
 }
 
 /// `frame SIZE PIECES,.. BYTES`: what is told of a stream of packets of this size. Fed in pieces of these sizes it tells the same, or
 /// what it tells stands behind that.
 pub fn framed<W: Write>(alloc: Global, names: &Names, words: &str, out: &mut W) -> Result<()> {
-    let (format, words) = first_word(words);
-    let (sizes, words) = first_word(words);
-    let format = format_of(format)?;
+    let (size, words) = first_word(words);
+    let (steps, words) = first_word(words);
+    let size = size_of(size)?;
     let bytes = names.bytes(words)?;
-    let whole = whole(alloc, format, &bytes)?;
+    let whole = whole(alloc, size, &bytes)?;
     print_told(&whole, out)?;
-    for size in &numbers(alloc, sizes)? {
-        let other = in_pieces(alloc, format, &bytes, *size as usize)?;
-        print_other(&whole, *size, &other, out)?;
+    for step in &numbers(alloc, steps)? {
+        let other = in_pieces(alloc, size, &bytes, *step as usize)?;
+        print_other(&whole, *step, &other, out)?;
     }
     Ok(())
 }
 
 /// `refill SIZE PIECES,.. BYTES`: the same of a framer that is refilled.
 pub fn refilled<W: Write>(alloc: Global, names: &Names, words: &str, out: &mut W) -> Result<()> {
-    let (format, words) = first_word(words);
-    let (sizes, words) = first_word(words);
-    let format = format_of(format)?;
+    let (size, words) = first_word(words);
+    let (steps, words) = first_word(words);
+    let size = size_of(size)?;
     let bytes = names.bytes(words)?;
-    let whole = in_refills(alloc, format, &bytes, bytes.len())?;
+    let whole = in_refills(alloc, size, &bytes, bytes.len())?;
     print_told(&whole, out)?;
-    for size in &numbers(alloc, sizes)? {
-        let other = in_refills(alloc, format, &bytes, *size as usize)?;
-        print_other(&whole, *size, &other, out)?;
+    for step in &numbers(alloc, steps)? {
+        let other = in_refills(alloc, size, &bytes, *step as usize)?;
+        print_other(&whole, *step, &other, out)?;
     }
     Ok(())
 }
@@ -146,22 +151,22 @@ fn print_in_brackets<W: Write>(told: &[Told], out: &mut W) -> io::Result<()> {
 }
 
 /// A framer of packets of this size that takes so many bytes at most.
-fn limited_framer(format: &str, limit: &str) -> Result<Framer> {
+fn limited_framer(size: &str, limit: &str) -> Result<Framer> {
     let limit = number(limit)?;
     if limit > MAX_LIMIT {
         bail!("a limit out of its range");
     }
-    Ok(match format_of(format)? {
-        PacketFormat::Ts188 => Framer::with_limit(limit),
-        format => Framer::with_size(format, limit),
+    Ok(match size_of(size)? {
+        PacketSize::Ts188 => Framer::with_limit(limit),
+        size => Framer::with_size(size, limit),
     })
 }
 
 /// `limit BYTES_AT_MOST SIZE PIECE / ..`: what each piece of a stream with a limit is answered, and what is told behind it.
 pub fn limited<W: Write>(alloc: Global, names: &Names, words: &str, out: &mut W) -> Result<()> {
     let (limit, words) = first_word(words);
-    let (format, pieces) = first_word(words);
-    let mut framer = limited_framer(format, limit)?;
+    let (size, pieces) = first_word(words);
+    let mut framer = limited_framer(size, limit)?;
     for piece in pieces.split(" / ") {
         let bytes = names.bytes(piece)?;
         let mut items = Vec::new(alloc);

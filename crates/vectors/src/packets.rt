@@ -8,7 +8,7 @@ use std::alloc::Global;
 use std::io;
 use std::io::Write;
 use tspkt::{
-    HIGHEST_RATE, LOWEST_RATE, MAX_LIMIT, Packet, PacketFormat, PositionClock, follows, null,
+    HIGHEST_RATE, LOWEST_RATE, MAX_LIMIT, Packet, PacketSize, PositionClock, follows, null,
     rewrite, time,
 };
 
@@ -147,10 +147,10 @@ pub fn time_of<W: Write>(words: &str, out: &mut W) -> Result<()> {
 }
 
 /// The size of packets: 188 or 204.
-pub fn format_of(word: &str) -> Result<PacketFormat> {
+pub fn size_of(word: &str) -> Result<PacketSize> {
     match word {
-        "188" => Ok(PacketFormat::Ts188),
-        "204" => Ok(PacketFormat::Ts204),
+        "188" => Ok(PacketSize::Ts188),
+        "204" => Ok(PacketSize::Ts204),
         _ => bail!("packets of {word} bytes"),
     }
 }
@@ -160,9 +160,9 @@ fn clock_of(size: &str, rate: u64) -> Result<PositionClock> {
     if rate < LOWEST_RATE || rate > HIGHEST_RATE {
         bail!("a rate out of its range");
     }
-    Ok(match format_of(size)? {
-        PacketFormat::Ts188 => PositionClock::new(rate),
-        format => PositionClock::with_size(format, rate),
+    Ok(match size_of(size)? {
+        PacketSize::Ts188 => PositionClock::new(rate),
+        size => PositionClock::with_size(size, rate),
     })
 }
 

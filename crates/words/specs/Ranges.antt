@@ -24,4 +24,4 @@ most_slots_of All = 1099511627776
 abbrev pub IsAllowed : Command → Type 0
 IsAllowed (Run plan out length serial delays strict report) = IsAllowedLength length × IfSome report (IsWithin 1 3600)
 IsAllowed (Check plan strict) = Unit {0}
-IsAllowed (Analyse format rate period file) = IsWithin 500000 100000000 rate × IsWithin 1 1000000 period
+IsAllowed (Analyse size rate period file) = IsWithin 500000 100000000 rate × IsWithin 1 1000000 period

@@ -1,7 +1,7 @@
 //! What the program is asked to do.
 
 use crate::run_length::RunLength;
-use tspkt::PacketFormat;
+use tspkt::PacketSize;
 
 /// What the program is asked to do, in the words of its command line.
 #[derive(Clone, Copy, Debug, PartialEq, Eq)]
@@ -33,7 +33,7 @@ pub enum Command<'a> {
     /// Tell the faults of a stream.
     Analyse {
         /// How its packets follow one another.
-        format: PacketFormat,
+        size: PacketSize,
         /// The rate of all its bytes, in bits a second, 500,000 to 100,000,000.
         rate: u64,
         /// After how many slots without a packet a PID's absence is told, 1 to 1,000,000.

@@ -1,7 +1,7 @@
 //! The words of a command line.
 
 ghost use Rattle.std.specs.Prelude.{◌≡◌, IfOk, IfSome};
-ghost use Rattle.tspkt.specs.PacketFormat.{stride_of};
+ghost use Rattle.tspkt.specs.PacketSize.{stride_of};
 ghost use Rattle.words.specs.Ranges.{IsWithin, IsAllowedLength, IsAllowed};
 
 use crate::command::{Command, LEAST_RATE, LineFault, MOST_RATE, MOST_SECONDS, MOST_SLOTS};
@@ -11,7 +11,7 @@ use clap::error::ErrorKind;
 use clap::{ArgMatches, Error};
 use std::alloc::Global;
 use std::convert::AsStr;
-use tspkt::PacketFormat;
+use tspkt::PacketSize;
 
 /// The number, where it is from `least` to `most`.
 fn within(number: u64, least: u64, most: u64) -> Option<u64>
@@ -42,13 +42,13 @@ fn report_of(matches: &ArgMatches) -> Option<u64>
     within(matches.get_one::<u64>("report")?, 1, MOST_SECONDS)
 }
 
-/// The format of packets that stand so many bytes apart, if it is one.
-fn format_of(size: u64) -> Option<PacketFormat>
-    ensures { IfSome result (λ format. stride_of format ≡ size) }
+/// The size of packets that stand so many bytes apart, if it is one.
+fn size_of(bytes: u64) -> Option<PacketSize>
+    ensures { IfSome result (λ size. stride_of size ≡ bytes) }
 {
-    match size {
-        188 => Some(PacketFormat::Ts188),
-        204 => Some(PacketFormat::Ts204),
+    match bytes {
+        188 => Some(PacketSize::Ts188),
+        204 => Some(PacketSize::Ts204),
         _ => None,
     }
 }
@@ -72,7 +72,7 @@ fn command_of<'a>(name: &str, matches: &ArgMatches<'a>) -> Option<Command<'a>>
             strict: matches.get_flag("strict"),
         }),
         "analyse" => Some(Command::Analyse {
-            format: format_of(matches.get_one::<u64>("size")?)?,
+            size: size_of(matches.get_one::<u64>("size")?)?,
             rate: within(matches.get_one::<u64>("rate")?, LEAST_RATE, MOST_RATE)?,
             period: within(matches.get_one::<u64>("period")?, 1, MOST_SLOTS)?,
             file: matches.get_str("file")?,

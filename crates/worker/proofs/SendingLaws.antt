@@ -2,21 +2,19 @@
 use Rattle.std.proofs.Common.{◌≡◌, ℕ, ◌+◌, ◌≤◌, List, [], ◌∷◌, ◌++◌, length, Option, None, Some, true, false, ap, ◌∙◌, sym, subst, refl, inl, inr, arith, length-append}
 use Rattle.std.specs.Prelude.{IsSome, sum_by}
 use Rattle.std.proofs.lemmas.Bool.{cases_Bool}
-use Rattle.std.proofs.lemmas.List.{append-nil}
 use Rattle.std.proofs.lemmas.List.Sums.{sum_by-cons}
 use Rattle.std.proofs.lemmas.Option.{none-some}
 use Rattle.std.specs.Option.{option_to_list}
 use Rattle.std.specs.Io.KnownBytes.{Consumes}
 use Rattle.reading.specs.PacketReading.{HasRead, ReadsOn, GoesOn, TellsFailures}
-use Rattle.reading.specs.declared.packet_reader.PacketReader.{PacketReader}
+use Rattle.reading.specs.Holding.{PacketReader}
+use Rattle.reading.proofs.FailureLaws.{failed_given}
 use Rattle.reading.proofs.KnownLaws.{consumes_on}
-use Rattle.reading.proofs.PacketLaws.{reads_nothing, reads_told, takeable_same, unstopped_reading}
-use Rattle.reading.proofs.StreamLaws.{told_failed}
+use Rattle.reading.proofs.PacketLaws.{reads_nothing, reads_told, unstopped_reading}
 use Rattle.reading.specs.Counting.{nothing_counted}
-use Rattle.reading.specs.Takeable.{OriginValue, stride_at, framed_at, takeable, counted_of, is_well_formed, is_named}
+use Rattle.reading.specs.Takeable.{OriginValue, framed_at, takeable, counted_of, is_well_formed, is_named}
 use Rattle.reading.specs.declared.report.Report.{Report}
 use Rattle.reading.specs.declared.stop.Stop.TheVariants.{ReadFailed}
-use Rattle.tspkt.specs.Framed.{packets_of}
 use Rattle.tspkt.specs.declared.item.Item.{Item}
 use Rattle.tspkt.specs.declared.item.Item.TheVariants.{Packet, Bad, SyncLoss, Lost}
 use Rattle.port.specs.Rings.{PortValue}
@@ -92,16 +90,6 @@ sends_released {R} remaining failures a x port item is held sent reads =
     }
 
 -- Where a read failed, nothing is found behind what was given of the bytes before.
-
--- what it gave, and what it holds, is what can be taken of them
-failed_given : {R : Type 0} (remaining : R → Option (List ℕ)) (schedule : ScheduleValue) (x : PacketReader R) (bytes : List ℕ) (given : List Stamped) → HasRead remaining schedule x bytes given → x.report.stopped ≡ Some ReadFailed
-    → given ++ option_to_list x.held ≡ takeable schedule x.origin (framed_at x.origin bytes)
-failed_given remaining schedule x bytes given has failed =
-    let items = x.stream.items in
-    let none = has.1.over (subst IsSome (sym failed) refl) in
-    let all : has.0 ++ items.ahead ≡ has.0 = ap (λ v. has.0 ++ v) none ∙ append-nil has.0 in
-    let told = told_failed (stride_at x.origin) items.limit items.framer (has.0 ++ items.ahead) bytes (remaining x.stream.source) x.report.stopped failed has.1.passed in
-    sym has.1.given_is ∙ takeable_same schedule x.origin has.0 (framed_at x.origin bytes) (ap packets_of (sym all) ∙ told.packets)
 
 none_of : (o : Option Stamped) → length (option_to_list o) ≡ 0 → o ≡ None
 none_of None e = refl

@@ -13,7 +13,7 @@ use Rattle.reading.proofs.KnownLaws.{consumes_nothing}
 use Rattle.reading.specs.declared.report.Report.{Report}
 use Rattle.reading.specs.declared.stop.Stop.{Stop}
 use Rattle.reading.specs.declared.stop.Stop.TheVariants.{Gate, ReadFailed, Memory}
-use Rattle.reading.specs.declared.packet_reader.PacketReader.{PacketReader}
+use Rattle.reading.specs.Holding.{PacketReader}
 use Rattle.reading.proofs.PacketLaws.{given_begins, looked_framed, whole_read, failed_read, counts_told, too_much, within_read, counted_stopped}
 use Rattle.port.specs.Rings.{FinishedValue}
 use Rattle.worker.specs.Stops.{StopsOnce}

@@ -8,14 +8,11 @@ use crate::gate::Gate;
 use crate::point::Point;
 use crate::waiting::pause;
 use port::{FinishedPort, Port};
-use reading::{Look, PacketReader, Report, Source, Stop};
+use reading::{Look, PIECE, PacketReader, Report, Source, Stop};
 use schedule::Schedule;
 use std::alloc::Global;
 use std::sync::Wait;
 use std::time::Clock;
-
-/// How many bytes are read at once, at most.
-const PIECE: usize = 65_536;
 
 /// An input that is read, the port that its packets go to, and the gate that may stop it.
 #[derive(Drop)]
@@ -98,8 +95,8 @@ impl<R: Source + Drop, G: Gate + Drop> Sender<R, G> {
             (StopsOnce (G.stops self.old.gate) (G.stops self.new.gate)) }
     {
         for _ in rt.forever() {
-            let item = self.reader.held().unwrap();
-            if self.port.send_for(place, item) {
+            let is_sent = self.port.send_for(place, &self.reader.held().unwrap());
+            if is_sent {
                 self.reader.release();
                 return self.gate.pass(Point::Offered);
             }

@@ -2,7 +2,7 @@
 
 ghost use Rattle.std.specs.Prelude.{◌≡◌, ◌<◌, ◌≤◌, length};
 ghost use Rattle.tspkt.specs.declared.framer.TheConstants.{MAX_LIMIT};
-ghost use Rattle.tspkt.specs.declared.packet_format.PacketFormat.{PacketFormat};
+ghost use Rattle.tspkt.specs.declared.packet_size.PacketSize.{PacketSize};
 ghost use Rattle.reading.specs.InputLimit.{limit_of_input};
 
 use crate::gate::Gate;
@@ -25,7 +25,7 @@ pub struct Worker<R, G> {
     gate: G,
     port: Port,
     ghost known: { number < length schedule.first.request.inputs },
-    ghost within: { (format : PacketFormat) → limit_of_input limit format ≤ MAX_LIMIT },
+    ghost within: { (size : PacketSize) → limit_of_input limit size ≤ MAX_LIMIT },
     ghost unsent: { length port.sent ≡ 0 },
 }
 
@@ -74,7 +74,7 @@ impl<R: Source + Drop, G: Gate + Drop> Worker<R, G> {
     /// the first is told. The end mark was sent exactly where the gate never said no.
     pub fn run<T: Wait + Clock>(self, rt: &T) -> (Report, FinishedPort, R, G)
         ensures sent { (input : InputValue) → slice_get self.schedule.first.request.inputs self.number ≡ Some input
-            → HasWorked (limit_of_input self.limit input.format) self.schedule (origin_of self.number input) (R.remaining self.source) (R.remaining result.2)
+            → HasWorked (limit_of_input self.limit input.size) self.schedule (origin_of self.number input) (R.remaining self.source) (R.remaining result.2)
             self.port.ring result.0 result.1 }
         ensures failed { result.0.stopped ≡ Some Stop.ReadFailed
             → FailsOnce (R.failures self.source) (R.failures result.2) }
@@ -94,10 +94,9 @@ impl<R: Source + Drop, G: Gate + Drop> Worker<R, G> {
             gate,
             port,
         } = self;
-        // What all schedules keep is known with this.
-        let _ = schedule.later_plans();
+        schedule.known();
         let input = &schedule.plan(0).inputs()[number];
-        let most = limit.bytes(input.format);
+        let most = limit.bytes(input.size);
         let reader = PacketReader::new(alloc, number, input, source, most);
         let mut sender = Sender {
             schedule,

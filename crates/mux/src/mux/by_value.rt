@@ -10,11 +10,13 @@ ghost use Rattle.mux.specs.Answers.{TakeAnswers, SlotAnswers};
 
 use crate::mux::Mux;
 use crate::offered::Offered;
+use crate::one_packet::OnePacket;
+use crate::outgoing::Outgoing;
 use crate::sending::Sending;
 use crate::slot::{Slot, without_packet};
 use crate::taken::Taken;
 use std::alloc::AllocError;
-use tspkt::Stamped;
+use tspkt::{LentPacket, Stamped};
 
 impl Mux {
     /// Takes a packet of an input as `offer` does, by value: each refusal hands it back. `Memory` never comes.
@@ -24,7 +26,7 @@ impl Mux {
         ensures run { self.new.run ≡ self.old.run }
         ensures unrefused { (back : TakenPacket) → result ≢ Taken.Memory back }
     {
-        match self.offer(input, &item) {
+        match self.offer(input, &LentPacket::of(&item)) {
             Offered::Taken => Taken::Ok,
             Offered::Closed => Taken::Closed(item),
             Offered::Stranger => Taken::Stranger(item),
@@ -53,8 +55,9 @@ impl Mux {
         ensures run { self.new.run ≡ self.old.run }
         ensures unrefused { result ≢ Slot.Memory }
     {
-        match self.send_next() {
-            Sending::Sent => Slot::Sent(*self.last().unwrap()),
+        let mut place = OnePacket::new();
+        match self.send_next(&mut place) {
+            Sending::Sent => Slot::Sent(*place.last()),
             answer => without_packet(answer),
         }
     }

@@ -4,7 +4,6 @@ ghost use Rattle.std.specs.Prelude.{◌≡◌, ◌≢◌, ◌+◌, ◌-◌, ◌*
 ghost use Rattle.std.specs.List.{slice_get, Contains};
 ghost use Rattle.request.specs.declared.stream.Stream.{Stream};
 ghost use Rattle.mux.specs.declared.event.Event.{Event};
-ghost use Rattle.mux.specs.Plans.{IsMultiplexSchedule};
 ghost use Rattle.schedule.specs.Schedule.{number_for};
 ghost use Rattle.schedule.specs.Streams.{all_streams};
 ghost use Rattle.mux.specs.History.{has_stream, with_event, in_force, plan_in_force, is_mapped_to, is_closed, last_stamp, queue};
@@ -18,17 +17,9 @@ use crate::mux::Mux;
 use crate::mux::switching::has_stream;
 use crate::offered::Offered;
 use request::Stream;
-use tspkt::Stamped;
+use tspkt::LentPacket;
 
 impl Mux {
-    /// What every multiplex keeps of its schedule and its history.
-    pub(crate) fn known(&self)
-        ensures schedule { IsMultiplexSchedule self.now.run.schedule }
-        ensures lawful { IsLawful self.now.run.schedule self.now.events }
-    {
-        self.output.known();
-    }
-
     /// What is kept of an input.
     fn state(&self, input: usize) -> InputState
         requires { input < input_count self.now.run.schedule }
@@ -45,20 +36,20 @@ impl Mux {
     }
 
     /// Whether a packet belongs to a later plan than the one in force.
-    fn is_early(&self, item: &Stamped) -> bool
+    fn is_early(&self, item: &LentPacket) -> bool
         ensures { result ≡ is_early self.now.run.schedule self.now.events item.now }
     {
-        self.span.number < self.schedule.number_for(item.stamp)
+        self.span.number < self.schedule.number_for(item.stamp())
     }
 
     /// The place in the schedule of the stream that a packet is mapped to by the plan that it belongs to.
-    fn find(&self, input: usize, item: &Stamped) -> Option<usize>
+    fn find(&self, input: usize, item: &LentPacket) -> Option<usize>
         ensures found { IfSome result (λ place. (stream : Stream)
             × (slice_get (all_streams self.now.run.schedule) place ≡ Some stream)
             × (is_mapped_to self.now.run.schedule stream input item.now ≡ true)) }
         ensures none { IfNone result (is_mapped self.now.run.schedule input item.now ≡ false) }
     {
-        self.schedule.find(input, item.packet.pid(), item.stamp)
+        self.schedule.find(input, item.pid(), item.stamp())
     }
 
     /// The stream at this place of the schedule.
@@ -106,39 +97,39 @@ impl Mux {
     }
 
     /// Takes a packet of a stream in force.
-    fn add(&mut self, place: usize, stream: Stream, item: &Stamped)
+    fn add(&mut self, place: usize, stream: Stream, item: &LentPacket)
         requires place { slice_get (all_streams self.old.run.schedule) place ≡ Some stream }
         requires in_force { has_stream (plan_in_force self.old.run.schedule self.old.events) stream ≡ true }
         requires mapped { is_mapped_to self.old.run.schedule stream stream.input item.now ≡ true }
         requires may { MayTake self.old.run.schedule self.old.events stream.input item.now }
         ensures { self.new ≡ with_event self.old (Event.Took stream.input item.now) }
     {
-        self.past.add(Event::Took(stream.input, *item));
-        self.inputs[stream.input].last_stamp = item.stamp;
+        self.past.add(Event::Took(stream.input, item.stamped()));
+        self.inputs[stream.input].last_stamp = item.stamp();
         let queue = &mut self.queues[place];
-        let _ = queue.offer(*item);
+        let _ = queue.offer(item.stamped());
         self.heads.set(place, queue.head_time());
         let peak = &mut self.peaks[place];
         peak.queued = peak.queued.max(queue.len() as u64);
     }
 
     /// Takes a packet of a stream that isn't in force any more: it is dropped at once.
-    fn drop_late(&mut self, stream: Stream, item: &Stamped)
+    fn drop_late(&mut self, stream: Stream, item: &LentPacket)
         requires stream { Contains (all_streams self.old.run.schedule) stream }
         requires gone { has_stream (plan_in_force self.old.run.schedule self.old.events) stream ≡ false }
         requires mapped { is_mapped_to self.old.run.schedule stream stream.input item.now ≡ true }
         requires may { MayTake self.old.run.schedule self.old.events stream.input item.now }
         ensures { self.new ≡ with_event self.old (Event.Took stream.input item.now) }
     {
-        self.past.add(Event::Took(stream.input, *item));
+        self.past.add(Event::Took(stream.input, item.stamped()));
         let state = &mut self.inputs[stream.input];
-        state.last_stamp = item.stamp;
+        state.last_stamp = item.stamp();
         state.dropped = state.dropped.saturating_add(1);
     }
 
     /// Takes a packet of a stream in force, unless its queue is full.
     #[inline(always)]
-    fn offer_queued(&mut self, place: usize, stream: Stream, item: &Stamped) -> Offered
+    fn offer_queued(&mut self, place: usize, stream: Stream, item: &LentPacket) -> Offered
         requires place { slice_get (all_streams self.old.run.schedule) place ≡ Some stream }
         requires in_force { has_stream (plan_in_force self.old.run.schedule self.old.events) stream ≡ true }
         requires mapped { is_mapped_to self.old.run.schedule stream stream.input item.now ≡ true }
@@ -150,8 +141,7 @@ impl Mux {
         ensures mapped { result ≢ Offered.Stranger }
     {
         self.known();
-        // What every packet keeps is known with this.
-        let _ = item.packet.bytes();
+        item.known();
         if self.is_full(place, stream) {
             if !self.state(stream.input).full_noted {
                 self.note_full(stream);
@@ -165,7 +155,7 @@ impl Mux {
     /// Takes a packet by the plan that it belongs to: one of a later plan is too early; one of an earlier plan is queued where its stream
     /// is still in force, and dropped where it isn't.
     #[inline(never)]
-    fn offer_across(&mut self, place: usize, stream: Stream, item: &Stamped) -> Offered
+    fn offer_across(&mut self, place: usize, stream: Stream, item: &LentPacket) -> Offered
         requires place { slice_get (all_streams self.old.run.schedule) place ≡ Some stream }
         requires mapped { is_mapped_to self.old.run.schedule stream stream.input item.now ≡ true }
         requires open_ { is_closed stream.input self.old.events ≡ false }
@@ -175,7 +165,7 @@ impl Mux {
         ensures mapped { result ≢ Offered.Stranger }
     {
         self.known();
-        let _ = item.packet.bytes();
+        item.known();
         if self.is_early(item) {
             if !self.state(stream.input).early_noted {
                 self.note_early(stream.input);
@@ -194,7 +184,7 @@ impl Mux {
     /// force, and the queue of its stream isn't full. The answer is the first reason against it that applies; no memory is asked
     /// for. The first `Early` and the first `Full` of an input since the last slot or switch add an event. A packet of an earlier
     /// plan whose stream isn't in force any more is taken, and dropped at once.
-    pub fn offer(&mut self, input: usize, item: &Stamped) -> Offered
+    pub fn offer(&mut self, input: usize, item: &LentPacket) -> Offered
         requires { input < input_count self.old.run.schedule }
         ensures answer { OfferAnswers self.old input item.now result self.new }
         ensures run { self.new.run ≡ self.old.run }
@@ -208,7 +198,7 @@ impl Mux {
 
     /// Takes a packet as `offer` does, without a look-up: by the place in the schedule of the stream that the packet's PID is mapped to by
     /// the plan that it belongs to, and whose input it comes from. So it is never a `Stranger`.
-    pub fn offer_to(&mut self, place: usize, item: &Stamped) -> Offered
+    pub fn offer_to(&mut self, place: usize, item: &LentPacket) -> Offered
         requires { (stream : Stream)
             × (slice_get (all_streams self.old.run.schedule) place ≡ Some stream)
             × (is_mapped_to self.old.run.schedule stream stream.input item.now ≡ true) }
@@ -224,10 +214,10 @@ impl Mux {
         if state.closed {
             return Offered::Closed;
         }
-        if item.stamp < state.last_stamp {
+        if item.stamp() < state.last_stamp {
             return Offered::Backward;
         }
-        if self.is_in_span(item.stamp) {
+        if self.is_in_span(item.stamp()) {
             self.offer_queued(place, stream, item)
         } else {
             self.offer_across(place, stream, item)

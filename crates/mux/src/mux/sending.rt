@@ -11,13 +11,14 @@ ghost use Rattle.mux.specs.declared.event.Event.{Event};
 ghost use Rattle.mux.specs.declared.content.Content.{Content};
 ghost use Rattle.mux.specs.History.{with_event, in_force, plan_in_force, queue, slots, emitted};
 ghost use Rattle.mux.specs.Lawful.{IsDone, AllReady, is_switch_due, table_due, IsContent, MaySend};
-ghost use Rattle.mux.specs.Answers.{SendAnswers, IsRunning, IsUnswitched, IsLeastUnready};
+ghost use Rattle.mux.specs.Answers.{SendAnswers, SendsOn, GoesOut, IsRunning, IsUnswitched, IsLeastUnready};
 
 use crate::candidate::Candidate;
 use crate::choice::{all_closed, all_empty, choose, clear_notes, first_unready};
 use crate::content::Content;
 use crate::event::Event;
 use crate::mux::Mux;
+use crate::outgoing::Outgoing;
 use crate::sending::Sending;
 use request::Stream;
 use rounds::TablePlace;
@@ -97,14 +98,18 @@ impl Mux {
     }
 
     /// Sends the table packet whose turn it is.
-    fn send_table(&mut self, place: TablePlace)
+    fn send_table<O: Outgoing>(&mut self, place: TablePlace, out: &mut O)
         requires due { table_due self.old.run.schedule self.old.events ≡ Some place }
         requires within { slots self.old.events < self.old.run.limit }
         requires may { MaySend self.old.run.schedule self.old.events (Content.Table place) }
-        ensures { self.new ≡ with_event self.old (Event.Slot (Content.Table place)) }
+        requires room { 0 < O.room out.old }
+        ensures event { self.new ≡ with_event self.old (Event.Slot (Content.Table place)) }
+        ensures out { GoesOut self.old (Content.Table place) (O.packets out.old) (O.packets out.new) }
+        ensures room { O.room out.old ≤ O.room out.new + 1 }
     {
         let packet = self.table_packet(place);
-        self.output.push(packet);
+        self.output.push(&packet);
+        out.add(&packet);
         self.past.add(Event::Slot(Content::Table(place)));
         clear_notes(&mut self.inputs, &mut self.is_noted);
         self.progress.pass();
@@ -113,12 +118,16 @@ impl Mux {
     }
 
     /// Sends a null packet.
-    fn send_null(&mut self)
+    fn send_null<O: Outgoing>(&mut self, out: &mut O)
         requires within { slots self.old.events < self.old.run.limit }
         requires may { MaySend self.old.run.schedule self.old.events Content.Null }
-        ensures { self.new ≡ with_event self.old (Event.Slot Content.Null) }
+        requires room { 0 < O.room out.old }
+        ensures event { self.new ≡ with_event self.old (Event.Slot Content.Null) }
+        ensures out { GoesOut self.old Content.Null (O.packets out.old) (O.packets out.new) }
+        ensures room { O.room out.old ≤ O.room out.new + 1 }
     {
-        self.output.push_null();
+        out.add(self.output.null());
+        self.output.push(out.last());
         self.past.add(Event::Slot(Content::Null));
         clear_notes(&mut self.inputs, &mut self.is_noted);
         self.progress.pass();
@@ -127,19 +136,22 @@ impl Mux {
     }
 
     /// Sends the head of a stream's queue.
-    fn send_head(&mut self, index: usize, stream: Stream, now: u64)
+    fn send_head<O: Outgoing>(&mut self, index: usize, stream: Stream, now: u64, out: &mut O)
         requires now { now ≡ slot_time self.old.run.schedule.first (slots self.old.events) }
         requires index { slice_get (all_streams self.old.run.schedule) index ≡ Some stream }
         requires within { slots self.old.events < self.old.run.limit }
         requires may { MaySend self.old.run.schedule self.old.events (Content.Elementary stream) }
-        ensures { self.new ≡ with_event self.old (Event.Slot (Content.Elementary stream)) }
+        requires room { 0 < O.room out.old }
+        ensures event { self.new ≡ with_event self.old (Event.Slot (Content.Elementary stream)) }
+        ensures out { GoesOut self.old (Content.Elementary stream) (O.packets out.old) (O.packets out.new) }
+        ensures room { O.room out.old ≤ O.room out.new + 1 }
     {
         // Here, before anything is written, the compiler takes what the choice made of it.
         let bucket = self.progress.bucket(index);
         let item = self.queues[index].head().unwrap();
         let delay = now - item.stamp;
-        self.output
-            .push_rewritten(&item.packet, stream.output_pid, delay);
+        out.add_rewritten(&item.packet, stream.output_pid, delay);
+        self.output.push(out.last());
         let queue = &mut self.queues[index];
         let _ = queue.take();
         self.heads.set(index, queue.head_time());
@@ -154,20 +166,22 @@ impl Mux {
     }
 
     /// Sends the next slot, for which all inputs are ready.
-    fn send(&mut self, now: u64)
+    fn send<O: Outgoing>(&mut self, now: u64, out: &mut O)
         requires now { now ≡ slot_time self.old.run.schedule.first (slots self.old.events) }
         requires running { IsDone self.old.run.schedule self.old.events → ⊥ }
         requires within { slots self.old.events < self.old.run.limit }
         requires switched { is_switch_due self.old.run.schedule self.old.events ≡ false }
         requires ready { AllReady self.old.run.schedule self.old.events }
-        ensures { (c : Content) × MaySend self.old.run.schedule self.old.events c
-            × (self.new ≡ with_event self.old (Event.Slot c)) }
+        requires room { 0 < O.room out.old }
+        ensures sent { (c : Content) × MaySend self.old.run.schedule self.old.events c
+            × (self.new ≡ with_event self.old (Event.Slot c)) × GoesOut self.old c (O.packets out.old) (O.packets out.new) }
+        ensures room { O.room out.old ≤ O.room out.new + 1 }
     {
         match self.table_due() {
-            Some(place) => self.send_table(place),
+            Some(place) => self.send_table(place, out),
             None => match self.next(now) {
-                None => self.send_null(),
-                Some(best) => self.send_head(best.index, best.stream, now),
+                None => self.send_null(out),
+                Some(best) => self.send_head(best.index, best.stream, now, out),
             },
         }
     }
@@ -201,8 +215,14 @@ impl Mux {
     /// first in their streams' queues, are due, and leave no more than 512 bytes in their streams' transport buffers at
     /// each byte, the one of the least time, of equal times that with the least output PID; or a null packet where there
     /// is none. A packet that its buffer has no room for holds back no packet of another stream. No memory is asked for.
-    pub fn send_next(&mut self) -> Sending
+    ///
+    /// The packet goes behind those that `out` has, for which it needs room; where none is sent `out` stays as it is.
+    pub fn send_next<O: Outgoing>(&mut self, out: &mut O) -> Sending
+        requires { 0 < O.room out.old }
         ensures answer { SendAnswers self.old result self.new }
+        ensures sent { result ≡ Sending.Sent → SendsOn self.old self.new (O.packets out.old) (O.packets out.new) }
+        ensures unsent { result ≢ Sending.Sent → out.new ≡ out.old }
+        ensures room { O.room out.old ≤ O.room out.new + 1 }
         ensures run { self.new.run ≡ self.old.run }
     {
         if let Some(answer) = self.hindrance() {
@@ -212,7 +232,7 @@ impl Mux {
             self.switch();
             return Sending::Switched;
         }
-        self.send(self.now());
+        self.send(self.now(), out);
         Sending::Sent
     }
 }

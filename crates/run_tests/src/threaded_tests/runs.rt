@@ -37,7 +37,7 @@ pub fn run_gated<
         bail!("the plan has another number of inputs");
     }
     let sink = WriteSink::new(KeptBytes::new(alloc));
-    let limit = InputLimit::OfFormat;
+    let limit = InputLimit::OfSize;
     let schedule = Schedule::single(alloc, plan);
     let (sink, result) = run_threads(alloc, rt, schedule, slots, limit, readers, gates, sink);
     let (summary, lent) = result?;

@@ -5,7 +5,7 @@ ghost use Rattle.schedule.specs.Streams.{all_streams};
 ghost use Rattle.mux.specs.Lawful.{input_count};
 ghost use Rattle.station.specs.Stations.{rings_of};
 
-use mux::Sending;
+use mux::{OnePacket, Sending, Slot};
 use port::{FinishedPort, Port};
 use station::Station;
 use std::alloc::Global;
@@ -46,12 +46,31 @@ pub fn ends(rt: &impl Abort, port: Port) -> FinishedPort
     port.end().ok().expect(rt, "room for the end mark")
 }
 
-/// A tick answers so.
-pub fn ticks(rt: &impl Abort, station: &mut Station, answer: Sending)
+/// A tick answers so; its packet, where it has one.
+pub fn ticks(rt: &impl Abort, station: &mut Station, answer: Sending) -> OnePacket
     ensures rings { rings_of station.new.inputs ≡ rings_of station.old.inputs }
     ensures run { station.new.history.run ≡ station.old.history.run }
 {
-    assert_eq!(rt; station.tick(), answer);
+    let mut sent = OnePacket::new();
+    assert_eq!(rt; station.tick_behind(&mut sent), answer);
+    sent
+}
+
+/// The packet of a slot that was sent.
+fn packet_of(slot: Slot) -> Option<Packet> {
+    match slot {
+        Slot::Sent(packet) => Some(packet),
+        _ => None,
+    }
+}
+
+/// A tick sends a packet with this PID and this counter.
+pub fn sends(rt: &impl Abort, station: &mut Station, pid: u16, counter: u8)
+    ensures rings { rings_of station.new.inputs ≡ rings_of station.old.inputs }
+    ensures run { station.new.history.run ≡ station.old.history.run }
+{
+    let packet = packet_of(station.tick()).expect(rt, "a packet");
+    assert_eq!(rt; (packet.pid(), packet.counter()), (pid, counter));
 }
 
 /// Many steps in one go do nothing, for want of a packet of input 0.
@@ -69,10 +88,10 @@ pub fn waits_behind(rt: &impl Abort, alloc: Global, station: &mut Station) {
     assert_eq!(rt; sent.len(), 1);
 }
 
-/// The packet that was sent last has this PID and this counter.
-pub fn shows(rt: &impl Abort, station: &Station, pid: u16, counter: u8) {
+/// The packet that was sent has this PID and this counter.
+pub fn shows(rt: &impl Abort, sent: &OnePacket, pid: u16, counter: u8) {
     assert!(rt;
-        matches!(station.last(), Some(packet) if packet.pid() == pid && packet.counter() == counter)
+        matches!(sent.get(), Some(packet) if packet.pid() == pid && packet.counter() == counter)
     );
 }
 

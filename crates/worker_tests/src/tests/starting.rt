@@ -59,7 +59,7 @@ pub fn run_over<T: Wait + Clock, R: Read + Drop, G: Gate + Drop>(
     }
     let source = ReadSource::new(reader);
     let schedule = Schedule::single(alloc, plan);
-    let worker = Worker::new(alloc, source, gate, port, schedule, 0, InputLimit::OfFormat);
+    let worker = Worker::new(alloc, source, gate, port, schedule, 0, InputLimit::OfSize);
     let (report, finished, _, gate) = worker.run(rt);
     Ok((report, finished, gate))
 }

@@ -1,6 +1,6 @@
 use Rattle.std.proofs.Common.{◌++◌, sym, ap, subst, ◌∙◌, Some, option_to_list, filter_map, take}
 use Rattle.tables.specs.OnPid.{section_in}
-use Rattle.acquire.specs.Reading.{sections_in}
+use Rattle.tables.specs.OnPid.{sections_in}
 use Rattle.acquire.specs.Taken.{HasTaken}
 use Rattle.acquire.proofs.ReadingLaws.{told_section, told_other, not_section}
 use Rattle.acquire.proofs.table_finder.take_told.Goals as goal

@@ -1,6 +1,6 @@
 use Rattle.std.proofs.Common.{◌++◌, List, filter_map, take}
 use Rattle.tables.specs.InForce.{SectionValue}
-use Rattle.acquire.specs.Reading.{sections_in}
+use Rattle.tables.specs.OnPid.{sections_in}
 use Rattle.acquire.specs.Taken.{HasTaken}
 use Rattle.acquire.proofs.table_finder.take_told.Given as goal
 

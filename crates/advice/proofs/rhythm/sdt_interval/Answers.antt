@@ -4,4 +4,4 @@ use Rattle.advice.proofs.rhythm.sdt_interval.Goals as goal
 
 pub returns-clause-within : goal.returns-clause-within
 returns-clause-within c =
-    sdt_within c.args.rounds.now c.rate-rate.ensures.rounds _ _ _ c.rate-rate.ensures.value (search rules) c.milliseconds.ensures
+    sdt_within c.args.rounds.now c.known.ensures.rounds _ _ _ c.rate-rate.ensures.value (search rules) c.milliseconds.ensures

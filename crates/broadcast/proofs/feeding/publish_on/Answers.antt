@@ -11,7 +11,7 @@ publish-requires-clause-lawful g c =
     let left = drop c.append_all.new.appended c.args.sent.now in
     let unsealed : w.is_sealed ≡ false = sym c.is_sealed.ensures ∙ c.if-is_sealed.false in
     let keeps = keeps_appended s w v (drop c.args.appended.now c.args.sent.now) left c.requires.keeps c.append_all.ensures.feed c.append_all.ensures.order in
-    may_publish s v left (ap (λ (z : FeedWriterValue). z.is_sealed) c.append_all.ensures.feed ∙ unsealed) keeps c.slots.ensures.sound.emission
+    may_publish s v left (ap (λ (z : FeedWriterValue). z.is_sealed) c.append_all.ensures.feed ∙ unsealed) keeps c.known.ensures.sound.emission
 
 pub returns-clause-keeps : goal.returns-clause-keeps
 returns-clause-keeps g c =

@@ -25,14 +25,14 @@ returns-in-Took-clause-steps g c =
       c.take.result,
       not_waiting c.take.result c.in-Took.is,
       had_turn g.I.Inlet.shown g.I.Inlet.IsOver g.I.Inlet.IsWaiting g.I.Inlet.looks g.I.Inlet.released i c.args.mux.now c.send_next.new.self c.args.entries.now.items c.index_mut.result.now c.take.new.entry c.take.result c.take.new.mux
-          c.in-NotReady.ensures.answer c.requires c.index_mut.ensures.value c.take.ensures.turns,
+          c.in-NotReady.ensures.answer c.requires.entries c.index_mut.ensures.value c.take.ensures.turns,
     )
 
 pub returns-in-Waits-clause-steps : goal.returns-in-Waits-clause-steps
 returns-in-Waits-clause-steps g c =
     let i = c.in-NotReady.input in
     had_turn g.I.Inlet.shown g.I.Inlet.IsOver g.I.Inlet.IsWaiting g.I.Inlet.looks g.I.Inlet.released i c.args.mux.now c.send_next.new.self c.args.entries.now.items c.index_mut.result.now c.take.new.entry _ c.take.new.mux
-    c.in-NotReady.ensures.answer c.requires c.index_mut.ensures.value c.in-Waits.ensures.turns
+    c.in-NotReady.ensures.answer c.requires.entries c.index_mut.ensures.value c.in-Waits.ensures.turns
 
 pub returns-in-Done-clause-steps : goal.returns-in-Done-clause-steps
 returns-in-Done-clause-steps g c = (c.in-Done.ensures.answer, refl)

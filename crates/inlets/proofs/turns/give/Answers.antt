@@ -10,7 +10,7 @@ use Rattle.inlets.proofs.turns.give.Goals as goal
 pub unreachable-requires : goal.unreachable-requires
 unreachable-requires g c =
     let h = c.args.mux.now in
-    let item = c.head.result.now in
+    let item = c.head.result in
     let P : Offered → Type 0 = λ v. OfferAnswers h c.args.number item v c.offer.new.mux in
     let a = subst P c.in-Closed.is c.offer.ensures.answer in
     false≢true (sym c.requires.open ∙ is_shut h.run.schedule h.events c.args.number item a.0)
@@ -18,6 +18,6 @@ unreachable-requires g c =
 pub returns-in-Stranger-clause-turned : goal.returns-in-Stranger-clause-turned
 returns-in-Stranger-clause-turned g c =
     let i = c.args.number in
-    let item = c.head.result.now in
+    let item = c.head.result in
     let bad = refused_answer c.args.mux.now i item c.offer.result c.offer.new.mux c.in-Stranger.is c.offer.ensures.answer in
     (inl (item, c.head.ensures, bad.0), c.close.ensures.mux ∙ ap (λ v. with_event v (Close i)) bad.1, c.close.ensures.entry)

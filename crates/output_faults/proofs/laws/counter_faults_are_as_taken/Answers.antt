@@ -1,6 +1,3 @@
-use Rattle.std.proofs.Common.{subst}
-use Rattle.request.specs.Request.{IsRequest}
-use Rattle.rounds.specs.Rounds.{IsRounds}
 use Rattle.schedule.specs.Schedule.{single}
 use Rattle.output_faults.proofs.OutputFaultLaws.{taken_judged}
 use Rattle.output_faults.proofs.ScheduleTold.{judged_of}
@@ -10,4 +7,4 @@ use Rattle.output_faults.proofs.laws.counter_faults_are_as_taken.Goals as goal
 pub returns : goal.returns
 returns c = λ rate period out taken h same.
     taken_judged c.args.plan.now.request.streams rate period out taken
-    (judged_of (single c.args.plan.now) (known_one c.args.plan.now (subst IsRequest c.request.ensures.value c.rate.ensures.request) c.request.ensures.plan (subst IsRounds c.rounds.ensures c.rate-2.ensures.rounds)) (streams_of_one c.args.plan.now (subst IsRequest c.request.ensures.value c.rate.ensures.request)) out h) same
+    (judged_of (single c.args.plan.now) (known_one c.args.plan.now c.known.ensures.request c.known.ensures.tables c.known.ensures.rounds) (streams_of_one c.args.plan.now c.known.ensures.request) out h) same

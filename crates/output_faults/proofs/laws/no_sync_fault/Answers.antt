@@ -1,6 +1,3 @@
-use Rattle.std.proofs.Common.{subst}
-use Rattle.request.specs.Request.{IsRequest}
-use Rattle.rounds.specs.Rounds.{IsRounds}
 use Rattle.schedule.specs.Schedule.{single}
 use Rattle.output_faults.proofs.OutputFaultLaws.{sync_stands}
 use Rattle.output_faults.proofs.ScheduleTold.{all_sound_of}
@@ -9,4 +6,4 @@ use Rattle.output_faults.proofs.laws.no_sync_fault.Goals as goal
 
 pub returns : goal.returns
 returns c = λ rate period out h.
-    sync_stands rate period out (all_sound_of (single c.args.plan.now) (known_one c.args.plan.now (subst IsRequest c.request.ensures.value c.rate.ensures.request) c.request.ensures.plan (subst IsRounds c.rounds.ensures c.rate-2.ensures.rounds)) out h)
+    sync_stands rate period out (all_sound_of (single c.args.plan.now) (known_one c.args.plan.now c.known.ensures.request c.known.ensures.tables c.known.ensures.rounds) out h)

@@ -8,8 +8,8 @@ returns c = λ rate period out h.
     counters_judged (all_streams c.args.schedule.now) rate period out
     (judged_of c.args.schedule.now
     (record {
-      schedule = c.later_plans.ensures.schedule;
-      plans = c.later_plans.ensures.plans;
+      schedule = c.known.ensures.schedule;
+      plans = c.known.ensures.plans;
       force = c.plans_in_force.ensures;
       pids = c.uses_of_pids.ensures;
     })

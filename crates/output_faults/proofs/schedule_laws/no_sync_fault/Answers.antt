@@ -7,8 +7,8 @@ returns c = λ rate period out h.
     sync_stands rate period out
     (all_sound_of c.args.schedule.now
     (record {
-      schedule = c.later_plans.ensures.schedule;
-      plans = c.later_plans.ensures.plans;
+      schedule = c.known.ensures.schedule;
+      plans = c.known.ensures.plans;
       force = c.plans_in_force.ensures;
       pids = c.uses_of_pids.ensures;
     })

@@ -5,8 +5,8 @@ pub returns : goal.returns
 returns c = λ period out h.
     told.no_table_fault c.args.schedule.now
     (record {
-      schedule = c.later_plans.ensures.schedule;
-      plans = c.later_plans.ensures.plans;
+      schedule = c.known.ensures.schedule;
+      plans = c.known.ensures.plans;
       force = c.plans_in_force.ensures;
       pids = c.uses_of_pids.ensures;
     })

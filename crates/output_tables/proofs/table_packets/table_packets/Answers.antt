@@ -22,7 +22,7 @@ unwrap-uncounted-requires c =
     let p = c.packet-item.result in
     let same : packets ≡ c.in_ok-counted.counted.items = c.deref-packet-items.ensures.value in
     let headers : (k : ℕ) → k < length packets → take 4 (get_or packets k []) ≡ header_of c.args.pid 0 k = rw same c.in_ok-counted.ensures.headers in
-    let here = packet_here c.args.pid c.args.section.now packets i p headers (ap (flat_map payload_of) same ∙ c.in_ok-counted.ensures.payloads) c.loop-packet-test.true c.packet-item.is c.bytes.ensures.packet.whole c.loop-packet.invariant.payloads in
+    let here = packet_here c.args.pid c.args.section.now packets i p headers (ap (flat_map payload_of) same ∙ c.in_ok-counted.ensures.payloads) c.loop-packet-test.true c.packet-item.is c.known.ensures.whole c.loop-packet.invariant.payloads in
     let bytes : set c.bytes.result.now 3 0x10 ≡ table_packet c.args.pid c.args.section.now i = ap (λ (l : List ℕ). set l 3 0x10) c.bytes.ensures.value ∙ here.0 in
     accepted_ok (set c.bytes.result.now 3 0x10) c.read.result c.read.ensures (ap fault_of bytes ∙ packet_accepted c.args.pid i c.args.section.now)
 
@@ -33,7 +33,7 @@ loop-packet-preserved c =
     let p = c.packet-item.result in
     let same : packets ≡ c.in_ok-counted.counted.items = c.deref-packet-items.ensures.value in
     let headers : (k : ℕ) → k < length packets → take 4 (get_or packets k []) ≡ header_of c.args.pid 0 k = rw same c.in_ok-counted.ensures.headers in
-    let here = packet_here c.args.pid c.args.section.now packets i p headers (ap (flat_map payload_of) same ∙ c.in_ok-counted.ensures.payloads) c.loop-packet-test.true c.packet-item.is c.bytes.ensures.packet.whole c.loop-packet.invariant.payloads in
+    let here = packet_here c.args.pid c.args.section.now packets i p headers (ap (flat_map payload_of) same ∙ c.in_ok-counted.ensures.payloads) c.loop-packet-test.true c.packet-item.is c.known.ensures.whole c.loop-packet.invariant.payloads in
     let read = rw c.unwrap-uncounted.ensures at c.read.ensures in
     let packet = table_packet c.args.pid c.args.section.now in
     let this : c.unwrap-uncounted.result ≡ packet i = read.0 ∙ ap (λ (l : List ℕ). set l 3 0x10) c.bytes.ensures.value ∙ here.0 in
@@ -44,7 +44,7 @@ loop-packet-preserved c =
           ∙ sym (map-range_with_len_more packet 0 i i (let z : 0 + i ≡ i = omega arith in z));
       payloads = payloads_more packets i p c.loop-packet-test.true c.packet-item.is c.loop-packet.invariant.payloads here.1;
       whole = All-same IsPacket _ (c.loop-packet.packets.items ++ c.unwrap-uncounted.result ∷ []) c.push_reserved.ensures.items
-          (All-push IsPacket c.loop-packet.packets.items c.unwrap-uncounted.result c.loop-packet.invariant.whole c.bytes-in-loop-packet.ensures.packet);
+          (All-push IsPacket c.loop-packet.packets.items c.unwrap-uncounted.result c.loop-packet.invariant.whole c.known-in-loop-packet.ensures);
       len = omega arith;
       room = omega arith;
     }

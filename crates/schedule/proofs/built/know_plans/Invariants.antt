@@ -1,6 +1,6 @@
 use Rattle.std.proofs.Common.{ℕ, ◌<◌, get_or}
 use Rattle.plan.specs.Build.{PlanValue}
-use Rattle.schedule.specs.Laws.{IsBuilt}
+use Rattle.plan.specs.Built.{IsBuilt}
 use Rattle.schedule.proofs.built.know_plans.Given as goal
 
 abbrev pub invariant-loop-after : goal.invariant-loop-after

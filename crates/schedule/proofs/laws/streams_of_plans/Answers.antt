@@ -5,5 +5,5 @@ use Rattle.schedule.proofs.laws.streams_of_plans.Goals as goal
 pub returns : goal.returns
 returns c =
     let s = c.args.schedule.now in
-    are_streams s c.later_plans.ensures.schedule.pids
-    (λ number within. (c.later_plans.ensures.plans number (record { slot = 0; plan = s.first }) (omega (arith, within))).request)
+    are_streams s c.known.ensures.schedule.pids
+    (λ number within. (c.known.ensures.plans number (record { slot = 0; plan = s.first }) (omega (arith, within))).request)

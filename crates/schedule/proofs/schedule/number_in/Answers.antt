@@ -1,6 +1,5 @@
 use Rattle.std.proofs.Common.{◌<◌, ◌≤◌, List, length, subst}
 use Rattle.request.specs.declared.stream.Stream.{Stream}
-use Rattle.request.specs.Request.{IsRequest}
 use Rattle.schedule.proofs.PlaceLaws.{place_in_one, no_place}
 use Rattle.schedule.proofs.schedule.number_in.Goals as goal
 
@@ -8,7 +7,7 @@ pub returns-then-stream-streams : goal.returns-then-stream-streams
 returns-then-stream-streams c =
     let p = c.args.plan.now in
     let n = c.args.stream in
-    place_in_one p (subst IsRequest c.request.ensures.value c.rate.ensures.request) n
+    place_in_one p c.known.ensures.request n
     (subst (λ (xs : List Stream). n < length xs) c.streams.ensures c.if-stream-streams.true)
 
 pub returns-else-stream-streams : goal.returns-else-stream-streams

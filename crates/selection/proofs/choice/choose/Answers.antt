@@ -33,13 +33,13 @@ pub unreachable-requires : goal.unreachable-requires
 unreachable-requires c =
     let count = service_count c.services-services.result.now c.args.request.now.services c.services-services.ensures.value in
     let none : length c.services-services.result.now ≡ 0 = c.in_default.ensures.cases in
-    omega (arith, count, none, c.rate.ensures.request.service_count)
+    omega (arith, count, none, c.known.ensures.service_count)
 
 pub collect_chosen-requires-clause-room : goal.collect_chosen-requires-clause-room
 collect_chosen-requires-clause-room c =
     let count = service_count c.services-services.result.now c.args.request.now.services c.services-services.ensures.value in
     let split : c.services-services.result.now ≡ c.in-Some.first.now ∷ c.in-Some.others.now = search rules in
-    omega (arith, count, ap length split, c.rate.ensures.request.service_count)
+    omega (arith, count, ap length split, c.known.ensures.service_count)
 
 pub returns-clause-services : goal.returns-clause-services
 returns-clause-services c =

@@ -1,5 +1,5 @@
 use Rattle.std.proofs.Common.{subst}
-use Rattle.mux.specs.Plans.{IsMultiplexSchedule}
+use Rattle.schedule.specs.Laws.{IsMultiplexSchedule}
 use Rattle.schedule.specs.Schedule.{ScheduleValue}
 use Rattle.reading.specs.PacketReading.{ReadsOn}
 use Rattle.outlet.proofs.SendingLaws.{on_err_always}

@@ -19,7 +19,7 @@ new-requires-clause-input g c =
     let within : i < length xs = omega (arith, c.requires.number, ap length all, length-map xs input_value) in
     let at = input_at p xs i x all (slice_get_read xs (length xs) i x refl within c.index-inputs-number.is) in
     let first : SpanValue = record { slot = 0; plan = p.first } in
-    let built = c.later_plans.ensures.plans 0 first (omega arith) in
+    let built = c.known.ensures.plans 0 first (omega arith) in
     all_at IsInput p.first.request.inputs i (input_value x) built.request.inputs at
 
 pub returns : goal.returns
@@ -32,10 +32,10 @@ returns g c =
     let within : i < length xs = omega (arith, c.requires.number, ap length all, length-map xs input_value) in
     let at = input_at p xs i x all (slice_get_read xs (length xs) i x refl within c.index-inputs-number.is) in
     let first : SpanValue = record { slot = 0; plan = p.first } in
-    let built = c.later_plans.ensures.plans 0 first (omega arith) in
+    let built = c.known.ensures.plans 0 first (omega arith) in
     let size = c.new.ensures.limit ∙ c.bytes-most.ensures.value in
     let few = c.bytes-most.ensures.within c.requires.limit in
-    let most : limit_of_input c.args.limit x.format ≤ MAX_LIMIT = omega (arith, few, c.bytes-most.ensures.value) in
+    let most : limit_of_input c.args.limit x.size ≤ MAX_LIMIT = omega (arith, few, c.bytes-most.ensures.value) in
     opened_input g.R.Source.remaining g.R.Source.failures c.args.limit p i (input_value x) c.args.source (record { inlet = c.new.result; is_closed = false }) at
     (all_at IsInput p.first.request.inputs i (input_value x) built.request.inputs at)
     c.new.ensures.origin most size c.new.ensures.source c.new.ensures.report refl (c.new.ensures.read p) c.new.ensures.failures

@@ -44,7 +44,7 @@ returns-clause-runs g c =
       has_run g.R.Source.remaining g.R.Source.failures run c.args.limit readers r c.in_ok-finish.field-0.0 c.in_ok-finish.field-0.1.items is (goes.told (map g.R.Source.failures readers) opened.failures) c.in_ok-finish.ensures before after
           (record {
             few = c.requires.slots;
-            sound = subst S is.run_is c.slots.ensures.sound;
+            sound = subst S is.run_is c.known-2.ensures;
             over = subst O is.run_is (is_fine c.drive-driven.result c.in_ok-driven.field-0 done c.drive-driven.ensures.over);
             needed = is.needed;
             analysed = is.analysed;
@@ -103,7 +103,7 @@ returns-in_err-driven-clause-begins g c =
     (λ fault is. (
       r.mux.events,
       has_begun g.R.Source.remaining g.R.Source.failures run c.args.limit readers r.mux.events r.inputs.items before after fault c.requires.readers
-          (record { sound = subst H same c.slots.ensures.sound; needed = halted.1; written = subst S same begun })
+          (record { sound = subst H same c.known-2.ensures; needed = halted.1; written = subst S same begun })
           halted.0 (goes.told (map g.R.Source.failures readers) opened.failures)
           (λ write. goes.unrefused (was ∙ ap Err (same_err c.from_residual-in_err-driven.result passed.0 fault passed.1 is ∙ write))),
     ))
@@ -141,7 +141,7 @@ returns-in_err-finish-clause-begins g c =
     (λ fault. (
       r.mux.events,
       has_begun g.R.Source.remaining g.R.Source.failures run c.args.limit readers r.mux.events r.inputs.items before after fault c.requires.readers
-          (record { sound = subst H is.run_is c.slots.ensures.sound; needed = is.needed; written = all_begun before after (bytes_of (emitted run.schedule r.mux.events)) all })
+          (record { sound = subst H is.run_is c.known-2.ensures; needed = is.needed; written = all_begun before after (bytes_of (emitted run.schedule r.mux.events)) all })
           (halted_running g.R.Source.remaining run c.args.limit starts r is) (goes.told (map g.R.Source.failures readers) opened.failures)
           (λ write. unrefused_running g.R.Source.remaining run c.args.limit starts r is),
     ))

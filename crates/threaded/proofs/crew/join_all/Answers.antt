@@ -23,7 +23,7 @@ is_closed-is_closed-requires g c =
     let rings = ap (λ (s : StationValue). rings_of s.inputs) l.invariant.station in
     let here = of_work g.R.Source.remaining g.R.Source.failures (rings_of l.station.inputs) w c.join-port.result.0 finished c.join-port.result.2 c.join-port.ensures
     (subst P (sym rings) (c.requires.station (length l.ended.items) w at)) in
-    omega (arith, ring_within l.station finished.port.ring.input finished.port.ring (subst L (sym l.invariant.station) c.slots.ensures.lawful) here, c.input.ensures)
+    omega (arith, ring_within l.station finished.port.ring.input finished.port.ring (subst L (sym l.invariant.station) c.known.ensures.lawful) here, c.input.ensures)
 
 pub settle-requires : goal.settle-requires
 settle-requires g c =

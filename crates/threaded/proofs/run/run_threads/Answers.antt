@@ -75,7 +75,7 @@ returns-clause-runs g c =
     (runs_through g.R.Source.remaining g.R.Source.failures g.W.Sink.contents g.W.Sink.failures c.args.limit c.args.schedule c.in-Ok.opening.station w.new.station c.join_all.new.station c.in-Ok.opening.seats.items (map (λ h. h.promise.worker.value) w.new.handles.items) c.join_all.new.ended.items (length w.new.handles.items)
     (record { output = c.in-Ok.opening.output; sink = c.args.writer }) w.result.0 w.result.1
     w.ensures.started (length-map w.new.handles.items (λ h. h.promise.worker.value)) w.ensures.all w.ensures.some w.ensures.crewed w.ensures.drives
-    c.join_all.ensures.same c.join_all.ensures.ended c.join_all.ensures.count c.slots.ensures.sound c.slots.ensures.lawful done.0 done.1.items well.0 well.1 told) c.requires.slots opening.waiting opening.analysed))
+    c.join_all.ensures.same c.join_all.ensures.ended c.join_all.ensures.count c.known-2.ensures.sound c.known-2.ensures.lawful done.0 done.1.items well.0 well.1 told) c.requires.slots opening.waiting opening.analysed))
 
 pub returns-clause-begins : goal.returns-clause-begins
 returns-clause-begins g c =
@@ -89,7 +89,7 @@ returns-clause-begins g c =
     (is_cut_short g.R.Source.remaining g.R.Source.failures g.W.Sink.contents g.W.Sink.failures c.args.limit c.args.schedule c.in-Ok.opening.station w.new.station c.join_all.new.station c.in-Ok.opening.seats.items (map (λ h. h.promise.worker.value) w.new.handles.items) c.join_all.new.ended.items (length w.new.handles.items)
     (record { output = c.in-Ok.opening.output; sink = c.args.writer }) w.result.0 w.result.1
     w.ensures.started (length-map w.new.handles.items (λ h. h.promise.worker.value)) w.ensures.all w.ensures.some w.ensures.crewed w.ensures.drives
-    c.join_all.ensures.same c.join_all.ensures.ended c.join_all.ensures.count c.slots.ensures.sound c.slots.ensures.lawful fault (λ e. c.tell.ensures.write (is ∙ ap Err e)) (λ e. c.tell.ensures.memory (is ∙ ap Err e)))))
+    c.join_all.ensures.same c.join_all.ensures.ended c.join_all.ensures.count c.known-2.ensures.sound c.known-2.ensures.lawful fault (λ e. c.tell.ensures.write (is ∙ ap Err e)) (λ e. c.tell.ensures.memory (is ∙ ap Err e)))))
 
 pub returns-clause-lent : goal.returns-clause-lent
 returns-clause-lent g c =
@@ -99,7 +99,7 @@ returns-clause-lent g c =
     (runs_through g.R.Source.remaining g.R.Source.failures g.W.Sink.contents g.W.Sink.failures c.args.limit c.args.schedule c.in-Ok.opening.station w.new.station c.join_all.new.station c.in-Ok.opening.seats.items (map (λ h. h.promise.worker.value) w.new.handles.items) c.join_all.new.ended.items (length w.new.handles.items)
     (record { output = c.in-Ok.opening.output; sink = c.args.writer }) w.result.0 w.result.1
     w.ensures.started (length-map w.new.handles.items (λ h. h.promise.worker.value)) w.ensures.all w.ensures.some w.ensures.crewed w.ensures.drives
-    c.join_all.ensures.same c.join_all.ensures.ended c.join_all.ensures.count c.slots.ensures.sound c.slots.ensures.lawful done.0 done.1.items well.0 well.1 told))
+    c.join_all.ensures.same c.join_all.ensures.ended c.join_all.ensures.count c.known-2.ensures.sound c.known-2.ensures.lawful done.0 done.1.items well.0 well.1 told))
 
 pub returns-clause-read_failed : goal.returns-clause-read_failed
 returns-clause-read_failed g c =
@@ -109,7 +109,7 @@ returns-clause-read_failed g c =
     (runs_through g.R.Source.remaining g.R.Source.failures g.W.Sink.contents g.W.Sink.failures c.args.limit c.args.schedule c.in-Ok.opening.station w.new.station c.join_all.new.station c.in-Ok.opening.seats.items (map (λ h. h.promise.worker.value) w.new.handles.items) c.join_all.new.ended.items (length w.new.handles.items)
     (record { output = c.in-Ok.opening.output; sink = c.args.writer }) w.result.0 w.result.1
     w.ensures.started (length-map w.new.handles.items (λ h. h.promise.worker.value)) w.ensures.all w.ensures.some w.ensures.crewed w.ensures.drives
-    c.join_all.ensures.same c.join_all.ensures.ended c.join_all.ensures.count c.slots.ensures.sound c.slots.ensures.lawful done.0 done.1.items well.0 well.1 told))
+    c.join_all.ensures.same c.join_all.ensures.ended c.join_all.ensures.count c.known-2.ensures.sound c.known-2.ensures.lawful done.0 done.1.items well.0 well.1 told))
 
 pub returns-clause-wrote : goal.returns-clause-wrote
 returns-clause-wrote g c =

@@ -1,32 +1,26 @@
-use Rattle.std.proofs.Common.{arith, rules, take, ◌∙◌}
-use Rattle.std.specs.Vec.{vec_capacity}
-use Rattle.tspkt.proofs.FramingLaws.{no_room_behind, on_err_always, front_kept}
+use Rattle.std.proofs.Common.{rules}
+use Rattle.tspkt.proofs.ItemListLaws.{later_on}
+use Rattle.tspkt.proofs.FramingLaws.{no_room_behind, on_err_always}
 use Rattle.tspkt.proofs.stepping.advance.Goals as goal
 
 pub returns-in_err-next-clause-full : goal.returns-in_err-next-clause-full
-returns-in_err-next-clause-full c =
+returns-in_err-next-clause-full g c =
+    let old = g.L.ItemList.list c.args.out.now in
+    let now = g.L.ItemList.list c.steps.out in
     on_err_always c.from_residual.result
-    (no_room_behind c.args.stride c.args.base c.args.window.now (take c.args.told.now c.args.out.now.items) (take c.steps.told c.steps.out.items) c.args.mode c.steps.mode c.steps.at (vec_capacity c.args.out.now) (vec_capacity c.steps.out)
-    c.steps.invariant.goes c.in_err-next.ensures.full c.steps.invariant.capacity)
+    (no_room_behind c.args.stride c.args.base c.args.window.now old.told now.told c.args.mode c.steps.mode c.steps.at old.places now.places
+    c.steps.invariant.goes c.in_err-next.ensures.full c.steps.invariant.later.places)
 
-pub returns-in_err-next-clause-kept : goal.returns-in_err-next-clause-kept
-returns-in_err-next-clause-kept c =
-    front_kept c.args.told.now c.steps.told c.step.new.out.items c.steps.out.items c.steps.invariant.rises c.step.ensures.kept ∙ c.steps.invariant.kept
+pub returns-in_err-next-clause-later : goal.returns-in_err-next-clause-later
+returns-in_err-next-clause-later g c = later_on _ _ _ c.steps.invariant.later c.step.ensures.later
 
-pub returns-clause-kept : goal.returns-clause-kept
-returns-clause-kept c =
-    front_kept c.args.told.now c.steps.told c.step.new.out.items c.steps.out.items c.steps.invariant.rises c.step.ensures.kept ∙ c.steps.invariant.kept
+pub returns-clause-later : goal.returns-clause-later
+returns-clause-later g c = later_on _ _ _ c.steps.invariant.later c.step.ensures.later
 
 pub steps-preserved : goal.steps-preserved
-steps-preserved c =
+steps-preserved g c =
     record {
       goes = search rules;
-      kept = front_kept c.args.told.now c.steps.told c.step.new.out.items c.steps.out.items c.steps.invariant.rises c.step.ensures.kept ∙ c.steps.invariant.kept;
-      rises = omega (arith, c.steps.invariant.rises, c.step.ensures.rises);
+      later = later_on _ _ _ c.steps.invariant.later c.step.ensures.later;
       few = search rules;
-      within = c.step.ensures.within;
-      ends = λ e. c.step.ensures.ends (c.steps.invariant.ends e);
-      stays = omega (arith, c.steps.invariant.stays, c.step.ensures.stays);
-      grows = search rules;
-      capacity = omega (arith, c.steps.invariant.capacity, c.step.ensures.capacity);
     }

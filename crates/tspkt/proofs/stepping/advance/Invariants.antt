@@ -1,20 +1,17 @@
-use Rattle.std.proofs.Common.{◌≡◌, ◌+◌, ◌-◌, ◌<◌, ◌≤◌, length, take}
-use Rattle.std.specs.Vec.{vec_len, vec_capacity}
+use Rattle.std.proofs.Common.{◌+◌, ◌-◌, ◌≤◌, length}
+use Rattle.tspkt.specs.ItemLists.{IsLater}
 use Rattle.tspkt.specs.Stepping.{TellsSame}
 use Rattle.tspkt.proofs.stepping.advance.Given as goal
 
 abbrev pub invariant-steps : goal.invariant-steps
-invariant-steps l = record {
-  goes : TellsSame l.stride l.base l.window (take l.fn.told l.fn.out.items) l.fn.mode 0 (take l.told l.out.items) l.mode l.at;
-  kept : take l.fn.told l.out.items ≡ take l.fn.told l.fn.out.items;
-  rises : l.fn.told ≤ l.told;
-  few : l.told ≤ l.fn.told + l.at;
-  within : l.told ≤ vec_len l.out;
-  ends : l.fn.told ≡ vec_len l.fn.out → l.told ≡ vec_len l.out;
-  stays : vec_len l.fn.out ≤ vec_len l.out;
-  grows : vec_len l.fn.out < vec_len l.out → l.told ≡ vec_len l.out;
-  capacity : vec_capacity l.fn.out ≤ vec_capacity l.out;
-}
+invariant-steps g l =
+    let old = g.L.ItemList.list l.fn.out in
+    let now = g.L.ItemList.list l.out in
+    record {
+      goes : TellsSame l.stride l.base l.window old.told l.fn.mode 0 now.told l.mode l.at;
+      later : IsLater old now;
+      few : length now.told ≤ length old.told + l.at;
+    }
 
 abbrev pub decreases-steps : goal.decreases-steps
-decreases-steps l = length l.window - l.at
+decreases-steps g l = length l.window - l.at

@@ -1,5 +1,5 @@
 use Rattle.std.proofs.Common.{◌++◌, sym, subst, ◌∙◌, filter_map}
-use Rattle.acquire.specs.Reading.{sections_in}
+use Rattle.tables.specs.OnPid.{sections_in}
 use Rattle.acquire.specs.Taken.{HasTaken}
 use Rattle.acquire.proofs.ReadingLaws.{sought_stays, sought_more}
 use Rattle.acquire.proofs.table_finder.TableFinder.push.Goals as goal

@@ -5,7 +5,7 @@ use Rattle.section.specs.declared.told.Told.{Told}
 use Rattle.tables.specs.OnPid.{pmts_on}
 use Rattle.analyse.specs.declared.pmt_assembly.PmtAssembly.{PmtAssembly}
 use Rattle.analyse.specs.Slots.{packets_in}
-use Rattle.analyse.specs.SectionWatching.{is_on}
+use Rattle.tables.specs.SectionReading.{is_on}
 use Rattle.analyse.specs.ToldPmts.{is_pmt_in, pmts_in}
 use Rattle.analyse.specs.PmtAssembling.{StandsFor}
 use Rattle.analyse.specs.PmtWatching.{PmtState, HasSeenPmts, KeepsNewest, assembler_behind}

@@ -62,12 +62,14 @@ invariant_of-self c =
     let fits = has_room c.self.inside.schedule _ c.args.stream.input c.args.item.now c.args.stream k.schedule k.lawful taker in
     let room = subst P (sym q) fits in
     let most = c.max-peak.ensures ∙ ap (max c.index_mut-peak.result.now.queued) c.len.ensures.value in
-    let w = on_ok c.offer.result c.offer.ensures.ok (c.offer.ensures.accepted.1 room) in (
-      taking c.self.invariant.0 _ c.args.stream.input c.args.item.now c.args.place c.args.stream c.index_mut.result.now c.index_mut-queue.result.now c.offer.new.self c.add.ensures
+    let added = rw c.stamped.ensures at c.add.ensures in
+    let w = rw c.stamped-2.ensures at (on_ok c.offer.result c.offer.ensures.ok (c.offer.ensures.accepted.1 room)) in
+    rw c.stamp.ensures (
+      taking c.self.invariant.0 _ c.args.stream.input c.args.item.now c.args.place c.args.stream c.index_mut.result.now c.index_mut-queue.result.now c.offer.new.self added
           c.index_mut.ensures.value at c.index_mut-queue.ensures.value w may taker has,
-      span_stays c.self.invariant.1 (Took c.args.stream.input c.args.item.now) _ c.add.ensures refl,
+      span_stays c.self.invariant.1 (Took c.args.stream.input c.args.item.now) _ added refl,
       peaks_taking c.self.invariant.2 _ c.args.stream.input c.args.item.now c.args.place c.args.stream c.index_mut-peak.result.now c.index_mut-queue.result.now c.offer.new.self
-          c.max-peak.result k.schedule k.lawful c.add.ensures c.index_mut-peak.ensures.value at q w taker has most,
+          c.max-peak.result k.schedule k.lawful added c.index_mut-peak.ensures.value at q w taker has most,
       noted_same c.self.invariant.3 c.args.stream.input c.index_mut.result.now _ (omega (arith, length_states k, may.input)) c.index_mut.ensures.value refl refl,
       heads_set c.self.invariant.4 c.args.place _ c.offer.new.self c.set.new.self c.head_time.ensures c.set.ensures,
     )
@@ -75,4 +77,4 @@ invariant_of-self c =
 pub returns : goal.returns
 returns c =
     let opened : List Event → History = λ es. record { run = record { schedule = c.self.inside.schedule; limit = c.self.inside.limit }; events = es } in
-    ap opened c.add.ensures ∙ ap (λ (h : History). with_event h (Took c.args.stream.input c.args.item.now)) c.self.view_is
+    ap opened (rw c.stamped.ensures at c.add.ensures) ∙ ap (λ (h : History). with_event h (Took c.args.stream.input c.args.item.now)) c.self.view_is

@@ -33,10 +33,12 @@ invariant_of-self c =
     let k = c.self.invariant.0.agrees in
     let i = c.self.inside in
     let K : ℕ → Type 0 = λ n. IsKept (record { schedule = i.schedule; limit = i.limit }) c.add.new.self (set i.inputs.items c.args.stream.input (record c.index_mut-state.result.now { last_stamp = c.args.item.now.stamp; dropped = n })) i.queues.items i.progress.buckets i.progress.clock i.turn i.output i.counts in
-    let taker = taken_at c.self.inside.schedule _ c.args.stream.input c.args.item.now place.0 c.args.stream k.schedule may place.1 mapped in (
-      subst K (sym c.saturating_add-state.ensures) (dropping c.self.invariant.0 _ c.args.stream.input c.args.item.now c.args.stream c.index_mut-state.result.now c.add.ensures c.index_mut-state.ensures.value refl may taker without),
-      span_stays c.self.invariant.1 (Took c.args.stream.input c.args.item.now) _ c.add.ensures refl,
-      peaks_late c.self.invariant.2 _ c.args.stream.input c.args.item.now c.args.stream k.schedule c.add.ensures taker without,
+    let taker = taken_at c.self.inside.schedule _ c.args.stream.input c.args.item.now place.0 c.args.stream k.schedule may place.1 mapped in
+    let added = rw c.stamped.ensures at c.add.ensures in
+    rw c.stamp-state.ensures (
+      subst K (sym c.saturating_add-state.ensures) (dropping c.self.invariant.0 _ c.args.stream.input c.args.item.now c.args.stream c.index_mut-state.result.now added c.index_mut-state.ensures.value refl may taker without),
+      span_stays c.self.invariant.1 (Took c.args.stream.input c.args.item.now) _ added refl,
+      peaks_late c.self.invariant.2 _ c.args.stream.input c.args.item.now c.args.stream k.schedule added taker without,
       noted_same c.self.invariant.3 c.args.stream.input c.index_mut-state.result.now _ (omega (arith, length_states k, may.input)) c.index_mut-state.ensures.value refl refl,
       c.self.invariant.4,
     )
@@ -44,4 +46,4 @@ invariant_of-self c =
 pub returns : goal.returns
 returns c =
     let opened : List Event → History = λ es. record { run = record { schedule = c.self.inside.schedule; limit = c.self.inside.limit }; events = es } in
-    ap opened c.add.ensures ∙ ap (λ (h : History). with_event h (Took c.args.stream.input c.args.item.now)) c.self.view_is
+    ap opened (rw c.stamped.ensures at c.add.ensures) ∙ ap (λ (h : History). with_event h (Took c.args.stream.input c.args.item.now)) c.self.view_is

@@ -6,7 +6,7 @@ use Rattle.request.specs.declared.stream.Stream.{Stream}
 use Rattle.schedule.specs.Schedule.{ScheduleValue, plan_at}
 use Rattle.schedule.specs.Streams.{all_streams, place_of}
 use Rattle.mux.specs.declared.event.Event.{Event}
-use Rattle.mux.specs.Plans.{IsMultiplexSchedule}
+use Rattle.schedule.specs.Laws.{IsMultiplexSchedule}
 use Rattle.mux.specs.History.{History, in_force, plan_in_force}
 use Rattle.mux.specs.Lawful.{IsLawful}
 use Rattle.mux.specs.Headline.{IsLevelOf}

@@ -30,8 +30,8 @@ returns-then-state-clause-answer c =
     at_place h.run.schedule c.args.place st (λ x. OfferAnswers h x.input c.args.item.now offered.Closed h) c.stream-stream.ensures
     (is_closed_first h.run.schedule h.events st.input c.args.item.now (sym (ap (λ (x : InputState). x.closed) c.state-state.ensures) ∙ c.if-state.true), refl)
 
-pub returns-then-item-state-clause-answer : goal.returns-then-item-state-clause-answer
-returns-then-item-state-clause-answer c =
+pub returns-then-stamp-state-clause-answer : goal.returns-then-stamp-state-clause-answer
+returns-then-stamp-state-clause-answer c =
     let h = c.args.self.now in
     let s = h.run.schedule in
     let item = c.args.item.now in
@@ -40,7 +40,7 @@ returns-then-item-state-clause-answer c =
     let at = c.stream-stream.ensures in
     let mapped = here s k item st at c.requires in
     let last = ap (λ (x : InputState). x.last_stamp) c.state-state.ensures in
-    let before : item.stamp < last_stamp st.input h.events = omega (arith, c.if-item-state.true) in
+    let before : item.stamp < last_stamp st.input h.events = omega (arith, c.if-stamp-state.true, c.stamp.ensures) in
     at_place s k st (λ x. OfferAnswers h x.input item offered.Backward h) at (
       is_backward s h.events st.input item (sym (ap (λ (x : InputState). x.closed) c.state-state.ensures) ∙ c.if-state.false)
           (mapped_at s st.input item k st c.known.ensures.schedule at mapped) (lt-ltb item.stamp (last_stamp st.input h.events) before),
@@ -53,7 +53,7 @@ offer_queued-requires-clause-in_force c =
     let item = c.args.item.now in
     let st = c.stream-stream.result in
     let P : ℕ → Type 0 = λ number. has_stream (plan_at s number) st ≡ true in
-    subst P (c.is_in_span.ensures c.if-is_in_span.true) (goes_both s st st.input item (here s c.args.place item st c.stream-stream.ensures c.requires)).2
+    subst P (sym (ap (number_for s) c.stamp-2.ensures) ∙ c.is_in_span.ensures c.if-is_in_span.true) (goes_both s st st.input item (here s c.args.place item st c.stream-stream.ensures c.requires)).2
 
 pub offer_queued-requires-clause-mapped : goal.offer_queued-requires-clause-mapped
 offer_queued-requires-clause-mapped c = here c.args.self.now.run.schedule c.args.place c.args.item.now c.stream-stream.result c.stream-stream.ensures c.requires
@@ -67,8 +67,8 @@ offer_queued-requires-clause-refusal c =
     let at = c.stream-stream.ensures in
     let mapped = here s c.args.place item st at c.requires in
     let last = ap (λ (x : InputState). x.last_stamp) c.state-state.ensures in
-    let order : last_stamp st.input h ≤ item.stamp = omega (arith, c.if-item-state.false) in
-    let same : number_for s item.stamp ≤ in_force h = omega (arith, c.is_in_span.ensures c.if-is_in_span.true) in
+    let order : last_stamp st.input h ≤ item.stamp = omega (arith, c.if-stamp-state.false, c.stamp.ensures) in
+    let same : number_for s item.stamp ≤ in_force h = omega (arith, sym (ap (number_for s) c.stamp-2.ensures) ∙ c.is_in_span.ensures c.if-is_in_span.true) in
     none_or_full s h st.input item (sym (ap (λ (x : InputState). x.closed) c.state-state.ensures) ∙ c.if-state.false)
     (mapped_at s st.input item c.args.place st c.known.ensures.schedule at mapped) (le-ltb item.stamp (last_stamp st.input h) order) (le-ltb (in_force h) (number_for s item.stamp) same)
 
@@ -84,7 +84,7 @@ pub offer_across-requires-clause-open_ : goal.offer_across-requires-clause-open_
 offer_across-requires-clause-open_ c = sym (ap (λ (x : InputState). x.closed) c.state-state.ensures) ∙ c.if-state.false
 
 pub offer_across-requires-clause-order : goal.offer_across-requires-clause-order
-offer_across-requires-clause-order c = let last = ap (λ (x : InputState). x.last_stamp) c.state-state.ensures in omega (arith, c.if-item-state.false)
+offer_across-requires-clause-order c = let last = ap (λ (x : InputState). x.last_stamp) c.state-state.ensures in omega (arith, c.if-stamp-state.false, c.stamp.ensures)
 
 pub returns-else-is_in_span-clause-answer : goal.returns-else-is_in_span-clause-answer
 returns-else-is_in_span-clause-answer c =

@@ -1,4 +1,4 @@
-use Rattle.std.proofs.Common.{refl, eq-eqb, ◌≡◌, ◌<◌, sym, ap, ◌∙◌, arith, subst, ◌++◌, ◌∷◌, [], List, length}
+use Rattle.std.proofs.Common.{refl, eq-eqb, ◌≡◌, ◌<◌, sym, ap, ◌∙◌, arith, subst, ◌++◌, ◌∷◌, [], List, ℕ, length}
 use Rattle.std.specs.List.{slice_get}
 use Rattle.std.proofs.lemmas.Option.{slice_get_within}
 use Rattle.std.proofs.lemmas.List.{length-map}
@@ -8,7 +8,7 @@ use Rattle.mux.specs.declared.content.Content.TheVariants.{Elementary}
 use Rattle.mux.specs.declared.input_state.InputState.{InputState}
 use Rattle.schedule.specs.Schedule.{slot_time}
 use Rattle.schedule.specs.Streams.{all_streams}
-use Rattle.mux.specs.History.{History, with_event, slots}
+use Rattle.mux.specs.History.{History, with_event, slots, emitted, packet_behind}
 use Rattle.mux.specs.declared.counts.Counts.{Counts}
 use Rattle.mux.specs.Totals.{is_of_input, is_elementary}
 use Rattle.mux.specs.Keeping.{without_notes}
@@ -22,26 +22,27 @@ use Rattle.tspkt.specs.declared.stamped.Stamped.{Stamped}
 use Rattle.std.proofs.lemmas.Option.{same_Some}
 use Rattle.mux.proofs.Heads.{some_of, copied_is, goes_next}
 use Rattle.mux.proofs.Noted.{noted_cleared, noted_same}
+use Rattle.mux.proofs.Pushed.{some_behind, last_is}
 use Rattle.mux.proofs.HeadTimes.{length_heads, heads_set}
 use Rattle.mux.proofs.Peaks.{length_peaks, peaks_sending}
 use Rattle.mux.proofs.mux.Mux.send_head.Goals as goal
 
 pub index-requires : goal.index-requires
-index-requires c =
+index-requires g c =
     let n = length_queues c.self.invariant.0.agrees in
     let at : IsAt c.self.inside.schedule c.args.index c.args.stream = ap (λ (h : History). slice_get (all_streams h.run.schedule) c.args.index) c.self.view_is ∙ c.requires.index in
     let l = slice_get_within (all_streams c.self.inside.schedule) c.args.index c.args.stream at in
     omega (arith, c.self.inside.queues.ok.0)
 
 pub index_mut-queue-requires : goal.index_mut-queue-requires
-index_mut-queue-requires c =
+index_mut-queue-requires g c =
     let n = length_queues c.self.invariant.0.agrees in
     let at : IsAt c.self.inside.schedule c.args.index c.args.stream = ap (λ (h : History). slice_get (all_streams h.run.schedule) c.args.index) c.self.view_is ∙ c.requires.index in
     let l = slice_get_within (all_streams c.self.inside.schedule) c.args.index c.args.stream at in
     omega (arith, c.self.inside.queues.ok.0)
 
 pub set-requires : goal.set-requires
-set-requires c =
+set-requires g c =
     let n = length_queues c.self.invariant.0.agrees in
     let m = length_heads c.self.invariant.4 in
     let at : IsAt c.self.inside.schedule c.args.index c.args.stream = ap (λ (h : History). slice_get (all_streams h.run.schedule) c.args.index) c.self.view_is ∙ c.requires.index in
@@ -49,14 +50,14 @@ set-requires c =
     omega arith
 
 pub index_mut-peak-requires : goal.index_mut-peak-requires
-index_mut-peak-requires c =
+index_mut-peak-requires g c =
     let n = length_peaks c.self.invariant.2 in
     let at : IsAt c.self.inside.schedule c.args.index c.args.stream = ap (λ (h : History). slice_get (all_streams h.run.schedule) c.args.index) c.self.view_is ∙ c.requires.index in
     let l = slice_get_within (all_streams c.self.inside.schedule) c.args.index c.args.stream at in
     omega (arith, c.self.inside.peaks.ok.0)
 
 pub index_mut-requires : goal.index_mut-requires
-index_mut-requires c =
+index_mut-requires g c =
     let n = length_states c.self.invariant.0.agrees in
     let at : IsAt c.self.inside.schedule c.args.index c.args.stream = ap (λ (h : History). slice_get (all_streams h.run.schedule) c.args.index) c.self.view_is ∙ c.requires.index in
     let l = (stream_in c.self.inside.schedule c.args.index c.args.stream c.self.invariant.0.agrees.schedule at).input in
@@ -64,7 +65,7 @@ index_mut-requires c =
     omega (arith, c.clear_notes.new.inputs.ok.0)
 
 pub overflow_add-index_mut : goal.overflow_add-index_mut
-overflow_add-index_mut c =
+overflow_add-index_mut g c =
     let at : IsAt c.self.inside.schedule c.args.index c.args.stream = ap (λ (h : History). slice_get (all_streams h.run.schedule) c.args.index) c.self.view_is ∙ c.requires.index in
     let k = c.self.invariant.0.agrees in
     let l = (stream_in c.self.inside.schedule c.args.index c.args.stream k.schedule at).input in
@@ -76,7 +77,7 @@ overflow_add-index_mut c =
     omega (arith, count_within (is_of_input c.args.stream.input) h)
 
 pub overflow_add-self : goal.overflow_add-self
-overflow_add-self c =
+overflow_add-self g c =
     let k = c.self.invariant.0.agrees in
     let h = c.self.inside.past in
     let e = ap (λ (x : Counts). x.elementary) c.self.invariant.0.counts_are in
@@ -85,7 +86,7 @@ overflow_add-self c =
     omega (arith, count_within is_elementary h)
 
 pub unwrap-item-requires : goal.unwrap-item-requires
-unwrap-item-requires c =
+unwrap-item-requires g c =
     let at : IsAt c.self.inside.schedule c.args.index c.args.stream = ap (λ (h : History). slice_get (all_streams h.run.schedule) c.args.index) c.self.view_is ∙ c.requires.index in
     let R : History → Type 0 = λ h. MaySend h.run.schedule h.events (Elementary c.args.stream) in
     let may = subst R (sym c.self.view_is) c.requires.may in
@@ -93,7 +94,7 @@ unwrap-item-requires c =
     some_of c.head.result next.item (c.head.ensures ∙ next.head)
 
 pub overflow_sub-delay : goal.overflow_sub-delay
-overflow_sub-delay c =
+overflow_sub-delay g c =
     let at : IsAt c.self.inside.schedule c.args.index c.args.stream = ap (λ (h : History). slice_get (all_streams h.run.schedule) c.args.index) c.self.view_is ∙ c.requires.index in
     let R : History → Type 0 = λ h. MaySend h.run.schedule h.events (Elementary c.args.stream) in
     let may = subst R (sym c.self.view_is) c.requires.may in
@@ -105,14 +106,14 @@ overflow_sub-delay c =
     omega arith
 
 pub bucket-bucket-requires : goal.bucket-bucket-requires
-bucket-bucket-requires c =
+bucket-bucket-requires g c =
     let at : IsAt c.self.inside.schedule c.args.index c.args.stream = ap (λ (h : History). slice_get (all_streams h.run.schedule) c.args.index) c.self.view_is ∙ c.requires.index in
     let l = slice_get_within (all_streams c.self.inside.schedule) c.args.index c.args.stream at in
     let count = c.self.invariant.0.buckets_are.count in
     omega arith
 
 pub send-requires-clause-room : goal.send-requires-clause-room
-send-requires-clause-room c =
+send-requires-clause-room g c =
     let at : IsAt c.self.inside.schedule c.args.index c.args.stream = ap (λ (h : History). slice_get (all_streams h.run.schedule) c.args.index) c.self.view_is ∙ c.requires.index in
     let R : History → Type 0 = λ h. MaySend h.run.schedule h.events (Elementary c.args.stream) in
     let may = subst R (sym c.self.view_is) c.requires.may in
@@ -120,7 +121,7 @@ send-requires-clause-room c =
     chosen_has_room c.self.inside.schedule _ c.self.inside.progress.buckets c.args.index c.args.stream k.schedule k.lawful c.self.invariant.0.buckets_are at may.content c.args.index c.bucket-bucket.result (eq-eqb c.args.index c.args.index refl) c.bucket-bucket.ensures
 
 pub invariant_of-self : goal.invariant_of-self
-invariant_of-self c =
+invariant_of-self g c =
     let S : History → Type 0 = λ h. slots h.events < h.run.limit in
     let at : IsAt c.self.inside.schedule c.args.index c.args.stream = ap (λ (h : History). slice_get (all_streams h.run.schedule) c.args.index) c.self.view_is ∙ c.requires.index in
     let R : History → Type 0 = λ h. MaySend h.run.schedule h.events (Elementary c.args.stream) in
@@ -131,7 +132,7 @@ invariant_of-self c =
     let head = copied_is c.head.result c.unwrap-item.result _ c.unwrap-item.ensures c.head.ensures in
     let q = queue_at c.self.invariant.0.agrees c.args.index c.args.stream c.index.result.now at c.index.ensures in
     let p = sent_packet_is c.self.invariant.0.agrees c.args.index c.args.stream c.index.result.now c.unwrap-item.result.now c.args.now at c.index.ensures head t in
-    let packet = c.push_rewritten.ensures ∙ ap (λ x. c.self.inside.output ++ x ∷ []) p in
+    let packet = c.push.ensures ∙ ap (λ x. c.self.inside.output ++ x ∷ []) (last_is _ _ _ _ c.add_rewritten.ensures.packets c.last.ensures ∙ p) in
     let kept = sending_head c.self.invariant.0 c.args.index c.args.stream c.index_mut.result.now c.index_mut-queue.result.now c.take.new.self _ c.clear_notes.new.inputs.items _ _ _ _ c.add.ensures c.clear_notes.ensures.inputs
     c.index_mut.ensures.value l at c.index_mut-queue.ensures.value c.take.ensures.rest c.send.ensures.buckets c.send.ensures.clock c.advance.ensures
     packet (subst S (sym c.self.view_is) c.requires.within) may in
@@ -145,13 +146,25 @@ invariant_of-self c =
       heads_set c.self.invariant.4 c.args.index _ c.take.new.self c.set.new.self c.head_time.ensures c.set.ensures,
     )
 
-pub returns : goal.returns
-returns c =
+pub returns-clause-event : goal.returns-clause-event
+returns-clause-event g c =
     let opened : List Event → History = λ es. record { run = record { schedule = c.self.inside.schedule; limit = c.self.inside.limit }; events = es } in
     ap opened c.add.ensures ∙ ap (λ (h : History). with_event h (Slot (Elementary c.args.stream))) c.self.view_is
 
-pub push_rewritten-requires : goal.push_rewritten-requires
-push_rewritten-requires c =
+pub add_rewritten-requires-clause-pid : goal.add_rewritten-requires-clause-pid
+add_rewritten-requires-clause-pid g c =
     let at : IsAt c.self.inside.schedule c.args.index c.args.stream = ap (λ (h : History). slice_get (all_streams h.run.schedule) c.args.index) c.self.view_is ∙ c.requires.index in
     let pid = (stream_in c.self.inside.schedule c.args.index c.args.stream c.self.invariant.0.agrees.schedule at).output_pid in
     omega (arith, pid.1)
+
+pub last-requires : goal.last-requires
+last-requires g c = some_behind _ _ _ c.add_rewritten.ensures.packets
+
+pub returns-clause-out : goal.returns-clause-out
+returns-clause-out g c =
+    let at : IsAt c.self.inside.schedule c.args.index c.args.stream = ap (λ (h : History). slice_get (all_streams h.run.schedule) c.args.index) c.self.view_is ∙ c.requires.index in
+    let t = c.requires.now ∙ sym (ap (λ (h : History). slot_time h.run.schedule.first (slots h.events)) c.self.view_is) in
+    let head = copied_is c.head.result c.unwrap-item.result _ c.unwrap-item.ensures c.head.ensures in
+    let p = sent_packet_is c.self.invariant.0.agrees c.args.index c.args.stream c.index.result.now c.unwrap-item.result.now c.args.now at c.index.ensures head t in
+    let of : History → List ℕ = λ h. packet_behind h.run.schedule h.events (emitted h.run.schedule h.events) (Elementary c.args.stream) in
+    c.add_rewritten.ensures.packets ∙ ap (λ q. g.O.Outgoing.packets c.args.out.now ++ q ∷ []) (p ∙ ap of c.self.view_is)

@@ -1,4 +1,4 @@
-use Rattle.std.proofs.Common.{arith, ◌≡◌, ◌+◌, ◌<◌, ◌≤◌, length, take, sym, ap, ◌∙◌, ⊎_elim, true, false}
+use Rattle.std.proofs.Common.{arith, ◌≡◌, ◌+◌, ◌<◌, ◌≤◌, length, sym, ap, ◌∙◌, ⊎_elim, true, false}
 use Rattle.std.specs.Prelude.{Ok, Err, is_ok}
 use Rattle.std.proofs.lemmas.Bool.{cases_lt}
 use Rattle.tspkt.specs.Framed.{seen}
@@ -12,11 +12,10 @@ not_both a e X h = let bad : true ≡ false = ap is_ok h in cc
 pub invariant_of-self-2 : goal.invariant_of-self-2
 invariant_of-self-2 c =
     let f = c.in-Some.framer in
-    let told = take c.in_ok-self-inside.field-0 c.refill.new.out.items in
-    let kind = if_some_at (IsFramerWithin c.self.inside.limit) c.self.inside.framer f (sym c.take.ensures.value ∙ c.in-Some.is) c.self.invariant.2.kind in
+    let kind = if_some_at (IsFramerWithin c.self.inside.limit) c.self.inside.framer f (sym c.take.ensures.value ∙ c.in-Some.is) c.self.invariant.1.kind in
     let room : seen f + length c.args.piece.now ≤ f.limit =
     ⊎_elim
-    (λ (l : f.limit < seen f + length c.args.piece.now). not_both _ _ _ (c.in_ok-self-inside.ensures.too_much.1 l))
+    (λ (l : f.limit < seen f + length c.args.piece.now). not_both _ _ _ (c.in_ok-refill.ensures.too_much.1 l))
     (λ (l : seen f + length c.args.piece.now ≤ f.limit). l)
     (cases_lt f.limit (seen f + length c.args.piece.now)) in
-    (omega arith, c.in_ok-self-inside.ensures.within, fed_items c.self.inside.limit f c.args.piece.now c.refill.new.self told c.self.invariant.2.within kind c.in_ok-self-inside.ensures.ok (omega (arith, room, kind.limit_is)))
+    (omega arith, fed_items c.self.inside.limit f c.args.piece.now c.refill.new.self c.refill.new.out.told c.self.invariant.1.within kind c.in_ok-refill.ensures.ok (omega (arith, room, kind.limit_is)))

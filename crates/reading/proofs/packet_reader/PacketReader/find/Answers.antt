@@ -1,7 +1,7 @@
 use Rattle.std.proofs.Common.{ℕ, ◌≡◌, refl, sym, subst, ◌∙◌}
 use Rattle.std.specs.Prelude.{IsSome, IfSome}
 use Rattle.reading.specs.Takeable.{stream_number}
-use Rattle.reading.specs.declared.packet_reader.PacketReader.{PacketReader}
+use Rattle.reading.specs.Holding.{PacketReader}
 use Rattle.reading.proofs.PacketLaws.{reads_told, reads_reads}
 use Rattle.reading.proofs.FailureLaws.{newly_failed, goes_goes}
 use Rattle.reading.proofs.packet_reader.PacketReader.find.Goals as goal

@@ -14,10 +14,7 @@ returns-clause-read g c = λ schedule.
     let M = g.R.Source.remaining in
     let stream = c.new-2.result in
     let P : OriginValue → Type 0 = λ o. HasPassed M (stride_at o) stream [] None [] in
-    let Q : Option Stamped → Type 0 = λ held. HasLooked M schedule c.new.result stream held c.new-3.result [] [] [] in (
-      [],
-      subst Q (sym c.none.ensures) (fresh_looked M schedule c.new.result stream c.new-3.result c.new-3.ensures (subst P (sym c.new.ensures) c.new-2.ensures.passed)),
-    )
+    ([], fresh_looked M schedule c.new.result stream c.new-3.result c.new-3.ensures (subst P (sym c.new.ensures) c.new-2.ensures.passed))
 
 pub returns-clause-failures : goal.returns-clause-failures
 returns-clause-failures g c = record {

@@ -4,9 +4,8 @@ use Rattle.std.specs.List.{length_refill}
 use Rattle.std.proofs.lemmas.Result.{err_from_is_err_and}
 use Rattle.mux.specs.History.{Run, History, emitted}
 use Rattle.mux.specs.Lawful.{input_count}
-use Rattle.mux.specs.Plans.{IsMultiplexSchedule}
-use Rattle.mux.proofs.Emitted.{last_sent}
-use Rattle.mux.proofs.Heads.{some_of, lent_last}
+use Rattle.schedule.specs.Laws.{IsMultiplexSchedule}
+use Rattle.mux.proofs.Pushed.{some_behind, lent_sent}
 use Rattle.schedule.specs.Schedule.{ScheduleValue}
 use Rattle.reading.specs.declared.stop.Stop.TheVariants.{Memory}
 use Rattle.outlet.specs.declared.run_fault.RunFault.TheVariants as run_faults
@@ -23,13 +22,13 @@ use Rattle.serial.proofs.GoingLaws.{goes_sent, goes_part_sent, goes_unsent, goes
 use Rattle.serial.proofs.WaitingLaws.{on_fault}
 use Rattle.serial.proofs.serial_run.SerialRun.step.Goals as goal
 
-pub take_step-requires : goal.take_step-requires
-take_step-requires g c =
+pub take_step-requires-clause-entries : goal.take_step-requires-clause-entries
+take_step-requires-clause-entries g c =
     let is = c.requires.3 in
     is.fed.count ∙ ap (λ (r : Run). input_count r.schedule) (sym is.run_is)
 
-pub unwrap-packet-requires : goal.unwrap-packet-requires
-unwrap-packet-requires g c = some_of c.last.result _ (c.last.ensures ∙ last_sent c.args.self.now.mux c.take_step.new.mux c.in-Sent.ensures.steps.0)
+pub last-requires : goal.last-requires
+last-requires g c = some_behind _ _ _ (c.in-Sent.ensures.sent refl).behind
 
 -- a slot was sent
 
@@ -37,20 +36,20 @@ pub returns-in_ok-put-in-Sent-clause-goes : goal.returns-in_ok-put-in-Sent-claus
 returns-in_ok-put-in-Sent-clause-goes g c =
     let old = c.args.self.now in
     let put = c.in_ok-put-in-Sent.ensures in
-    goes_sent g.R.Source.remaining g.R.Source.failures g.W.Sink.contents g.W.Sink.failures old (record old { mux = c.take_step.new.mux; inputs = c.take_step.new.entries; output = c.put.new.self }) c.unwrap-packet.result.now c.args.sink.now c.put.new.sink Goes
-    (lent_last old.mux c.take_step.new.mux c.last.result c.unwrap-packet.result c.in-Sent.ensures.steps.0 c.unwrap-packet.ensures c.last.ensures) c.take_step.ensures.run c.in-Sent.ensures.steps.1 refl put.analysed put.written put.failures
+    goes_sent g.R.Source.remaining g.R.Source.failures g.W.Sink.contents g.W.Sink.failures old (record old { mux = c.take_step.new.mux; inputs = c.take_step.new.entries; sent = c.take_step.new.out; output = c.put.new.self }) c.last.result.now c.args.sink.now c.put.new.sink Goes
+    (lent_sent _ _ _ _ _ (c.in-Sent.ensures.sent refl) c.last.ensures) c.take_step.ensures.run c.in-Sent.ensures.steps.1 refl put.analysed put.written put.failures
 
 pub returns-in_ok-put-in-Sent-clause-fewer : goal.returns-in_ok-put-in-Sent-clause-fewer
 returns-in_ok-put-in-Sent-clause-fewer g c e =
     let old = c.args.self.now in
-    fewer_sent old.mux c.take_step.new.mux c.unwrap-packet.result.now (lent_last old.mux c.take_step.new.mux c.last.result c.unwrap-packet.result c.in-Sent.ensures.steps.0 c.unwrap-packet.ensures c.last.ensures)
+    fewer_sent old.mux c.take_step.new.mux c.last.result.now (lent_sent _ _ _ _ _ (c.in-Sent.ensures.sent refl) c.last.ensures)
 
 pub returns-in_err-put-in-Sent-clause-goes : goal.returns-in_err-put-in-Sent-clause-goes
 returns-in_err-put-in-Sent-clause-goes g c =
     let old = c.args.self.now in
     let passed = err_from_is_err_and c.from_residual.result c.from_residual.ensures.1 in
-    goes_part_sent g.R.Source.remaining g.R.Source.failures g.W.Sink.contents g.W.Sink.failures old (record old { mux = c.take_step.new.mux; inputs = c.take_step.new.entries; output = c.put.new.self }) c.unwrap-packet.result.now c.args.sink.now c.put.new.sink
-    c.put.result c.from_residual.result passed.0 (c.in_err-put-in-Sent.was ∙ ap Err (sym passed.2)) passed.1 (lent_last old.mux c.take_step.new.mux c.last.result c.unwrap-packet.result c.in-Sent.ensures.steps.0 c.unwrap-packet.ensures c.last.ensures) c.take_step.ensures.run c.in-Sent.ensures.steps.1 c.requires
+    goes_part_sent g.R.Source.remaining g.R.Source.failures g.W.Sink.contents g.W.Sink.failures old (record old { mux = c.take_step.new.mux; inputs = c.take_step.new.entries; sent = c.take_step.new.out; output = c.put.new.self }) c.last.result.now c.args.sink.now c.put.new.sink
+    c.put.result c.from_residual.result passed.0 (c.in_err-put-in-Sent.was ∙ ap Err (sym passed.2)) passed.1 (lent_sent _ _ _ _ _ (c.in-Sent.ensures.sent refl) c.last.ensures) c.take_step.ensures.run c.in-Sent.ensures.steps.1 c.requires
     c.in_err-put-in-Sent.ensures.begun (λ e. ap g.W.Sink.failures (c.put.ensures.memory e)) c.put.ensures.failed
 
 -- the next plan came into force, or an input had its turn
@@ -58,7 +57,7 @@ returns-in_err-put-in-Sent-clause-goes g c =
 pub returns-in-Switched-clause-goes : goal.returns-in-Switched-clause-goes
 returns-in-Switched-clause-goes g c =
     let old = c.args.self.now in
-    goes_unsent g.R.Source.remaining g.R.Source.failures g.W.Sink.contents g.W.Sink.failures old (record old { mux = c.take_step.new.mux; inputs = c.take_step.new.entries }) c.args.sink.now c.args.sink.now Goes
+    goes_unsent g.R.Source.remaining g.R.Source.failures g.W.Sink.contents g.W.Sink.failures old (record old { mux = c.take_step.new.mux; inputs = c.take_step.new.entries; sent = c.take_step.new.out }) c.args.sink.now c.args.sink.now Goes
     (unsent_by g.R.Source.remaining g.R.Source.failures old.mux c.take_step.new.mux old.inputs.items c.take_step.new.entries.items c.take_step.result (subst IsMultiplexSchedule c.schedule.ensures c.known.ensures) (fed_of g.R.Source.remaining old c.requires) c.in-Switched.is c.take_step.ensures.steps) (λ some. some) refl (sends_nothing (g.W.Sink.contents c.args.sink.now) old.output.writer) refl
 
 pub returns-in-Switched-clause-fewer : goal.returns-in-Switched-clause-fewer
@@ -150,7 +149,7 @@ returns-in_err-read_on-in-Waits-clause-goes g c =
 pub returns-in-Done-clause-goes : goal.returns-in-Done-clause-goes
 returns-in-Done-clause-goes g c =
     let old = c.args.self.now in
-    goes_over g.R.Source.remaining g.R.Source.failures g.W.Sink.contents g.W.Sink.failures old (record old { mux = c.take_step.new.mux; inputs = c.take_step.new.entries }) c.args.sink.now Over (over_by g.R.Source.remaining g.R.Source.failures old.mux c.take_step.new.mux old.inputs.items c.take_step.new.entries.items c.take_step.result c.in-Done.is c.take_step.ensures.steps) refl refl
+    goes_over g.R.Source.remaining g.R.Source.failures g.W.Sink.contents g.W.Sink.failures old (record old { mux = c.take_step.new.mux; inputs = c.take_step.new.entries; sent = c.take_step.new.out }) c.args.sink.now Over (over_by g.R.Source.remaining g.R.Source.failures old.mux c.take_step.new.mux old.inputs.items c.take_step.new.entries.items c.take_step.result c.in-Done.is c.take_step.ensures.steps) refl refl
 
 pub returns-in-Done-clause-over : goal.returns-in-Done-clause-over
 returns-in-Done-clause-over g c e =

@@ -1,13 +1,13 @@
 use Rattle.std.proofs.Common.{ap, sym, ◌∙◌}
 use Rattle.mux.specs.History.{Run}
 use Rattle.station.specs.Stations.{StationValue, rings_of}
-use Rattle.station.proofs.StationLaws.{lawful_sent, rings_stay}
+use Rattle.station.proofs.StationLaws.{lawful_with, rings_stay}
 use Rattle.station.proofs.station.Station.tick.Goals as goal
 
 pub invariant_of-self : goal.invariant_of-self
 invariant_of-self c = (
-  lawful_sent c.move_all.new.mux c.send_next.new.self c.send_next.result c.move_all.new.entries.items c.send_next.ensures.answer c.move_all.ensures.lawful,
-  c.self.invariant.1 ∙ ap (λ (r : Run). r.schedule.first.request.ring) (sym (c.send_next.ensures.run ∙ c.move_all.ensures.run)),
+  lawful_with c.move_all.new.mux c.slot.new.self c.slot.result c.move_all.new.entries.items c.slot.ensures.answer c.move_all.ensures.lawful,
+  c.self.invariant.1 ∙ ap (λ (r : Run). r.schedule.first.request.ring) (sym (c.slot.ensures.run ∙ c.move_all.ensures.run)),
 )
 
 pub returns-clause-rings : goal.returns-clause-rings

@@ -17,5 +17,5 @@ invariant_of-result c = (
   c.requires,
   c.read_pcr_pid.ensures.fits,
   ap (are_whole 0) c.in_ok-program_info.ensures ∙ descriptors_whole 4 c.args.body.now c.in-Some.program.descriptors.now (c.in-Some.ensures.whole.0 refl) c.in-Some.ensures.descriptors,
-  rows_all 5 pmt_row_of IsPmtRow pmt_row_fits c.in-Some.program.rest.now c.in_ok-rows.rows.items c.in_ok-rows.ensures,
+  rows_all 5 pmt_row_of IsPmtRow pmt_row_fits c.in-Some.program.rest.now c.in_ok-rows.rows.items c.in_ok-rows.ensures.rows,
 )

@@ -1,5 +1,5 @@
-use Rattle.tspkt.proofs.DecidedLaws.{waiting_told_all}
+use Rattle.tspkt.proofs.DecidedLaws.{told_all_where_taken}
 use Rattle.tspkt.proofs.framer.Framer.refill.Goals as goal
 
-pub returns-clause-told_all : goal.returns-clause-told_all
-returns-clause-told_all c = waiting_told_all c.take_piece.new.self c.in_ok-take_piece.ensures.waits
+pub returns-else-is_err-clause-told_all : goal.returns-else-is_err-clause-told_all
+returns-else-is_err-clause-told_all c = told_all_where_taken c.take_piece-taken.result c.take_piece-taken.new.self c.take_piece-taken.ensures.waits

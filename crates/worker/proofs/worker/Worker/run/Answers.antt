@@ -22,7 +22,7 @@ new-reader-requires-clause-input g c =
     let within : i < length xs = omega (arith, c.args.self.known, ap length all, length-map xs input_value) in
     let at = input_at p xs i x all (slice_get_read xs (length xs) i x refl within c.index-inputs-number.is) in
     let first : SpanValue = record { slot = 0; plan = p.first } in
-    let built = c.later_plans.ensures.plans 0 first (omega arith) in
+    let built = c.known.ensures.plans 0 first (omega arith) in
     all_at IsInput p.first.request.inputs i (input_value x) built.request.inputs at
 
 pub returns-clause-sent : goal.returns-clause-sent
@@ -43,8 +43,8 @@ returns-clause-sent g c input at =
       unfailed = λ e. c.send-stop.ensures.unfailed e (g.R.Source.remaining c.args.self.source) (fresh_sent g.R.Source.remaining a c.args.self.source c.new-reader.ensures.source (c.new-reader.ensures.read p) unsent);
       unmarked = λ e. (c.finish.ensures.stopped e).1;
     } in
-    let most : ℕ = limit_of_input c.args.self.limit input.format in
-    let size = c.new-reader.ensures.limit ∙ c.bytes-most.ensures.value ∙ ap (λ (v : InputValue). limit_of_input c.args.self.limit v.format) same in
+    let most : ℕ = limit_of_input c.args.self.limit input.size in
+    let size = c.new-reader.ensures.limit ∙ c.bytes-most.ensures.value ∙ ap (λ (v : InputValue). limit_of_input c.args.self.limit v.size) same in
     worked g.R.Source.remaining g.R.Source.failures most a c.send-stop.new.self p (origin_of i input) c.args.self.source c.finish.result.2 c.send-stop.result c.finish.result.0 c.finish.result.1
     refl (c.new-reader.ensures.origin ∙ ap (origin_of i) same) c.new-reader.ensures.source size (c.new-reader.ensures.read p) unsent
     c.send-stop.ensures.sent c.finish.ensures.source c.send-stop.ensures.over own c.finish.ensures.counts c.finish.ensures.cause c.finish.ensures.port

@@ -1,4 +1,0 @@
-use Rattle.serial.proofs.run.known.Goals as goal
-
-pub returns : goal.returns
-returns c = record { schedule = c.later_plans.ensures.schedule; plans = c.later_plans.ensures.plans }
