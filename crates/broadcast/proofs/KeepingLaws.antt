@@ -3,8 +3,7 @@ use Rattle.std.proofs.Common.{ℕ, ◌-◌, ◌≡◌, ◌≤◌, false, List, [
 use mathlib.Core.List.{IsPrefix}
 use Rattle.std.proofs.Math.Seq.{take-append_seam, drop-append_seam}
 use Rattle.std.specs.Prelude.{Result, Ok, Err, MatchResult}
-use Rattle.schedule.specs.Schedule.{ScheduleValue, single}
-use Rattle.emission.specs.Emission.{IsEmission}
+use Rattle.schedule.specs.Schedule.{ScheduleValue}
 use Rattle.emission.specs.Spans.{IsEmissionOf}
 use Rattle.mux.specs.History.{slots}
 use Rattle.mux.proofs.Emitted.{length-emitted}
@@ -24,7 +23,7 @@ keeps_appended s w v waiting left old same order =
     let sealed : v.is_sealed ≡ w.is_sealed = ap (λ (x : FeedWriterValue). x.is_sealed) same in
     let P : List (List ℕ) → Type 0 = λ x. IsPrefix x (emitted_by s) in
     record {
-      schedule = old.schedule ∙ sym (ap (λ (x : FeedWriterValue). single x.plan) same);
+      schedule = old.schedule ∙ sym (ap (λ (x : FeedWriterValue). x.schedule) same);
       begins = subst P (sym published) old.begins;
       rest = λ unsealed. old.rest (sym sealed ∙ unsealed) ∙ (λ i. sym published i ++ sym order i);
     }
@@ -37,20 +36,20 @@ keeps_published s w v waiting unsealed old is =
     let all : emitted_by s ≡ v.published ++ (v.behind ++ waiting) =
     old.rest unsealed ∙ (sym (append_assoc w.published w.behind waiting) ∙ (λ i. sym published i ++ (sym behind i ++ waiting))) in
     record {
-      schedule = old.schedule ∙ sym (ap (λ (x : FeedWriterValue). single x.plan) is);
+      schedule = old.schedule ∙ sym (ap (λ (x : FeedWriterValue). x.schedule) is);
       begins = (v.behind ++ waiting, sym all);
       rest = λ _. all;
     }
 
 -- What may be published.
 
-pub may_publish : (s : StationValue) (w : FeedWriterValue) (waiting : List (List ℕ)) → w.is_sealed ≡ false → KeepsFeed s w waiting → IsEmissionOf s.history.run.schedule (emitted_by s) → IsEmission w.plan (w.published ++ w.behind)
+pub may_publish : (s : StationValue) (w : FeedWriterValue) (waiting : List (List ℕ)) → w.is_sealed ≡ false → KeepsFeed s w waiting → IsEmissionOf s.history.run.schedule (emitted_by s) → IsEmissionOf w.schedule (w.published ++ w.behind)
 may_publish s w waiting unsealed keeps law =
     let these = w.published ++ w.behind in
     let all : emitted_by s ≡ these ++ waiting = keeps.rest unsealed ∙ sym (append_assoc w.published w.behind waiting) in
     let first : take (length these) (emitted_by s) ≡ these = ap (take (length these)) all ∙ take-append_seam these waiting in
-    let of_plan : IsEmission w.plan (emitted_by s) = subst (λ (z : ScheduleValue). IsEmissionOf z (emitted_by s)) keeps.schedule law in
-    subst (IsEmission w.plan) first (emission_taken w.plan (emitted_by s) (length these) of_plan)
+    let lawful : IsEmissionOf w.schedule (emitted_by s) = subst (λ (z : ScheduleValue). IsEmissionOf z (emitted_by s)) keeps.schedule law in
+    subst (IsEmissionOf w.schedule) first (emission_taken w.schedule (emitted_by s) (length these) lawful)
 
 -- Where there is no memory to publish, nothing changed.
 

@@ -2,7 +2,6 @@
 
 ghost use Rattle.std.specs.Prelude.{◌≡◌, ◌≢◌, ◌<◌, ◌≤◌, ◌^◌, ◌++◌, [], List, ℕ, Some, None, true, false, length, replicate, IfOk, IfSome, MatchOption};
 ghost use Rattle.std.specs.List.{slice_get};
-ghost use Rattle.schedule.specs.Schedule.{single};
 ghost use Rattle.mux.specs.History.{slots};
 ghost use Rattle.mux.specs.declared.sending.Sending.{Sending as SlotAnswer};
 ghost use Rattle.mux.specs.Lawful.{input_count};
@@ -22,7 +21,6 @@ use crate::ticked_slot::TickedSlot;
 use feed::{FeedReader, FeedWriter, Publisher, PublishingEnd};
 use marks::Mark;
 use mux::{Counts, Totals};
-use plan::Plan;
 use port::{FinishedPort, Port};
 use schedule::Schedule;
 use station::{Settled, Station};
@@ -67,24 +65,24 @@ impl<E: PublishingEnd> Model for Broadcast<E> {
 }
 
 impl Broadcast {
-    /// A broadcast of this plan with nothing taken, sent or published, for at most this many slots (at most 2^40); the port of each
+    /// A broadcast of this schedule with nothing taken, sent or published, for at most this many slots (at most 2^40); the port of each
     /// input; and 1 to 4 readers, which read nothing yet. `Err` is want of memory.
     pub fn open<R: Wait>(
         rt: &R,
         alloc: Global,
-        plan: Plan,
+        schedule: Schedule,
         slots: u64,
         readers: usize,
     ) -> Result<(Broadcast, Vec<Port>, Vec<FeedReader>), AllocError>
         requires slots { slots ≤ 2 ^ 40 }
         requires readers { (0 < readers) × (readers < 5) }
-        ensures station { IfOk result (λ r. IsOpened (single plan) slots r.0.station r.1.items) }
+        ensures station { IfOk result (λ r. IsOpened schedule slots r.0.station r.1.items) }
         ensures feed { IfOk result (λ r. r.0 ≡ new_broadcast r.0.station r.0.feed) }
-        ensures readers { IfOk result (λ r. r.2.items ≡ replicate readers (new_reader plan r.0.feed)) }
+        ensures readers { IfOk result (λ r. r.2.items ≡ replicate readers (new_reader schedule r.0.feed)) }
     {
         let sent = Vec::with_capacity(alloc, MAX_STEPS)?;
-        let (feed, readers) = feed::open(rt, alloc, &plan, readers)?;
-        match Station::open(alloc, Schedule::single(alloc, plan), slots) {
+        let (feed, readers) = feed::open(rt, alloc, &schedule, readers)?;
+        match Station::open(alloc, schedule, slots) {
             Ok((station, ports)) => {
                 let broadcast = Broadcast {
                     station,
@@ -298,7 +296,7 @@ impl<E: PublishingEnd> Broadcast<E> {
     pub fn map_end<N: PublishingEnd, M: FnOnce(E) -> N>(self, make: M) -> Broadcast<N>
         requires made { (end : E) → M.pre make end }
         requires marked { (end : E) (made : N) → M.post make end made → E.is_marked end → N.is_marked made }
-        requires same { (end : E) (made : N) → M.post make end made → (N.feed made ≡ E.feed end) × (N.plan made ≡ E.plan end)
+        requires same { (end : E) (made : N) → M.post make end made → (N.feed made ≡ E.feed end) × (N.schedule made ≡ E.schedule end)
             × (N.published made ≡ E.published end) × (N.pending made ≡ E.pending end) }
         ensures { result ≡ self }
     {

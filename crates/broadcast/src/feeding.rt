@@ -75,7 +75,7 @@ pub(crate) fn publish_on<E: PublishingEnd, R: Wait>(
         return;
     }
     append_all(feed, sent, appended);
-    // What it sent is an emission of its plan.
+    // What it sent is an emission of its schedule.
     station.known();
     let _ = feed.publish(rt);
 }

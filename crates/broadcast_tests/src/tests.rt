@@ -14,6 +14,7 @@ mod recording;
 mod refusals;
 mod refusing_end;
 mod serial_bytes;
+mod switching;
 
 use crate::tests::asking::{
     delayed, ends, equals, is_refused, learns, reads, reads_the_pat, seals, sends, ticks, took,

@@ -5,8 +5,8 @@ use lib.ListN.{get_elem?}
 use Rattle.crossbeam_utils.specs.Register.{Admits, TurnsAt, Forks, Merges}
 use Rattle.atomic_table.proofs.Lists.{at_set, at_snoc}
 use Rattle.marks.specs.Marks.{FeedId}
-use Rattle.plan.specs.Build.{PlanValue}
-use Rattle.emission.specs.Emission.{IsEmission}
+use Rattle.schedule.specs.Schedule.{ScheduleValue}
+use Rattle.emission.specs.Spans.{IsEmissionOf}
 use Rattle.feed.specs.declared.knowledge.Knowledge.{Knowledge}
 use Rattle.feed.specs.Versions.{Version}
 use Rattle.feed.specs.Knowing.{Knows, newcomer, informed, feed_known}
@@ -24,9 +24,9 @@ set_all v ends seat k all now i u at = ⊎_elim (λ (t : (i ≡ seat) × (k ≡ 
 snoc_all : (v : Version) (ends : List Knowledge) (k : Knowledge) → AllKnow v ends → Knows v k → AllKnow v (ends ++ k ∷ [])
 snoc_all v ends k all now i u at = ⊎_elim (λ (t : At ends i u). all i u t) (λ (t : k ≡ u). subst (λ z. Knows v z) t now) (at_snoc ends k u i at)
 
-knows_on : (v next : Version) (k : Knowledge) → next.plan.value ≡ v.plan.value → next.mark.feed ≡ v.mark.feed → Knows v k → Knows next k
-knows_on v next k plan feed knows =
-    ⊎_elim (λ (e : k ≡ newcomer). inl e) (λ (e : k ≡ informed v.plan.value v.mark.feed). inr (e ∙ (λ i. informed (sym plan i) (sym feed i)))) knows
+knows_on : (v next : Version) (k : Knowledge) → next.schedule.value ≡ v.schedule.value → next.mark.feed ≡ v.mark.feed → Knows v k → Knows next k
+knows_on v next k schedule feed knows =
+    ⊎_elim (λ (e : k ≡ newcomer). inl e) (λ (e : k ≡ informed v.schedule.value v.mark.feed). inr (e ∙ (λ i. informed (sym schedule i) (sym feed i)))) knows
 
 pub admits : Admits Keeps newcomer
 admits v ends keeps = record { marked = keeps.marked; lawful = keeps.lawful; each = snoc_all v ends newcomer keeps.each (inl refl) }
@@ -39,12 +39,12 @@ enters seat k v ends keeps at =
       record { same = refl; marked = keeps.marked; lawful = keeps.lawful; known = knows },
     )
 
-pub publishes : (seat : ℕ) (k : Knowledge) (v next : Version) → next.plan.value ≡ v.plan.value → next.mark.feed ≡ v.mark.feed → next.packets.items ≡ next.mark.packets
-    → IsEmission next.plan.value next.packets.items → TurnsAt Keeps seat k v next (λ _ _ next now. Publishes next now)
-publishes seat k v next plan feed marked lawful ends keeps at =
-    let now : Knowledge = informed next.plan.value next.mark.feed in (
+pub publishes : (seat : ℕ) (k : Knowledge) (v next : Version) → next.schedule.value ≡ v.schedule.value → next.mark.feed ≡ v.mark.feed → next.packets.items ≡ next.mark.packets
+    → IsEmissionOf next.schedule.value next.packets.items → TurnsAt Keeps seat k v next (λ _ _ next now. Publishes next now)
+publishes seat k v next schedule feed marked lawful ends keeps at =
+    let now : Knowledge = informed next.schedule.value next.mark.feed in (
       now,
-      record { marked = marked; lawful = lawful; each = set_all next ends seat now (λ i u a. knows_on v next u plan feed (keeps.each i u a)) (inr refl) },
+      record { marked = marked; lawful = lawful; each = set_all next ends seat now (λ i u a. knows_on v next u schedule feed (keeps.each i u a)) (inr refl) },
       refl,
     )
 
@@ -58,15 +58,15 @@ joins seat k other told v ends keeps at apart there =
     let knows : Knows v told = ⊎_elim (λ (t : (other ≡ seat) × (told ≡ told)). absurd (apart t.0)) (λ (t : (other ≢ seat) × At ends other told). keeps.each other told t.1) (at_set ends seat other told told there) in
     record { marked = keeps.marked; lawful = keeps.lawful; each = set_all v (set ends seat told) other newcomer (set_all v ends seat told keeps.each knows) (inl refl) }
 
--- an end that was told of a plan and a feed sees a version of these
-pub sees_its_feed : (v : Version) (k : Knowledge) (p : PlanValue) (f : FeedId) → Knows v k → k ≡ informed p f → informed v.plan.value v.mark.feed ≡ informed p f
-sees_its_feed v k p f knows told = ⊎_elim (λ (e : k ≡ newcomer). absurd (never e)) (λ (e : k ≡ informed v.plan.value v.mark.feed). sym e ∙ told) knows
+-- an end that was told of a schedule and a feed sees a version of these
+pub sees_its_feed : (v : Version) (k : Knowledge) (p : ScheduleValue) (f : FeedId) → Knows v k → k ≡ informed p f → informed v.schedule.value v.mark.feed ≡ informed p f
+sees_its_feed v k p f knows told = ⊎_elim (λ (e : k ≡ newcomer). absurd (never e)) (λ (e : k ≡ informed v.schedule.value v.mark.feed). sym e ∙ told) knows
   where
     never : k ≡ newcomer → ⊥
     never e = let h : false ≡ true = sym (ap (λ (z : Knowledge). z.is_told) e) ∙ ap (λ (z : Knowledge). z.is_told) told in absurd (cc)
 
-pub same_feed : (p q : PlanValue) (f g : FeedId) → informed p f ≡ informed q g → f ≡ g
+pub same_feed : (p q : ScheduleValue) (f g : FeedId) → informed p f ≡ informed q g → f ≡ g
 same_feed p q f g e = ap feed_known e
 
-pub same_plan : (p q : PlanValue) (f g : FeedId) → informed p f ≡ informed q g → p ≡ q
-same_plan p q f g e = let h : Some p ≡ Some q = ap (λ (z : Knowledge). z.plan) e in cc
+pub same_schedule : (p q : ScheduleValue) (f g : FeedId) → informed p f ≡ informed q g → p ≡ q
+same_schedule p q f g e = let h : Some p ≡ Some q = ap (λ (z : Knowledge). z.schedule) e in cc

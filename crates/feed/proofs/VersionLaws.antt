@@ -13,9 +13,9 @@ pub mark_snoc : (c : Content) (appends : List Append) (a : Append) → (fold con
 mark_snoc c [] a = refl
 mark_snoc c (b ∷ appends) a = mark_snoc (content_after c b) appends a
 
-plan_stays : (c : Content) (appends : List Append) → (fold content_after c appends).plan ≡ c.plan
-plan_stays c [] = refl
-plan_stays c (a ∷ appends) = plan_stays (content_after c a) appends
+schedule_stays : (c : Content) (appends : List Append) → (fold content_after c appends).schedule ≡ c.schedule
+schedule_stays c [] = refl
+schedule_stays c (a ∷ appends) = schedule_stays (content_after c a) appends
 
 packets_grow : (c : Content) (appends : List Append) → (fold content_after c appends).packets ≡ c.packets ++ packets_in appends
 packets_grow c [] = sym (append-nil c.packets)
@@ -23,8 +23,8 @@ packets_grow c (a ∷ appends) = packets_grow (content_after c a) appends ∙ ap
 
 -- the next version, once these were appended to one
 module _ (v next : Version) (appends : List Append) (is : content_of next ≡ fold content_after (content_of v) appends) where
-  pub plan_kept : next.plan.value ≡ v.plan.value
-  plan_kept = ap (λ (c : Content). c.plan) is ∙ plan_stays (content_of v) appends
+  pub schedule_kept : next.schedule.value ≡ v.schedule.value
+  schedule_kept = ap (λ (c : Content). c.schedule) is ∙ schedule_stays (content_of v) appends
 
   pub packets_more : next.packets.items ≡ v.packets.items ++ packets_in appends
   packets_more = ap (λ (c : Content). c.packets) is ∙ packets_grow (content_of v) appends

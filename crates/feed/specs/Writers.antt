@@ -1,19 +1,19 @@
 -- What contracts see of the writer of a feed (profile).
 use Rattle.std.specs.Prelude.{◌≡◌, ℕ, List, [], ◌∷◌, ◌++◌, Bool, true, false, Option, Some, None}
 use Rattle.marks.specs.Marks.{FeedId, MarkValue}
-use Rattle.plan.specs.Build.{PlanValue}
+use Rattle.schedule.specs.Schedule.{ScheduleValue}
 
--- which feed, its plan, what was published, what was appended since, and whether it is sealed
+-- which feed, its schedule, what was published, what was appended since, and whether it is sealed
 pub record FeedWriterValue : Type 0 where
   pub feed : FeedId
-  pub plan : PlanValue
+  pub schedule : ScheduleValue
   pub published : List (List ℕ)
   pub behind : List (List ℕ)
   pub is_sealed : Bool
 
--- the writer of a new feed of this plan
-abbrev pub new_writer : FeedId → PlanValue → FeedWriterValue
-new_writer f p = record { feed = f; plan = p; published = []; behind = []; is_sealed = false }
+-- the writer of a new feed of this schedule
+abbrev pub new_writer : FeedId → ScheduleValue → FeedWriterValue
+new_writer f p = record { feed = f; schedule = p; published = []; behind = []; is_sealed = false }
 
 -- the mark of all that was published
 abbrev pub mark_of_published : FeedWriterValue → MarkValue

@@ -7,8 +7,8 @@ use crate::knowledge::Knowledge;
 use crate::version::Version;
 use crossbeam_utils::rule::Protocol;
 
-/// What holds of a feed between any two steps: the version that readers see is an emission of the plan, its mark is that of its
-/// packets, and each end knows nothing yet, or the plan and which feed it is.
+/// What holds of a feed between any two steps: the version that readers see is an emission of the schedule, its mark is that of its
+/// packets, and each end knows nothing yet, or the schedule and which feed it is.
 pub struct FeedRule;
 
 impl Protocol<Version, Knowledge> for FeedRule {

@@ -1,7 +1,7 @@
 //! The writer of a feed.
 
 ghost use Rattle.std.specs.Prelude.{◌≡◌, [], ◌∷◌, ◌++◌, true, false, length, None, MatchResult, MatchOption, MatchBool};
-ghost use Rattle.emission.specs.Emission.{IsEmission};
+ghost use Rattle.emission.specs.Spans.{IsEmissionOf};
 ghost use Rattle.feed.specs.Writers.{mark_of_published, list_of, KeepsOrder};
 
 use crate::publisher::Publisher;
@@ -12,7 +12,7 @@ use std::marker::Model;
 use std::sync::Wait;
 use tspkt::Packet;
 
-/// The end of a feed that publishes. Contracts see which feed it is and its plan, which never change, the packets that were
+/// The end of a feed that publishes. Contracts see which feed it is and its schedule, which never change, the packets that were
 /// published, those that are behind, that is, appended and not yet published, and whether the feed is sealed. It isn't `Drop`:
 /// end it by `close`.
 pub struct FeedWriter<E: PublishingEnd = Publisher> {
@@ -30,7 +30,7 @@ impl<E: PublishingEnd> Model for FeedWriter<E> {
 
     ghost view = { λ w. record {
       feed = w.sequence.feed;
-      plan = E.plan w.end;
+      schedule = E.schedule w.end;
       published = E.published w.end;
       behind = E.pending w.end ++ list_of w.held;
       is_sealed = w.sequence.is_sealed;
@@ -46,7 +46,7 @@ fn settle<E: PublishingEnd>(end: &mut E, sequence: &Sequence, held: &mut Option<
     requires order { KeepsOrder sequence.now (E.feed end.old) (E.published end.old) (E.pending end.old) held.old }
     ensures marked { E.is_marked end.new }
     ensures order { KeepsOrder sequence.now (E.feed end.new) (E.published end.new) (E.pending end.new) held.new }
-    ensures feed { (E.feed end.new ≡ E.feed end.old) × (E.plan end.new ≡ E.plan end.old) }
+    ensures feed { (E.feed end.new ≡ E.feed end.old) × (E.schedule end.new ≡ E.schedule end.old) }
     ensures published { E.published end.new ≡ E.published end.old }
     ensures behind { E.pending end.new ++ list_of held.new ≡ E.pending end.old ++ list_of held.old }
     ensures none { result ≡ true → held.new ≡ None }
@@ -88,7 +88,7 @@ impl<E: PublishingEnd> FeedWriter<E> {
     /// is copied once for each of two copies, so it is best called once for many packets.
     pub fn publish<R: Wait>(&mut self, rt: &R) -> Result<(), AllocError>
         requires open { self.old.is_sealed ≡ false }
-        requires lawful { IsEmission self.old.plan (self.old.published ++ self.old.behind) }
+        requires lawful { IsEmissionOf self.old.schedule (self.old.published ++ self.old.behind) }
         ensures { MatchResult result
             (λ _. self.new ≡ record self.old { published = self.old.published ++ self.old.behind; behind = [] })
             (λ _. self.new ≡ self.old) }
@@ -149,7 +149,7 @@ impl<E: PublishingEnd> FeedWriter<E> {
     pub fn map_end<N: PublishingEnd, M: FnOnce(E) -> N>(self, make: M) -> FeedWriter<N>
         requires made { (end : E) → M.pre make end }
         requires marked { (end : E) (made : N) → M.post make end made → E.is_marked end → N.is_marked made }
-        requires same { (end : E) (made : N) → M.post make end made → (N.feed made ≡ E.feed end) × (N.plan made ≡ E.plan end)
+        requires same { (end : E) (made : N) → M.post make end made → (N.feed made ≡ E.feed end) × (N.schedule made ≡ E.schedule end)
             × (N.published made ≡ E.published end) × (N.pending made ≡ E.pending end) }
         ensures { result ≡ self }
     {

@@ -1,9 +1,9 @@
-//! A reader that was told of its plan.
+//! A reader that was told of its schedule.
 
-/// The plan of a feed, which takes no bytes, and an end that reads. It is generic in both only so that it is found that it may be
+/// The schedule of a feed, which takes no bytes, and an end that reads. It is generic in both only so that it is found that it may be
 /// sent to another thread.
 #[derive(Drop)]
 pub struct Informed<P, R> {
-    pub plan: P,
+    pub schedule: P,
     pub reader: R,
 }

@@ -1,11 +1,11 @@
 //! What an end of a feed knows.
 
-use plan::Plan;
+use schedule::Schedule;
 
-/// Whether an end was told of its feed, and if so its plan and which feed it is. No value of it is made.
+/// Whether an end was told of its feed, and if so its schedule and which feed it is. No value of it is made.
 pub struct Knowledge {
     pub is_told: bool,
-    pub plan: Option<Plan>,
+    pub schedule: Option<Schedule>,
     pub number: u64,
     pub log_name: u64,
     pub cells_name: u64,

@@ -1,7 +1,7 @@
 //! The feed of what was sent: one writer publishes packets, and readers read them beside it.
 //!
-//! A feed is opened for a plan and for so many readers. Its `FeedWriter` appends packets, which readers don't see yet, and
-//! publishes them: what is published only grows, and is an emission of the plan each time. Each `FeedReader` reads all that is
+//! A feed is opened for a schedule and for so many readers. Its `FeedWriter` appends packets, which readers don't see yet, and
+//! publishes them: what is published only grows, and is an emission of the schedule each time. Each `FeedReader` reads all that is
 //! published, each packet once and in order, with no lock and without waiting, and copies it into room of its own. A mark says
 //! how far the feed went when it was made: a reader that learns it reads no less from then on. The mark of `seal` is the last:
 //! nothing is published after it.

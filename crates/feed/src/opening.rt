@@ -17,17 +17,17 @@ use crate::reader_end::ReaderEnd;
 use crate::version::{Version, VersionOf};
 use left_right::writer::Writer;
 use marks::Sequence;
-use plan::Plan;
+use schedule::Schedule;
 use std::alloc::{AllocError, Global};
 use std::snapshot::Snapshot;
 use std::sync::Wait;
 
 /// A version of which nothing is published.
-fn empty(alloc: Global, plan: &Plan, sequence: &Sequence) -> Version
-    ensures { (result.plan.value ≡ plan.now) × (result.packets.items ≡ []) × (result.mark ≡ sequence.now) }
+fn empty(alloc: Global, schedule: &Schedule, sequence: &Sequence) -> Version
+    ensures { (result.schedule.value ≡ schedule.now) × (result.packets.items ≡ []) × (result.mark ≡ sequence.now) }
 {
     VersionOf {
-        plan: Snapshot::of(plan),
+        schedule: Snapshot::of(schedule),
         packets: Vec::new(alloc),
         mark: sequence.mark(),
     }
@@ -37,17 +37,17 @@ fn empty(alloc: Global, plan: &Plan, sequence: &Sequence) -> Version
 fn new_publisher<R: Wait>(
     rt: &R,
     alloc: Global,
-    plan: &Plan,
+    schedule: &Schedule,
     sequence: &Sequence,
     readers: usize,
 ) -> Result<Publisher, AllocError>
     requires readers { (0 < readers) × (readers < 5) }
     requires empty { sequence.now ≡ open_mark sequence.now.feed [] }
-    ensures { IfOk result (λ w. IsNewEnd plan.now sequence.now.feed
+    ensures { IfOk result (λ w. IsNewEnd schedule.now sequence.now.feed
         (view w.desk.place) w.desk.shown.value (drop w.behind w.log.items)) }
 {
-    let first = empty(alloc, plan, sequence);
-    let second = empty(alloc, plan, sequence);
+    let first = empty(alloc, schedule, sequence);
+    let second = empty(alloc, schedule, sequence);
     let writer: Publisher = Writer::new(alloc, first, second, readers)?;
     let (writer, done) = writer.publish_as::<Publishing, R>(rt);
     match done {
@@ -60,16 +60,16 @@ fn new_publisher<R: Wait>(
 }
 
 /// A new end that reads, which is told what the writer knows.
-fn new_reader_end(writer: &mut Publisher, plan: &Plan) -> Result<ReaderEnd, AllocError>
+fn new_reader_end(writer: &mut Publisher, schedule: &Schedule) -> Result<ReaderEnd, AllocError>
     ensures writer { (view writer.new.desk.place ≡ view writer.old.desk.place) × (writer.new.desk.shown ≡ writer.old.desk.shown)
         × (writer.new.log ≡ writer.old.log) × (writer.new.behind ≡ writer.old.behind) }
-    ensures told { IfOk result (λ r. (view r.reader.place ≡ view writer.old.desk.place) × (r.plan.value ≡ plan.now)) }
+    ensures told { IfOk result (λ r. (view r.reader.place ≡ view writer.old.desk.place) × (r.schedule.value ≡ schedule.now)) }
 {
     let mut reader = writer.factory().reader()?;
     let note = writer.tell::<Joining>();
     reader.learn::<Joining>(note);
     Ok(Informed {
-        plan: Snapshot::of(plan),
+        schedule: Snapshot::of(schedule),
         reader,
     })
 }
@@ -77,21 +77,21 @@ fn new_reader_end(writer: &mut Publisher, plan: &Plan) -> Result<ReaderEnd, Allo
 /// Adds so many new readers to the list, which is empty.
 fn add_readers(
     writer: &mut Publisher,
-    plan: &Plan,
+    schedule: &Schedule,
     sequence: &Sequence,
     readers: usize,
     all: &mut Vec<FeedReader>,
 ) -> Result<(), AllocError>
-    requires new { IsNewEnd plan.now sequence.now.feed
+    requires new { IsNewEnd schedule.now sequence.now.feed
         (view writer.old.desk.place) writer.old.desk.shown.value (drop writer.old.behind writer.old.log.items) }
     requires none { all.old.items ≡ [] }
     requires empty { sequence.now ≡ open_mark sequence.now.feed [] }
-    ensures new { IsNewEnd plan.now sequence.now.feed
+    ensures new { IsNewEnd schedule.now sequence.now.feed
         (view writer.new.desk.place) writer.new.desk.shown.value (drop writer.new.behind writer.new.log.items) }
-    ensures readers { OnOk result (all.new.items ≡ replicate readers (new_reader plan.now sequence.now.feed)) }
+    ensures readers { OnOk result (all.new.items ≡ replicate readers (new_reader schedule.now sequence.now.feed)) }
 {
     for _ in 0..readers {
-        let end = new_reader_end(writer, plan)?;
+        let end = new_reader_end(writer, schedule)?;
         let reader = FeedReader {
             end,
             known: sequence.mark(),
@@ -104,22 +104,22 @@ fn add_readers(
     Ok(())
 }
 
-/// Opens a feed of this plan, of which nothing is published, with 1 to 4 readers, which read nothing yet. It refuses only for want
+/// Opens a feed of this schedule, of which nothing is published, with 1 to 4 readers, which read nothing yet. It refuses only for want
 /// of memory.
 pub fn open<R: Wait>(
     rt: &R,
     alloc: Global,
-    plan: &Plan,
+    schedule: &Schedule,
     readers: usize,
 ) -> Result<(FeedWriter, Vec<FeedReader>), AllocError>
     requires readers { (0 < readers) × (readers < 5) }
-    ensures writer { IfOk result (λ t. t.0 ≡ new_writer t.0.feed plan.now) }
-    ensures readers { IfOk result (λ t. t.1.items ≡ replicate readers (new_reader plan.now t.0.feed)) }
+    ensures writer { IfOk result (λ t. t.0 ≡ new_writer t.0.feed schedule.now) }
+    ensures readers { IfOk result (λ t. t.1.items ≡ replicate readers (new_reader schedule.now t.0.feed)) }
 {
     let sequence = Sequence::new();
     let mut all = Vec::with_capacity(alloc, readers)?;
-    let mut end = new_publisher(rt, alloc, plan, &sequence, readers)?;
-    if add_readers(&mut end, plan, &sequence, readers, &mut all).is_err() {
+    let mut end = new_publisher(rt, alloc, schedule, &sequence, readers)?;
+    if add_readers(&mut end, schedule, &sequence, readers, &mut all).is_err() {
         end.take(rt);
         return Err(AllocError);
     }

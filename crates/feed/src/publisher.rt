@@ -1,7 +1,7 @@
 //! The writer of `left_right`, as the end of a feed.
 
 ghost use Rattle.std.specs.Prelude.{◌≡◌, [], ◌++◌, drop, MatchResult};
-ghost use Rattle.emission.specs.Emission.{IsEmission};
+ghost use Rattle.emission.specs.Spans.{IsEmissionOf};
 ghost use Rattle.left_right.specs.Sides.{view};
 ghost use Rattle.feed.specs.Knowing.{feed_known};
 ghost use Rattle.feed.specs.Versions.{packets_in};
@@ -26,11 +26,11 @@ pub type Publisher = Writer<Version, Append, Knowledge, FeedRule>;
 /// Publishes what is pending, or nothing.
 fn publish_all<R: Wait>(writer: Publisher, rt: &R) -> (Publisher, Result<(), AllocError>)
     requires marked { IsMarked (view writer.desk.place) writer.desk.shown.value (drop writer.behind writer.log.items) }
-    requires lawful { IsEmission writer.desk.shown.value.plan.value
+    requires lawful { IsEmissionOf writer.desk.shown.value.schedule.value
         (writer.desk.shown.value.packets.items ++ packets_in (drop writer.behind writer.log.items)) }
     ensures marked { IsMarked (view result.0.desk.place) result.0.desk.shown.value (drop result.0.behind result.0.log.items) }
     ensures feed { feed_known (view result.0.desk.place) ≡ feed_known (view writer.desk.place) }
-    ensures plan { result.0.desk.shown.value.plan.value ≡ writer.desk.shown.value.plan.value }
+    ensures schedule { result.0.desk.shown.value.schedule.value ≡ writer.desk.shown.value.schedule.value }
     ensures published { MatchResult result.1
         (λ _. (result.0.desk.shown.value.packets.items
         ≡ writer.desk.shown.value.packets.items ++ packets_in (drop writer.behind writer.log.items))
@@ -48,7 +48,7 @@ fn publish_all<R: Wait>(writer: Publisher, rt: &R) -> (Publisher, Result<(), All
 impl PublishingEnd for Publisher {
     ghost feed = { λ w. feed_known (view w.desk.place) };
 
-    ghost plan = { λ w. w.desk.shown.value.plan.value };
+    ghost schedule = { λ w. w.desk.shown.value.schedule.value };
 
     ghost published = { λ w. w.desk.shown.value.packets.items };
 

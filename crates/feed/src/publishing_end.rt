@@ -1,21 +1,21 @@
 //! The end of a feed that publishes.
 
 ghost use Rattle.std.specs.Prelude.{◌≡◌, ℕ, List, [], ◌∷◌, ◌++◌, MatchBool, MatchResult};
-ghost use Rattle.emission.specs.Emission.{IsEmission};
+ghost use Rattle.emission.specs.Spans.{IsEmissionOf};
 ghost use Rattle.marks.specs.Marks.{FeedId, open_mark};
-ghost use Rattle.plan.specs.Build.{PlanValue};
+ghost use Rattle.schedule.specs.Schedule.{ScheduleValue};
 
 use marks::Mark;
 use std::alloc::AllocError;
 use std::sync::Wait;
 use tspkt::Packet;
 
-/// What a `FeedWriter` knows of its end: the plan and the feed that it is of, what was published, and what was appended and isn't
+/// What a `FeedWriter` knows of its end: the schedule and the feed that it is of, what was published, and what was appended and isn't
 /// published yet. `Publisher` is one.
 pub trait PublishingEnd {
     ghost feed: { Self → FeedId };
 
-    ghost plan: { Self → PlanValue };
+    ghost schedule: { Self → ScheduleValue };
 
     ghost published: { Self → List (List ℕ) };
 
@@ -29,7 +29,7 @@ pub trait PublishingEnd {
         requires marked { is_marked self.old }
         requires mark { mark ≡ open_mark (feed self.old) (published self.old ++ (pending self.old ++ packet ∷ [])) }
         ensures marked { is_marked self.new }
-        ensures feed { (feed self.new ≡ feed self.old) × (plan self.new ≡ plan self.old) }
+        ensures feed { (feed self.new ≡ feed self.old) × (schedule self.new ≡ schedule self.old) }
         ensures published { published self.new ≡ published self.old }
         ensures pending { MatchBool result (pending self.new ≡ pending self.old ++ packet ∷ []) (pending self.new ≡ pending self.old) };
 
@@ -37,9 +37,9 @@ pub trait PublishingEnd {
     /// brought up to date.
     fn publish<R: Wait>(&mut self, rt: &R) -> Result<(), AllocError>
         requires marked { is_marked self.old }
-        requires lawful { IsEmission (plan self.old) (published self.old ++ pending self.old) }
+        requires lawful { IsEmissionOf (schedule self.old) (published self.old ++ pending self.old) }
         ensures marked { is_marked self.new }
-        ensures feed { (feed self.new ≡ feed self.old) × (plan self.new ≡ plan self.old) }
+        ensures feed { (feed self.new ≡ feed self.old) × (schedule self.new ≡ schedule self.old) }
         ensures published { MatchResult result
             (λ _. (published self.new ≡ published self.old ++ pending self.old) × (pending self.new ≡ []))
             (λ _. (published self.new ≡ published self.old) × (pending self.new ≡ pending self.old)) };

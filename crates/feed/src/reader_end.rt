@@ -1,7 +1,7 @@
 //! The reader of `left_right`, as the end of a feed.
 
 ghost use Rattle.std.specs.Prelude.{◌≡◌, ◌≤◌, [], length, take, drop, vec_capacity, MatchOption};
-ghost use Rattle.emission.specs.Emission.{IsEmission};
+ghost use Rattle.emission.specs.Spans.{IsEmissionOf};
 ghost use Rattle.left_right.specs.Sides.{view};
 ghost use Rattle.marks.specs.Marks.{Begins};
 ghost use Rattle.feed.specs.Knowing.{informed};
@@ -15,12 +15,12 @@ use crate::version::Version;
 use core::mem::{replace, replace_with};
 use left_right::reader::Reader;
 use marks::Mark;
-use plan::Plan;
+use schedule::Schedule;
 use std::snapshot::Snapshot;
 use tspkt::Packet;
 
 /// The end that reads one of two copies of what is published.
-pub type ReaderEnd = Informed<Snapshot<Plan>, Reader<Version, Knowledge, FeedRule>>;
+pub type ReaderEnd = Informed<Snapshot<Schedule>, Reader<Version, Knowledge, FeedRule>>;
 
 /// Copies what stands behind the first so many packets, at most `most`, into the room of the piece.
 fn copy_behind(all: &[Packet], count: usize, piece: &mut Vec<Packet>, most: usize)
@@ -44,40 +44,40 @@ fn read_behind(
     piece: &mut Vec<Packet>,
     most: usize,
 ) -> (ReaderEnd, Option<Mark>)
-    requires told { view end.reader.place ≡ informed end.plan.value known.now.feed }
+    requires told { view end.reader.place ≡ informed end.schedule.value known.now.feed }
     requires count { count ≤ length known.now.packets }
     requires room { most ≤ vec_capacity piece.old }
-    ensures told { view result.0.reader.place ≡ informed end.plan.value known.now.feed }
-    ensures plan { result.0.plan.value ≡ end.plan.value }
+    ensures told { view result.0.reader.place ≡ informed end.schedule.value known.now.feed }
+    ensures schedule { result.0.schedule.value ≡ end.schedule.value }
     ensures shown { MatchOption result.1 (piece.new.items ≡ []) (λ shown. Begins known.now shown
-        × (piece.new.items ≡ take most (drop count shown.packets)) × IsEmission end.plan.value shown.packets) }
+        × (piece.new.items ≡ take most (drop count shown.packets)) × IsEmissionOf end.schedule.value shown.packets) }
     ensures room { vec_capacity piece.old ≤ vec_capacity piece.new }
 {
-    let Informed { plan, reader } = end;
+    let Informed { schedule, reader } = end;
     match reader.enter_as::<Reading>() {
         Err(reader) => {
             piece.clear();
-            (Informed { plan, reader }, None)
+            (Informed { schedule, reader }, None)
         }
         Ok(reading) => {
             let version = reading.get();
             if version.mark.count() < known.count() {
                 piece.clear();
                 let reader = reading.leave();
-                return (Informed { plan, reader }, None);
+                return (Informed { schedule, reader }, None);
             }
             let shown = known.later(&version.mark);
             copy_behind(version.packets.as_slice(), count, piece, most);
             let reader = reading.leave();
-            (Informed { plan, reader }, Some(shown))
+            (Informed { schedule, reader }, Some(shown))
         }
     }
 }
 
 impl ReadingEnd for ReaderEnd {
-    ghost plan = { λ r. r.plan.value };
+    ghost schedule = { λ r. r.schedule.value };
 
-    ghost is_told = { λ feed r. view r.reader.place ≡ informed r.plan.value feed };
+    ghost is_told = { λ feed r. view r.reader.place ≡ informed r.schedule.value feed };
 
     fn read(
         &mut self,

@@ -1,16 +1,16 @@
 //! The end of a feed that reads.
 
 ghost use Rattle.std.specs.Prelude.{◌≡◌, ℕ, ◌-◌, ◌≤◌, [], length, take, drop, vec_capacity, MatchOption};
-ghost use Rattle.emission.specs.Emission.{IsEmission};
+ghost use Rattle.emission.specs.Spans.{IsEmissionOf};
 ghost use Rattle.marks.specs.Marks.{FeedId, Begins};
-ghost use Rattle.plan.specs.Build.{PlanValue};
+ghost use Rattle.schedule.specs.Schedule.{ScheduleValue};
 
 use marks::Mark;
 use tspkt::Packet;
 
-/// What a `FeedReader` knows of its end: its plan, and which feed it was told of. `ReaderEnd` is one.
+/// What a `FeedReader` knows of its end: its schedule, and which feed it was told of. `ReaderEnd` is one.
 pub trait ReadingEnd {
-    ghost plan: { Self → PlanValue };
+    ghost schedule: { Self → ScheduleValue };
 
     // it was told of this feed
     ghost is_told: { FeedId → Self → Type 0 };
@@ -29,8 +29,8 @@ pub trait ReadingEnd {
         requires count { count ≤ length known.now.packets }
         requires room { most ≤ vec_capacity piece.old }
         ensures told { is_told known.now.feed self.new }
-        ensures plan { plan self.new ≡ plan self.old }
+        ensures schedule { schedule self.new ≡ schedule self.old }
         ensures shown { MatchOption result (piece.new.items ≡ []) (λ shown. Begins known.now shown
-            × (piece.new.items ≡ take most (drop count shown.packets)) × IsEmission (plan self.old) shown.packets) }
+            × (piece.new.items ≡ take most (drop count shown.packets)) × IsEmissionOf (schedule self.old) shown.packets) }
         ensures room { vec_capacity piece.old ≤ vec_capacity piece.new };
 }

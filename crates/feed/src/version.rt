@@ -6,27 +6,27 @@ use crate::append::Append;
 use crate::content::Content;
 use left_right::Absorb;
 use marks::Mark;
-use plan::Plan;
+use schedule::Schedule;
 use std::alloc::AllocError;
 use std::snapshot::Snapshot;
 use tspkt::Packet;
 
-/// The packets that were published, the mark of them, and the plan, which takes no bytes. It is generic in two of them only
+/// The packets that were published, the mark of them, and the schedule, which takes no bytes. It is generic in two of them only
 /// so that it is found that it may be sent to another thread: of a struct that names both no proof of it is found.
 #[derive(Drop)]
 pub struct VersionOf<P, M> {
-    pub plan: P,
+    pub schedule: P,
     pub packets: Vec<Packet>,
     pub mark: M,
 }
 
 /// A version of a feed.
-pub type Version = VersionOf<Snapshot<Plan>, Mark>;
+pub type Version = VersionOf<Snapshot<Schedule>, Mark>;
 
 impl Absorb<Append> for Version {
     type State = Content;
 
-    ghost state = { λ v. record { plan = v.plan.value; packets = v.packets.items; mark = v.mark } };
+    ghost state = { λ v. record { schedule = v.schedule.value; packets = v.packets.items; mark = v.mark } };
 
     ghost applied = { content_after };
 

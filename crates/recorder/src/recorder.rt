@@ -38,7 +38,7 @@ pub struct Recorder<W: Sink, E: ReadingEnd + Drop = ReaderEnd> {
 
 impl<W: Sink, E: ReadingEnd + Drop> Model for Recorder<W, E> {
     ghost use Rattle.std.specs.Prelude.{◌≡◌};
-    ghost use Rattle.emission.specs.Emission.{IsEmission};
+    ghost use Rattle.emission.specs.Spans.{IsEmissionOf};
     ghost use Rattle.recorder.specs.Recording.{RecorderValue, HasWritten};
 
     ghost Value = { RecorderValue W };
@@ -51,7 +51,7 @@ impl<W: Sink, E: ReadingEnd + Drop> Model for Recorder<W, E> {
     } };
 
     ghost invariant = { λ r. HasWritten (W.contents r.given.value) (W.contents r.sink) r.has_failed r.reader.read
-        × IsEmission r.reader.plan r.reader.read };
+        × IsEmissionOf r.reader.schedule r.reader.read };
 }
 
 /// Makes room for a piece and its bytes, once.
@@ -127,9 +127,9 @@ impl<W: Sink, E: ReadingEnd + Drop> Recorder<W, E> {
     pub fn finish(self, mark: Mark) -> (W, Result<(), RecordFault>)
         requires { mark.feed ≡ self.reader.known.feed }
         ensures ok { OnOk result.1
-            (EndsWhole self.reader.plan self.reader.read mark (W.contents self.given) (W.contents result.0)) }
+            (EndsWhole self.reader.schedule self.reader.read mark (W.contents self.given) (W.contents result.0)) }
         ensures err { OnErr result.1
-            (EndsWithin self.reader.plan self.reader.read (W.contents self.given) (W.contents result.0)) }
+            (EndsWithin self.reader.schedule self.reader.read (W.contents self.given) (W.contents result.0)) }
         ensures wrote { OnOk result.1 (W.failures result.0 ≡ W.failures self.sink) }
         ensures memory { result.1 ≡ Err RecordFault.Memory → W.failures result.0 ≡ W.failures self.sink }
         ensures failed { result.1 ≡ Err RecordFault.Write

@@ -8,8 +8,8 @@ use crate::tests::asking::offers;
 use broadcast::Broadcast;
 use example::plan_with_rings;
 use feed::FeedReader;
-use plan::Plan;
 use port::Port;
+use schedule::Schedule;
 use std::alloc::Global;
 use std::process::Abort;
 use std::sync::Wait;
@@ -22,14 +22,15 @@ pub struct Seats {
 }
 
 /// The example plan with one input and one stream, whose queue and ring have room for 8 packets.
-fn plan_of(rt: &impl Abort, alloc: Global) -> Plan
-    ensures inputs { length result.request.inputs ≡ 1 }
-    ensures streams { length result.request.streams ≡ 1 }
+fn schedule_of(rt: &impl Abort, alloc: Global) -> Schedule
+    ensures inputs { length result.first.request.inputs ≡ 1 }
+    ensures streams { length (all_streams result) ≡ 1 }
 {
     let plan = plan_with_rings(alloc, 8, 8, &[0]).expect(rt, "a plan");
-    assert!(rt; plan.inputs().len() == 1);
-    assert!(rt; plan.streams().len() == 1);
-    plan
+    let schedule = Schedule::single(alloc, plan);
+    assert!(rt; schedule.plan(0).inputs().len() == 1);
+    assert!(rt; schedule.streams().len() == 1);
+    schedule
 }
 
 /// A broadcast of that plan, its readers, which read nothing, and the port of its input, with the first so many packets in the ring.
@@ -40,8 +41,8 @@ pub fn open<T: Abort + Wait>(rt: &T, alloc: Global, packets: u8) -> (Seats, Port
     ensures inputs { input_count result.0.broadcast.station.history.run.schedule ≡ 1 }
     ensures streams { length (all_streams result.0.broadcast.station.history.run.schedule) ≡ 1 }
 {
-    let plan = plan_of(rt, alloc);
-    let (broadcast, mut ports, mut readers) = Broadcast::open(rt, alloc, plan, 1_000, 2).expect(
+    let schedule = schedule_of(rt, alloc);
+    let (broadcast, mut ports, mut readers) = Broadcast::open(rt, alloc, schedule, 1_000, 2).expect(
         rt,
         "a broadcast",
     );

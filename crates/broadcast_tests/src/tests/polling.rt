@@ -6,8 +6,8 @@ use broadcast::{Broadcast, MAX_STEPS, TickedSlot};
 use example::plan_with_rings;
 use feed::{FeedReader, PublishingEnd, ReadingEnd};
 use mux::Sending;
-use plan::Plan;
 use port::Port;
+use schedule::Schedule;
 use std::alloc::Global;
 use std::process::Abort;
 use std::sync::{Mutex, Wait};
@@ -28,7 +28,7 @@ struct Work {
 
 /// Offers the next packets of an input, of which it has so many, as long as the ring has room, and the end mark behind them all. The
 /// port comes back until the mark went into the ring.
-fn send_more(rt: &impl Abort, port: Port, packets: u32, sent: &mut u64) -> Option<Port> {
+pub fn send_more(rt: &impl Abort, port: Port, packets: u32, sent: &mut u64) -> Option<Port> {
     let mut port = port;
     while *sent < u64::from(packets) {
         if port.offer(item(rt, *sent)).is_err() {
@@ -65,7 +65,9 @@ fn send_and_tick<T: Wait + Abort, B: GoesOn>(rt: &T, shared: &Mutex<B>, port: Po
         };
         let slot = shared.lock(rt).goes_on(rt, work.steps);
         match slot {
-            TickedSlot::Answered(Sending::Sent | Sending::NotReady(_)) => thread::yield_now(),
+            TickedSlot::Answered(Sending::Sent | Sending::Switched | Sending::NotReady(_)) => {
+                thread::yield_now()
+            }
             _ => break,
         }
     }
@@ -78,7 +80,7 @@ fn after<'a>(rt: &impl Abort, packet: &Packet, bytes: &'a [u8]) -> &'a [u8] {
 }
 
 /// Reads on. What is read stands at the front of these bytes: those after it.
-fn reads_on<'a, R: ReadingEnd + Drop>(
+pub fn reads_on<'a, R: ReadingEnd + Drop>(
     rt: &impl Abort,
     alloc: Global,
     reader: &mut FeedReader<R>,
@@ -93,7 +95,7 @@ fn reads_on<'a, R: ReadingEnd + Drop>(
 }
 
 /// Reads until these bytes were read, and nothing else.
-fn polls<T: Wait + Abort, R: ReadingEnd + Drop>(
+pub fn polls<T: Wait + Abort, R: ReadingEnd + Drop>(
     rt: &T,
     alloc: Global,
     reader: FeedReader<R>,
@@ -185,7 +187,7 @@ fn last_two<V>(rt: &impl Abort, list: &mut Vec<V>) -> (V, V) {
 }
 
 /// The bytes of an input of so many packets.
-fn input_bytes(rt: &impl Abort, alloc: Global, packets: u32) -> Vec<u8> {
+pub fn input_bytes(rt: &impl Abort, alloc: Global, packets: u32) -> Vec<u8> {
     let mut bytes = Vec::new(alloc);
     for k in 0..packets {
         let packet = item(rt, u64::from(k)).packet;
@@ -194,9 +196,10 @@ fn input_bytes(rt: &impl Abort, alloc: Global, packets: u32) -> Vec<u8> {
     bytes
 }
 
-/// The example plan with two inputs.
-fn plan_of_two(rt: &impl Abort, alloc: Global, room: usize) -> Plan {
-    plan_with_rings(alloc, room.min(8), room, &[0, 0]).expect(rt, "a plan")
+/// The example plan with two inputs, alone.
+fn schedule_of_two(rt: &impl Abort, alloc: Global, room: usize) -> Schedule {
+    let plan = plan_with_rings(alloc, room.min(8), room, &[0, 0]).expect(rt, "a plan");
+    Schedule::single(alloc, plan)
 }
 
 /// The bytes of the run in one thread, whose inputs have so many packets.
@@ -205,7 +208,7 @@ fn bytes_in_one_thread(rt: &impl Abort, alloc: Global, work: Work) -> Vec<u8> {
     serial_bytes(
         rt,
         alloc,
-        plan_of_two(rt, alloc, work.room),
+        schedule_of_two(rt, alloc, work.room),
         input.as_slice(),
     )
 }
@@ -219,11 +222,10 @@ struct Seats {
 }
 
 fn open<T: Abort + Wait>(rt: &T, alloc: Global, room: usize) -> Seats {
-    let plan = plan_of_two(rt, alloc, room);
-    let (broadcast, mut ports, mut readers) = Broadcast::open(rt, alloc, plan, 1_000_000, 3).expect(
-        rt,
-        "a broadcast",
-    );
+    let schedule = schedule_of_two(rt, alloc, room);
+    let (broadcast, mut ports, mut readers) = Broadcast::open(
+        rt, alloc, schedule, 1_000_000, 3,
+    ).expect(rt, "a broadcast");
     Seats {
         broadcast,
         ports: last_two(rt, &mut ports),

@@ -18,7 +18,7 @@ pub struct RefusingEnd<E: PublishingEnd> {
 impl<E: PublishingEnd> PublishingEnd for RefusingEnd<E> {
     ghost feed = { λ r. E.feed r.end };
 
-    ghost plan = { λ r. E.plan r.end };
+    ghost schedule = { λ r. E.schedule r.end };
 
     ghost published = { λ r. E.published r.end };
 

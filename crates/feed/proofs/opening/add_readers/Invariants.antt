@@ -7,6 +7,6 @@ use Rattle.feed.proofs.opening.add_readers.Given as goal
 -- the end is still a new one, and so are the readers so far
 abbrev pub invariant-loop : goal.invariant-loop
 invariant-loop l = record {
-  new : IsNewEnd l.plan l.sequence.feed (view l.writer.desk.place) l.writer.desk.shown.value (drop l.writer.behind l.writer.log.items);
-  readers : l.all.items ≡ replicate l.counter (new_reader l.plan l.sequence.feed);
+  new : IsNewEnd l.schedule l.sequence.feed (view l.writer.desk.place) l.writer.desk.shown.value (drop l.writer.behind l.writer.log.items);
+  readers : l.all.items ≡ replicate l.counter (new_reader l.schedule l.sequence.feed);
 }

@@ -9,9 +9,9 @@ publish-requires-clause-lawful g c =
     let old = c.args.self.now in
     let end = c.settle.new.end in
     let none : c.settle.new.held ≡ None = search rules in
-    let plan : E.plan end ≡ old.plan = c.settle.ensures.feed.1 ∙ ap (λ (w : FeedWriterValue). w.plan) c.self.view_is in
+    let schedule : E.schedule end ≡ old.schedule = c.settle.ensures.feed.1 ∙ ap (λ (w : FeedWriterValue). w.schedule) c.self.view_is in
     let published : E.published end ≡ old.published = c.settle.ensures.published ∙ ap (λ (w : FeedWriterValue). w.published) c.self.view_is in
     let ends = E.pending end in
     let nothing : ends ≡ ends ++ list_of c.settle.new.held = sym (append-nil ends) ∙ ap (λ h. ends ++ list_of h) (sym none) in
     let pending : ends ≡ old.behind = nothing ∙ (c.settle.ensures.behind ∙ ap (λ (w : FeedWriterValue). w.behind) c.self.view_is) in
-    lawful_as old.plan (E.plan end) (old.published ++ old.behind) (E.published end ++ E.pending end) plan (λ i. published i ++ pending i) c.requires.lawful
+    lawful_as old.schedule (E.schedule end) (old.published ++ old.behind) (E.published end ++ E.pending end) schedule (λ i. published i ++ pending i) c.requires.lawful
