@@ -2,7 +2,9 @@
 
 mod devices;
 mod gates;
+mod inputs;
 mod random_turns;
 mod runs;
 mod stops;
+mod switches;
 mod turn_gates;

@@ -1,11 +1,12 @@
 //! Runs whose gates hold their inputs back by random numbers: each writes what the run in one thread writes. A test makes 125 of
 //! them, so that it ends in time on a machine that is busy.
 
+use crate::threaded_tests::inputs::Inputs;
 use crate::threaded_tests::runs::{run_gated, written_in_one};
 use crate::threaded_tests::turn_gates::RandomGate;
 use anyhow::Result;
 use example::plan_with_rings;
-use plan::Plan;
+use schedule::Schedule;
 use std::alloc::Global;
 use std::ops::Range;
 use std::process::Abort;
@@ -14,6 +15,12 @@ use std::test::Fail;
 use std::thread::Threads;
 use std::time::Clock;
 
+/// The inputs of each run.
+const INPUTS: Inputs = Inputs {
+    count: 2,
+    packets: 5,
+};
+
 /// The runs with these numbers, through queues and rings of so many packets.
 fn run_random<T: Threads + Wait + Clock + Abort + Copy + Send + Drop + 'static>(
     alloc: Global,
@@ -21,24 +28,25 @@ fn run_random<T: Threads + Wait + Clock + Abort + Copy + Send + Drop + 'static>(
     room: usize,
     runs: Range<u64>,
 ) -> Result<()> {
-    let plan = plan_with_rings(alloc, room, room, &[0, 0])?;
-    let serial_bytes = written_in_one(alloc, &plan)?;
+    let schedule = Schedule::single(alloc, plan_with_rings(alloc, room, room, &[0, 0])?);
+    let serial_bytes = written_in_one(alloc, &schedule, 1_000, INPUTS)?;
     // Four table packets and ten of the inputs.
     assert_eq!(rt; serial_bytes.len(), 2_632);
-    write_random(alloc, rt, &plan, &serial_bytes, runs)
+    write_random(alloc, rt, &schedule, &serial_bytes, runs)
 }
 
-/// The runs with these numbers over a plan write these bytes.
+/// The runs with these numbers by a schedule write these bytes.
 fn write_random<T: Threads + Wait + Clock + Abort + Copy + Send + Drop + 'static>(
     alloc: Global,
     rt: T,
-    plan: &Plan,
+    schedule: &Schedule,
     serial_bytes: &[u8],
     runs: Range<u64>,
 ) -> Result<()> {
     for run in runs {
         let gates = vec![in alloc; RandomGate::new(run, 0), RandomGate::new(run, 1)]?;
-        let (bytes, _, _) = run_gated(alloc, rt, plan.copy(alloc)?, 1_000, gates)?;
+        let schedule = schedule.copy(alloc)?;
+        let (bytes, _, _) = run_gated(alloc, rt, schedule, 1_000, INPUTS, gates)?;
         assert!(rt; bytes.as_slice() == serial_bytes, "run {run}");
     }
     Ok(())
