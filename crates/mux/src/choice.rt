@@ -105,6 +105,7 @@ fn better_head(
 
 /// Of the heads that are due, and that their streams' buckets have room for, the one that goes
 /// first: that of the least time, and of these that of the least output PID. The heads are given beside the queues.
+#[inline(always)]
 pub(crate) fn choose(
     streams: &[Stream],
     queues: &[PidQueue],

@@ -38,6 +38,7 @@ mod sending;
 mod slot;
 mod slot_clock;
 mod span;
+mod standing;
 mod taken;
 mod totals;
 

@@ -1,23 +1,30 @@
 //! A place for the packet of a slot.
 
 use crate::outgoing::Outgoing;
+use crate::standing::Standing;
 use std::marker::Model;
 use tspkt::{Packet, null};
 
-/// A place for the packet of one slot. Once it is cleared the next slot's is written where that one stood.
+/// A place for the packet of one slot. Once it is cleared the next slot's is written where that one stood; a null packet is
+/// told, and not written.
 #[derive(Drop)]
 pub struct OnePacket {
-    packet: Packet,
-    is_there: bool,
+    standing: Standing,
+    /// The last one that was written here.
+    other: Packet,
+    null: Packet,
 }
 
 impl Model for OnePacket {
-    ghost use Rattle.std.specs.Prelude.{ℕ, List};
-    ghost use Rattle.mux.specs.Output.{one_or_none};
+    ghost use Rattle.std.specs.Prelude.{◌≡◌, ℕ, List};
+    ghost use Rattle.tspkt.specs.Packet.{null_packet};
+    ghost use Rattle.mux.specs.Output.{stands_there};
 
     ghost Value = { List (List ℕ) };
 
-    ghost view = { λ o. one_or_none o.is_there o.packet };
+    ghost view = { λ o. stands_there o.standing o.null o.other };
+
+    ghost invariant = { λ o. o.null ≡ null_packet };
 }
 
 impl OnePacket {
@@ -29,8 +36,9 @@ impl OnePacket {
         ensures { result ≡ [] }
     {
         OnePacket {
-            packet: null(),
-            is_there: false,
+            standing: Standing::Nothing,
+            other: null(),
+            null: null(),
         }
     }
 
@@ -38,10 +46,10 @@ impl OnePacket {
     pub fn get(&self) -> Option<&Packet>
         ensures { option_copied result ≡ slice_get self.now 0 }
     {
-        if self.is_there {
-            Some(&self.packet)
-        } else {
-            None
+        match self.standing {
+            Standing::Nothing => None,
+            Standing::Null => Some(&self.null),
+            Standing::Other => Some(&self.other),
         }
     }
 
@@ -49,7 +57,7 @@ impl OnePacket {
     pub fn clear(&mut self)
         ensures { self.new ≡ [] }
     {
-        self.is_there = false;
+        self.standing = Standing::Nothing;
     }
 }
 
@@ -62,18 +70,26 @@ impl Outgoing for OnePacket {
 
     #[inline(always)]
     fn add(&mut self, packet: &Packet) {
-        self.packet = *packet;
-        self.is_there = true;
+        self.other = *packet;
+        self.standing = Standing::Other;
+    }
+
+    #[inline(always)]
+    fn add_null(&mut self, _null: &Packet) {
+        self.standing = Standing::Null;
     }
 
     #[inline(always)]
     fn add_rewritten(&mut self, packet: &Packet, pid: u16, delay: u64) {
-        self.packet.set_rewritten(packet, pid, delay);
-        self.is_there = true;
+        self.other.set_rewritten(packet, pid, delay);
+        self.standing = Standing::Other;
     }
 
     #[inline(always)]
     fn last(&self) -> &Packet {
-        &self.packet
+        match self.standing {
+            Standing::Null => &self.null,
+            Standing::Nothing | Standing::Other => &self.other,
+        }
     }
 }

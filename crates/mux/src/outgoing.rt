@@ -7,6 +7,7 @@ use tspkt::Packet;
 pub trait Outgoing {
     ghost use Rattle.std.specs.Prelude.{◌≡◌, ◌<◌, ◌≤◌, ◌+◌, ◌-◌, ◌++◌, ◌∷◌, ◌^◌, [], ℕ, List, Some, length};
     ghost use Rattle.std.specs.List.{slice_get};
+    ghost use Rattle.tspkt.specs.Packet.{null_packet};
     ghost use Rattle.tspkt.specs.Rewritten.{rewritten};
 
     // The packets that went there.
@@ -19,6 +20,13 @@ pub trait Outgoing {
     fn add(&mut self, packet: &Packet)
         requires { 0 < room self.old }
         ensures packets { packets self.new ≡ packets self.old ++ packet.now ∷ [] }
+        ensures room { room self.old ≤ room self.new + 1 };
+
+    /// The null packet, which this is. It is copied once, or not at all where a place has one of its own.
+    fn add_null(&mut self, null: &Packet)
+        requires room { 0 < room self.old }
+        requires null { null.now ≡ null_packet }
+        ensures packets { packets self.new ≡ packets self.old ++ null_packet ∷ [] }
         ensures room { room self.old ≤ room self.new + 1 };
 
     /// One more, put on another PID, below 0x2000, and later by a delay in ticks of 27 MHz. It is copied once.
@@ -47,6 +55,11 @@ impl Outgoing for Vec<Packet> {
         let Ok(()) = self.extend_from_slice(slice::from_ref(packet)) else {
             unreachable!()
         };
+    }
+
+    #[inline(always)]
+    fn add_null(&mut self, null: &Packet) {
+        self.add(null);
     }
 
     #[inline(always)]

@@ -58,6 +58,7 @@ impl Mux {
     }
 
     /// The stream that the next slot carries, which has no table, or none where it carries null.
+    #[inline(always)]
     fn next(&self, now: u64) -> Option<Candidate>
         requires now { now ≡ slot_time self.now.run.schedule.first (slots self.now.events) }
         requires no_table { table_due self.now.run.schedule self.now.events ≡ None }
@@ -126,7 +127,7 @@ impl Mux {
         ensures out { GoesOut self.old Content.Null (O.packets out.old) (O.packets out.new) }
         ensures room { O.room out.old ≤ O.room out.new + 1 }
     {
-        out.add(self.output.null());
+        out.add_null(self.output.null());
         self.output.push(out.last());
         self.past.add(Event::Slot(Content::Null));
         clear_notes(&mut self.inputs, &mut self.is_noted);

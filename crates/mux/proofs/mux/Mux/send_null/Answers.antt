@@ -27,11 +27,11 @@ pub invariant_of-self : goal.invariant_of-self
 invariant_of-self g c =
     let R : History → Type 0 = λ h. MaySend h.run.schedule h.events Null in
     let S : History → Type 0 = λ h. slots h.events < h.run.limit in
-    let kept = sending_null c.self.invariant.0 _ _ _ _ _ _ c.add-2.ensures c.clear_notes.ensures.inputs c.pass.ensures.buckets c.pass.ensures.clock c.advance.ensures
-    (c.push.ensures ∙ ap (λ q. c.self.inside.output ++ q ∷ []) (last_is _ _ _ _ c.add.ensures.packets c.last.ensures ∙ c.null.ensures)) (subst S (sym c.self.view_is) c.requires.within) (subst R (sym c.self.view_is) c.requires.may) in (
+    let kept = sending_null c.self.invariant.0 _ _ _ _ _ _ c.add.ensures c.clear_notes.ensures.inputs c.pass.ensures.buckets c.pass.ensures.clock c.advance.ensures
+    (c.push.ensures ∙ ap (λ q. c.self.inside.output ++ q ∷ []) (last_is _ _ _ _ c.add_null.ensures.packets c.last.ensures)) (subst S (sym c.self.view_is) c.requires.within) (subst R (sym c.self.view_is) c.requires.may) in (
       kept,
-      span_stays c.self.invariant.1 (Slot Null) _ c.add-2.ensures refl,
-      peaks_null c.self.invariant.2 _ c.add-2.ensures,
+      span_stays c.self.invariant.1 (Slot Null) _ c.add.ensures refl,
+      peaks_null c.self.invariant.2 _ c.add.ensures,
       noted_cleared _ c.self.inside.inputs.items _ c.clear_notes.ensures.inputs,
       c.self.invariant.4,
     )
@@ -39,10 +39,10 @@ invariant_of-self g c =
 pub returns-clause-event : goal.returns-clause-event
 returns-clause-event g c =
     let opened : List Event → History = λ es. record { run = record { schedule = c.self.inside.schedule; limit = c.self.inside.limit }; events = es } in
-    ap opened c.add-2.ensures ∙ ap (λ (h : History). with_event h (Slot Null)) c.self.view_is
+    ap opened c.add.ensures ∙ ap (λ (h : History). with_event h (Slot Null)) c.self.view_is
 
 pub last-requires : goal.last-requires
-last-requires g c = some_behind _ _ _ c.add.ensures.packets
+last-requires g c = some_behind _ _ _ c.add_null.ensures.packets
 
 pub returns-clause-out : goal.returns-clause-out
-returns-clause-out g c = c.add.ensures.packets ∙ ap (λ q. g.O.Outgoing.packets c.args.out.now ++ q ∷ []) c.null.ensures
+returns-clause-out g c = c.add_null.ensures.packets
