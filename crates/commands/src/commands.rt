@@ -2,11 +2,12 @@
 
 use crate::measuring_inputs::measure;
 use crate::run_command::{Asked, run};
-use files::{CommandFault, FileCause, Files, InputFile, ReadPlan, read_plan};
+use files::{CommandFault, FileCause, Files, InputFile, ReadSchedule, read_schedule};
 use live::{RunFiles, WaitTeller};
 use measuring::{is_input_wrong, is_too_much, print_measured};
 use printing::{
-    StreamAnalysis, print_plan, print_rhythm, print_same_files, print_shape, strict_status,
+    StreamAnalysis, print_plan, print_rhythm, print_same_files, print_shape, print_switch_tables,
+    print_switches, strict_status,
 };
 use rate_meter::RateMeter;
 use std::alloc::Global;
@@ -69,9 +70,15 @@ where
     }
     match line(alloc, words) {
         Err(fault) => (print_line_fault(fault, out, err), None),
-        Ok(Command::Check { plan, strict }) => {
-            let ended = check(rt, alloc, files, plan, strict, out, err, voice);
-            (end_over(plan, ended, out, err), None)
+        Ok(
+            Command::Check {
+                plan,
+                later,
+                strict,
+            },
+        ) => {
+            let ended = check(rt, alloc, files, plan, &later, strict, out, err, voice);
+            (end_over(plan, &later, ended, out, err), None)
         }
         Ok(
             Command::Analyse {
@@ -88,6 +95,7 @@ where
         Ok(
             Command::Run {
                 plan,
+                later,
                 out: name,
                 length,
                 serial,
@@ -98,6 +106,7 @@ where
         ) => {
             let asked = Asked {
                 plan,
+                later: &later,
                 out: name,
                 length,
                 is_serial: serial,
@@ -133,15 +142,17 @@ pub(crate) fn end<O: Write, E: Write>(
     }
 }
 
-/// The same of a command over the plan in this file. Where a file isn't there, it says which names are taken, and from where.
+/// The same of a command over the plan in this file and those that follow it. Where a file isn't there, it says which names are taken,
+/// and from where.
 pub(crate) fn end_over<O: Write, E: Write>(
     plan: &str,
+    later: &[(u64, &str)],
     ended: Result<u8, CommandFault>,
     out: &mut O,
     err: &mut E,
 ) -> u8 {
     let advice = match &ended {
-        Err(fault) => name_advice(plan, fault),
+        Err(fault) => name_advice(plan, later, fault),
         Ok(_) => None,
     };
     let status = end(ended, out, err);
@@ -153,7 +164,7 @@ pub(crate) fn end_over<O: Write, E: Write>(
 
 /// What is said of the name of a file that isn't there, and of the folder of an output: of an address that it is none, and of an input
 /// from where names are taken.
-fn name_advice(plan: &str, fault: &CommandFault) -> Option<&'static str> {
+fn name_advice(plan: &str, later: &[(u64, &str)], fault: &CommandFault) -> Option<&'static str> {
     let CommandFault::File(name, FileCause::Open(error) | FileCause::Create(error)) = fault else {
         return None;
     };
@@ -163,16 +174,19 @@ fn name_advice(plan: &str, fault: &CommandFault) -> Option<&'static str> {
     if name.contains("://") {
         return Some("names are those of files and pipes, and no addresses of a network");
     }
-    if is_input(plan, fault) {
+    if is_input(plan, later, fault) {
         return Some("names in a plan are taken from the folder in which the program is called");
     }
     None
 }
 
-/// Whether the file of a fault that can't be opened is an input: it is, unless it is the plan's, since an output is made.
-fn is_input(plan: &str, fault: &CommandFault) -> bool {
+/// Whether the file of a fault that can't be opened is an input: it is, unless it is a plan's, since an output is made.
+fn is_input(plan: &str, later: &[(u64, &str)], fault: &CommandFault) -> bool {
     match fault {
-        CommandFault::File(name, FileCause::Open(_)) => name.as_str() != plan,
+        CommandFault::File(name, FileCause::Open(_)) => {
+            let name = name.as_str();
+            name != plan && !later.iter().any(|(_, plan)| name == *plan)
+        }
         _ => false,
     }
 }
@@ -210,8 +224,8 @@ fn print_first<O: Write>(alloc: Global, out: &mut O) -> Result<u8, CommandFault>
     Ok(0)
 }
 
-/// Shows a plan: its lines, and on `err` what is said of its rhythm and of its inputs' rates. A strict check ends with 1 where these
-/// aren't as they should be.
+/// Shows a plan and those that follow it: its lines, those of each switch, and on `err` what is said of its rhythm, of the switches'
+/// tables and of its inputs' rates. A strict check ends with 1 where these aren't as they should be.
 fn check<
     T: Threads + Wait + Clock + Copy + Send + Drop + 'static,
     F: Files,
@@ -223,25 +237,32 @@ fn check<
     alloc: Global,
     files: &mut F,
     plan: &str,
+    later: &[(u64, &str)],
     is_strict: bool,
     out: &mut O,
     err: &mut E,
     voice: V,
 ) -> Result<u8, CommandFault> {
     let mut teller = WaitTeller::new(rt, alloc, voice);
-    let read = read_plan(alloc, files, &mut teller, plan);
+    let read = read_schedule(alloc, files, &mut teller, plan, later);
     teller.end();
-    let ReadPlan { plan, readers, .. } = read?;
-    print_plan(&plan, out)?;
+    let ReadSchedule {
+        schedule,
+        readers,
+        ..
+    } = read?;
+    print_plan(schedule.plan(0), out)?;
+    print_switches(&schedule, out)?;
     out.flush()?;
-    let _ = print_rhythm(&plan, err);
-    let Ok(readers) = measure(alloc, files, &plan, readers) else {
+    let _ = print_rhythm(schedule.plan(0), err);
+    let _ = print_switch_tables(&schedule, err);
+    let Ok(readers) = measure(alloc, files, &schedule, readers) else {
         let _ = writeln!(err, "rate: the inputs can't be measured");
         return Ok(0);
     };
-    let _ = print_measured(&plan, &readers, err);
+    let _ = print_measured(&schedule, &readers, err);
     let _ = print_same_files(&readers, err);
-    let is_sound = !is_input_wrong(&plan, &readers) && !is_too_much(&plan, &readers);
+    let is_sound = !is_input_wrong(&schedule, &readers) && !is_too_much(&schedule, &readers);
     Ok(strict_status(is_strict, is_sound, 0))
 }
 

@@ -8,8 +8,8 @@ use crate::commands::{end, end_over};
 use crate::measuring_inputs::tell_low_leaks;
 use crate::whole_run::run_schedule;
 use files::{
-    CommandFault, FileCause, FileIdentity, Files, InputFile, Notices, OutputFile, ReadPlan,
-    open_again, open_output, read_plan, stopped,
+    CommandFault, FileCause, FileIdentity, Files, InputFile, Notices, OutputFile, ReadSchedule,
+    open_again, open_output, read_schedule, stopped,
 };
 use live::{Reporter, RunBoard, RunFiles, WaitTeller, print_board};
 use measuring::{Metered, is_input_wrong, print_wrong_rates, with_meters};
@@ -17,7 +17,7 @@ use outlet::RunFault;
 use plan::Plan;
 use printing::{
     has_early_end, is_overfull, print_delays, print_early_ends, print_end, print_faults,
-    print_overfull, print_same_files, print_summary, strict_status,
+    print_overfull, print_same_files, print_summary, print_unreached, strict_status,
 };
 use rate_meter::Meter;
 use reading::{InputLimit, Stop};
@@ -35,6 +35,8 @@ use words::{RunLength, most_slots};
 pub(crate) struct Asked<'a> {
     /// The name of the plan's file.
     pub plan: &'a str,
+    /// The plans that follow it: the slot from which on each is in force, and the name of its file.
+    pub later: &'a [(u64, &'a str)],
     /// The name of the output.
     pub out: &'a str,
     /// How long the run goes on.
@@ -61,20 +63,20 @@ fn input_limit(length: RunLength) -> InputLimit
     }
 }
 
-/// What a run needs: a plan, what its inputs are read from, and what its output is written to.
+/// What a run needs: a schedule, what its inputs are read from, and what its output is written to.
 #[derive(Drop)]
 struct Prepared<R, W> {
-    plan: Plan,
-    /// An equal plan, for the names of the inputs.
-    kept: Plan,
+    schedule: Schedule,
+    /// An equal one, for the names of the inputs.
+    kept: Schedule,
     readers: Vec<R>,
     writer: W,
 }
 
-/// A run that has ended by itself: its plan, what became of it, and the readers of its inputs.
+/// A run that has ended by itself: its schedule, what became of it, and the readers of its inputs.
 #[derive(Drop)]
 struct Ran<R> {
-    plan: Plan,
+    schedule: Schedule,
     summary: Summary,
     readers: Vec<R>,
 }
@@ -86,24 +88,28 @@ fn prepare<F: RunFiles, N: Notices>(
     notices: &mut N,
     asked: &Asked,
 ) -> Result<(Prepared<F::Again, F::Writer>, Arc<RunBoard, Global>), CommandFault>
-    ensures { IfOk result (λ p. length p.0.readers.items ≡ length p.0.plan.request.inputs) }
+    ensures { IfOk result (λ p. length p.0.readers.items ≡ length p.0.schedule.first.request.inputs) }
 {
-    let read = read_plan(alloc, files, notices, asked.plan)?;
+    let read = read_schedule(alloc, files, notices, asked.plan, asked.later)?;
     let identities = read.identities(alloc)?;
-    let kept = read.plan.copy(alloc)?;
-    let ReadPlan { plan, readers, .. } = read;
-    let board = files.watch(alloc, &plan, asked.report.is_some())?;
+    let kept = read.schedule.copy(alloc)?;
+    let ReadSchedule {
+        schedule,
+        readers,
+        ..
+    } = read;
+    let board = files.watch(alloc, &schedule, asked.report.is_some())?;
     let (readers, writer) = open_all(
         alloc,
         files,
         notices,
-        &plan,
+        schedule.plan(0),
         readers,
         asked.out,
         &identities,
     )?;
     let prepared = Prepared {
-        plan,
+        schedule,
         kept,
         readers,
         writer,
@@ -140,7 +146,7 @@ fn prepare_telling<
     asked: &Asked,
     voice: V,
 ) -> Result<(Prepared<F::Again, F::Writer>, Arc<RunBoard, Global>), CommandFault>
-    ensures { IfOk result (λ p. length p.0.readers.items ≡ length p.0.plan.request.inputs) }
+    ensures { IfOk result (λ p. length p.0.readers.items ≡ length p.0.schedule.first.request.inputs) }
 {
     let mut teller = WaitTeller::new(rt, alloc, voice);
     let prepared = prepare(alloc, files, &mut teller, asked);
@@ -174,10 +180,13 @@ where
 {
     let (prepared, board) = match prepare_telling(rt, alloc, files, asked, voice) {
         Ok(prepared) => prepared,
-        Err(fault) => return (end_over(asked.plan, Err(fault), out, err), None),
+        Err(fault) => return (
+            end_over(asked.plan, asked.later, Err(fault), out, err),
+            None,
+        ),
     };
     if asked.length == RunLength::All {
-        tell_low_leaks(alloc, files, &prepared.plan, &prepared.readers, err);
+        tell_low_leaks(alloc, files, &prepared.schedule, &prepared.readers, err);
     }
     let is_standard = files.is_standard_output(asked.out);
     let (writer, ran) = run_reporting::<T, F, V, M>(
@@ -208,12 +217,12 @@ fn has_no_reader(fault: &CommandFault) -> bool {
     matches!(fault, CommandFault::File(_, FileCause::NoReader))
 }
 
-/// Whether a run shows that its plan and its inputs are as they should be: the plan isn't overfull, no input ended before others, and
-/// the rates are those of the plan.
+/// Whether a run shows that its plans and its inputs are as they should be: no plan is overfull, no input ended before others, and
+/// the rates are those of the plans.
 fn is_sound<R, M: Meter>(ran: &Ran<Metered<R, M>>) -> bool {
-    !is_overfull(&ran.plan, &ran.summary)
-        && !has_early_end(&ran.plan, &ran.summary)
-        && !is_input_wrong(&ran.plan, &ran.readers)
+    !is_overfull(&ran.schedule, &ran.summary)
+        && !has_early_end(&ran.schedule, &ran.summary)
+        && !is_input_wrong(&ran.schedule, &ran.readers)
 }
 
 /// Says why a run ended, and what isn't as it should be.
@@ -222,12 +231,13 @@ fn tell_found<F: Files, R: InputFile, M: Meter, E: Write>(
     ran: &Ran<Metered<R, M>>,
     err: &mut E,
 ) {
-    let _ = print_end(&ran.plan, &ran.summary, &ran.readers, err);
-    let _ = print_early_ends(&ran.plan, &ran.summary, err);
-    let _ = print_faults(&ran.plan, &ran.summary, err);
-    let _ = print_overfull(&ran.plan, &ran.summary, err);
+    let _ = print_end(ran.schedule.plan(0), &ran.summary, &ran.readers, err);
+    let _ = print_unreached(&ran.schedule, &ran.summary, err);
+    let _ = print_early_ends(&ran.schedule, &ran.summary, err);
+    let _ = print_faults(&ran.schedule, &ran.summary, err);
+    let _ = print_overfull(&ran.schedule, &ran.summary, err);
     tell_partial(files, err);
-    let _ = print_wrong_rates(&ran.plan, &ran.readers, err);
+    let _ = print_wrong_rates(&ran.schedule, &ran.readers, err);
     let _ = print_same_files(&ran.readers, err);
 }
 
@@ -276,7 +286,7 @@ fn run_reporting<
 where
     F::Again: Send + 'static,
     F::Writer: Send + Drop + 'static,
-    requires readers { length prepared.readers.items ≡ length prepared.plan.request.inputs }
+    requires readers { length prepared.readers.items ≡ length prepared.schedule.first.request.inputs }
     requires length { IsAllowedLength asked.now.length }
 {
     let Ok(reporter) = start_reporter(rt, alloc, board, asked, voice) else {
@@ -305,27 +315,26 @@ fn run_prepared<
 where
     F::Again: Send + 'static,
     F::Writer: Send + Drop + 'static,
-    requires readers { length prepared.readers.items ≡ length prepared.plan.request.inputs }
+    requires readers { length prepared.readers.items ≡ length prepared.schedule.first.request.inputs }
     requires length { IsAllowedLength asked.now.length }
 {
     let Prepared {
-        plan,
+        schedule,
         kept,
         readers,
         writer,
     } = prepared;
-    let Ok(readers) = with_meters(alloc, &plan, readers) else {
+    let Ok(readers) = with_meters(alloc, schedule.plan(0), readers) else {
         return (writer, Err(CommandFault::Memory));
     };
     let (slots, limit) = (most_slots(asked.length), input_limit(asked.length));
     let is_serial = asked.is_serial;
-    let schedule = Schedule::single(alloc, plan);
     match run_schedule(
         rt, alloc, is_serial, schedule, slots, limit, readers, writer,
     ) {
         (writer, Ok((summary, readers))) => {
             let ran = Ran {
-                plan: kept,
+                schedule: kept,
                 summary,
                 readers,
             };
@@ -348,7 +357,12 @@ fn name_output<F: Files, R: InputFile>(
     name: &str,
     limit: InputLimit,
 ) -> Result<u8, CommandFault> {
-    let inputs = ran.plan.inputs().iter().zip(ran.summary.inputs.iter());
+    let inputs = ran
+        .schedule
+        .plan(0)
+        .inputs()
+        .iter()
+        .zip(ran.summary.inputs.iter());
     for ((input, summary), reader) in inputs.zip(ran.readers.iter()) {
         if let Some(stop) = failure_of(summary.report.stopped) {
             let (name, most) = (input.file.as_str(), limit.bytes(input.size));
@@ -385,7 +399,7 @@ fn tell_run<R, O: Write, E: Write>(
         out.flush()?;
     }
     if delays {
-        let _ = print_delays(&ran.plan, &ran.summary, err);
+        let _ = print_delays(&ran.schedule, &ran.summary, err);
     }
     Ok(())
 }

@@ -1,6 +1,7 @@
 //! The files of a command: those that it reads, the plan that is made of them, and the one that it writes.
 //!
-//! `Sources` are where what is read comes from, and `read_plan` makes the plan from its text and the inputs' tables. A
+//! `Sources` are where what is read comes from, `read_plan` makes the plan from its text and the inputs' tables, and `read_schedule`
+//! those that follow it too. A
 //! `StreamShape` says what the first bytes of a file look like that is no stream. `CommandFault` says why a command fails: its lines
 //! on standard error, and the status with which the program ends.
 //!
@@ -27,6 +28,8 @@ mod placed_cause;
 mod plan_faults;
 mod plan_files;
 mod plan_read;
+mod schedule_faults;
+mod schedule_read;
 mod sources;
 mod stream_shape;
 mod system_files;
@@ -44,8 +47,9 @@ pub use notices::{NoNotices, Notices};
 pub use output_file::OutputFile;
 pub use output_opening::open_output;
 pub use output_place::OutputPlace;
-pub use plan_files::{read_plan, stopped};
+pub use plan_files::{read_plan, read_schedule, stopped};
 pub use plan_read::{ReadPlan, open_again};
+pub use schedule_read::ReadSchedule;
 pub use sources::Sources;
 pub use stream_shape::{StreamShape, has_size, shape_of};
 pub use system_files::SystemFiles;

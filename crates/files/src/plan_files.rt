@@ -9,6 +9,8 @@ use crate::pat_programs::PatPrograms;
 use crate::placed_cause::PlacedCause;
 use crate::plan_faults::{find_lacking, plan_fault};
 use crate::plan_read::ReadPlan;
+use crate::schedule_faults::{of_later, schedule_of};
+use crate::schedule_read::ReadSchedule;
 use crate::sources::Sources;
 use crate::{CommandFault, FileCause};
 use acquire::{Acquire, Found};
@@ -218,6 +220,23 @@ fn read_tables<R: Source + Drop, N: Notices>(
     }
 }
 
+/// A reader of the file with this name, from its beginning: the one that an earlier plan's tables were read from, if there is one.
+fn open_input<F: Sources, N: Notices>(
+    alloc: Global,
+    files: &mut F,
+    notices: &mut N,
+    name: &str,
+    earlier: Option<F::Reader>,
+) -> Result<F::Reader, CommandFault> {
+    let Some(earlier) = earlier else {
+        return open(alloc, files, notices, name);
+    };
+    match files.anew(name, earlier) {
+        Ok(reader) => Ok(reader),
+        Err(cause) => Err(CommandFault::file(alloc, name, cause)),
+    }
+}
+
 /// What is found in the input with this number, the programs of its PAT, and its reader. Of one that can be read only once no more is
 /// looked at than is kept.
 fn find<F: Sources, N: Notices>(
@@ -227,9 +246,10 @@ fn find<F: Sources, N: Notices>(
     request: &Request,
     number: usize,
     input: &Input,
+    earlier: Option<F::Reader>,
 ) -> Result<(Found, PatPrograms, F::Reader), CommandFault> {
     let name = input.file.as_str();
-    let source = open(alloc, files, notices, name)?;
+    let source = open_input(alloc, files, notices, name, earlier)?;
     let mut acquire = seek(alloc, request, number)?;
     let read = read_tables(alloc, notices, &mut acquire, request, number, input, source);
     notices.goes_on();
@@ -257,23 +277,34 @@ fn open_others<F: Sources, N: Notices>(
     Ok(())
 }
 
-/// The plan in the file with this name, made by what is found in its inputs, each of which is read from its beginning.
-///
-/// The first fault ends it: of the plan's file, which may have 1,048,576 bytes; of its text; of the inputs in their order; and
-/// of the plan, without its cause where there is no memory for its words. Behind an input whose PAT lacks a program that is sought
-/// there no further one is read: each has only to be there. `notices` is told what is waited for.
-pub fn read_plan<F: Sources, N: Notices>(
+/// Whether the input with this number is read from this file.
+fn is_input(inputs: &[Input], number: usize, file: &str) -> bool {
+    match inputs.get(number) {
+        Some(input) => input.file.as_str() == file,
+        None => false,
+    }
+}
+
+/// The plan in the file with this name, as `read_plan`; `inputs` and `readers` are those of the plan before it, if there is one: where
+/// both plans have the same file as an input, its reader begins anew.
+fn read_behind<F: Sources, N: Notices>(
     alloc: Global,
     files: &mut F,
     notices: &mut N,
     name: &str,
+    inputs: &[Input],
+    readers: Vec<F::Reader>,
 ) -> Result<ReadPlan<F::Reader>, CommandFault> {
     let (request, identity) = read_request(alloc, files, notices, name)?;
+    let mut earlier = readers.into_iter();
     let mut found = Vec::new(alloc);
     let mut programs = Vec::new(alloc);
     let mut readers = Vec::new(alloc);
     for (number, input) in request.inputs().iter().enumerate() {
-        let (tables, named, reader) = find(alloc, files, notices, &request, number, input)?;
+        let first = earlier
+            .next()
+            .filter(|_| is_input(inputs, number, input.file.as_str()));
+        let (tables, named, reader) = find(alloc, files, notices, &request, number, input, first)?;
         found.push(tables)?;
         programs.push(named)?;
         readers.push(reader)?;
@@ -292,4 +323,89 @@ pub fn read_plan<F: Sources, N: Notices>(
             CommandFault::from(fault),
         )),
     }
+}
+
+/// The plan in the file with this name, made by what is found in its inputs, each of which is read from its beginning.
+///
+/// The first fault ends it: of the plan's file, which may have 1,048,576 bytes; of its text; of the inputs in their order; and
+/// of the plan, without its cause where there is no memory for its words. Behind an input whose PAT lacks a program that is sought
+/// there no further one is read: each has only to be there. `notices` is told what is waited for.
+pub fn read_plan<F: Sources, N: Notices>(
+    alloc: Global,
+    files: &mut F,
+    notices: &mut N,
+    name: &str,
+) -> Result<ReadPlan<F::Reader>, CommandFault> {
+    read_behind(alloc, files, notices, name, &[], Vec::new(alloc))
+}
+
+/// The inputs of the last of these plans, or of the first one where no other was read.
+fn inputs_before<'p>(first: &'p Plan, later: &'p [(u64, Plan)]) -> &'p [Input] {
+    match later.last() {
+        Some((_, plan)) => plan.inputs(),
+        None => first.inputs(),
+    }
+}
+
+/// The plans that follow the first, each with its slot, and the readers from which the tables of their inputs were read last. Which files
+/// the plans are read from is added to `plan_files`.
+fn read_later<F: Sources, N: Notices>(
+    alloc: Global,
+    files: &mut F,
+    notices: &mut N,
+    first: &Plan,
+    readers: Vec<F::Reader>,
+    later: &[(u64, &str)],
+    plan_files: &mut Vec<Option<FileIdentity>>,
+) -> Result<(Vec<(u64, Plan)>, Vec<F::Reader>), CommandFault> {
+    let mut plans: Vec<(u64, Plan)> = Vec::new(alloc);
+    let mut readers = readers;
+    for (slot, name) in later {
+        let inputs = inputs_before(first, plans.as_slice());
+        let read = match read_behind(alloc, files, notices, name, inputs, readers) {
+            Ok(read) => read,
+            Err(fault) => return Err(of_later(alloc, *slot, fault)),
+        };
+        plan_files.push(read.plan_file)?;
+        readers = read.readers;
+        plans.push((*slot, read.plan))?;
+    }
+    Ok((plans, readers))
+}
+
+/// The schedule of the plan in the file with this name and of those that follow it, each with the slot from which on it is in force and
+/// the name of its file.
+///
+/// The first fault ends it: of the plans in their order, each as by `read_plan`, and then of the schedule. In words it says of which plan
+/// it is, where that isn't the first, and its cause, where there is memory for them. An input that all plans have is opened once where it
+/// can be read only once.
+pub fn read_schedule<F: Sources, N: Notices>(
+    alloc: Global,
+    files: &mut F,
+    notices: &mut N,
+    name: &str,
+    later: &[(u64, &str)],
+) -> Result<ReadSchedule<F::Reader>, CommandFault> {
+    let ReadPlan {
+        plan: first,
+        plan_file,
+        readers,
+    } = read_plan(alloc, files, notices, name)?;
+    let mut plan_files = Vec::new(alloc);
+    plan_files.push(plan_file)?;
+    let (plans, readers) = read_later(
+        alloc,
+        files,
+        notices,
+        &first,
+        readers,
+        later,
+        &mut plan_files,
+    )?;
+    let schedule = schedule_of(alloc, first, plans)?;
+    Ok(ReadSchedule {
+        schedule,
+        plan_files,
+        readers,
+    })
 }

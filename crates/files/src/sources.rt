@@ -14,6 +14,9 @@ pub trait Sources {
     /// A reader of the file with this name, from its beginning.
     fn reader(&mut self, name: &str) -> Result<Self::Reader, FileCause>;
 
+    /// A reader of the same file, from its beginning, for tables that are sought once more. `first` has read some of it.
+    fn anew(&mut self, name: &str, first: Self::Reader) -> Result<Self::Reader, FileCause>;
+
     /// A reader of the same file, from its beginning again. `first` has read some of it.
     fn again(&mut self, name: &str, first: Option<Self::Reader>) -> Result<Self::Again, FileCause>;
 }

@@ -206,6 +206,20 @@ impl<'a, R: rt::Files> Sources for SystemFiles<'a, R> {
         ))
     }
 
+    fn anew(
+        &mut self,
+        name: &str,
+        first: FileReader<KeptReader<R::File>>,
+    ) -> Result<FileReader<KeptReader<R::File>>, FileCause> {
+        let (identity, length) = (first.identity(), first.length());
+        let mut kept = first.into_inner();
+        if !kept.keeps() {
+            return self.reader(name);
+        }
+        kept.begin_anew();
+        Ok(FileReader::new(self.alloc, kept, identity, length))
+    }
+
     fn again(
         &mut self,
         name: &str,

@@ -2,16 +2,16 @@
 
 use crate::digest::Digest;
 use anyhow::{Result, ensure};
-use plan::Plan;
 use printing::{is_overfull, print_delays, print_faults, print_summary};
+use schedule::Schedule;
 use serial::{InputSummary, Summary};
 use std::io;
 use std::io::Write;
 
-/// What became of a run of this plan, and the digest of its output.
+/// What became of a run of this schedule, and the digest of its output.
 #[derive(Drop)]
 pub struct MeasuredRun {
-    pub plan: Plan,
+    pub schedule: Schedule,
     pub summary: Summary,
     pub digest: Digest,
 }
@@ -34,7 +34,7 @@ pub fn check(measured: &MeasuredRun) -> Result<()> {
     );
     ensure!(summary.faults == 0, "the output has faults");
     ensure!(
-        !is_overfull(&measured.plan, summary),
+        !is_overfull(&measured.schedule, summary),
         "the plan is overfull"
     );
     Ok(())
@@ -43,8 +43,8 @@ pub fn check(measured: &MeasuredRun) -> Result<()> {
 /// Prints what became of a run, and the digests of its output and of what it says of its streams.
 pub fn print_measured<O: Write>(name: &str, measured: &MeasuredRun, out: &mut O) -> io::Result<()> {
     let mut streams = Digest::new();
-    print_delays(&measured.plan, &measured.summary, &mut streams)?;
-    print_faults(&measured.plan, &measured.summary, &mut streams)?;
+    print_delays(&measured.schedule, &measured.summary, &mut streams)?;
+    print_faults(&measured.schedule, &measured.summary, &mut streams)?;
     print_summary(&measured.summary, out)?;
     let (bytes, value) = (measured.digest.bytes(), measured.digest.value());
     let streams = streams.value();

@@ -94,7 +94,7 @@ pub fn run_multiplex<T: Threads + Wait + Clock + Copy + Send + Drop + 'static>(
     if plan.inputs().len() != readers.len() {
         bail!("the plan has another number of inputs");
     }
-    let kept = plan.copy(alloc)?;
+    let kept = Schedule::single(alloc, plan.copy(alloc)?);
     let (digest, result) = if multiplex.is_serial {
         run_alone(alloc, plan, readers)
     } else {
@@ -104,7 +104,7 @@ pub fn run_multiplex<T: Threads + Wait + Clock + Copy + Send + Drop + 'static>(
         bail!("the run had a fault");
     };
     let measured = MeasuredRun {
-        plan: kept,
+        schedule: kept,
         summary,
         digest,
     };

@@ -3,7 +3,7 @@
 use crate::input_place::InputPlace;
 use crate::run_board::RunBoard;
 use crate::stream_counter::StreamCounter;
-use plan::Plan;
+use schedule::Schedule;
 use std::alloc::{AllocError, Global};
 use std::sync::Arc;
 use tspkt::PacketSize;
@@ -17,16 +17,16 @@ pub struct InputWatch {
 }
 
 impl InputWatch {
-    /// That of the input with this number of a plan, of which nothing was read.
+    /// That of the input with this number of a schedule, of which nothing was read.
     fn new(
         alloc: Global,
-        plan: &Plan,
+        schedule: &Schedule,
         board: &Arc<RunBoard, Global>,
         number: usize,
     ) -> Result<InputWatch, AllocError> {
         let counter = if board.is_counted() {
-            let size = size_of(plan, number);
-            Some(StreamCounter::new(alloc, plan, number, size)?)
+            let size = size_of(schedule, number);
+            Some(StreamCounter::new(alloc, schedule, number, size)?)
         } else {
             None
         };
@@ -64,23 +64,23 @@ impl InputWatch {
     }
 }
 
-/// The size of the input with this number of a plan; 188 bytes where there is none.
-fn size_of(plan: &Plan, number: usize) -> PacketSize {
-    match plan.inputs().get(number) {
+/// The size of the input with this number; 188 bytes where there is none.
+fn size_of(schedule: &Schedule, number: usize) -> PacketSize {
+    match schedule.plan(0).inputs().get(number) {
         Some(input) => input.size,
         None => PacketSize::Ts188,
     }
 }
 
-/// Where the reading of a plan's inputs is noted, the last one first.
+/// Where the reading of a schedule's inputs is noted, the last one first.
 pub(crate) fn watches(
     alloc: Global,
-    plan: &Plan,
+    schedule: &Schedule,
     board: &Arc<RunBoard, Global>,
 ) -> Result<Vec<InputWatch>, AllocError> {
     let mut inputs = Vec::new(alloc);
-    for number in (0..plan.inputs().len()).rev() {
-        inputs.push(InputWatch::new(alloc, plan, board, number)?)?;
+    for number in (0..schedule.plan(0).inputs().len()).rev() {
+        inputs.push(InputWatch::new(alloc, schedule, board, number)?)?;
     }
     Ok(inputs)
 }

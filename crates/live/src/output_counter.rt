@@ -2,7 +2,7 @@
 
 use crate::run_board::RunBoard;
 use analyse::{Analyser, Fault};
-use plan::Plan;
+use schedule::Schedule;
 use std::alloc::{AllocError, Global};
 use tspkt::Packet;
 
@@ -29,10 +29,11 @@ pub(crate) struct OutputCounter {
 }
 
 impl OutputCounter {
-    /// That of a plan's multiplex, of which nothing was written.
-    pub fn new(alloc: Global, plan: &Plan) -> Result<OutputCounter, AllocError> {
+    /// That of a schedule's multiplex, of which nothing was written.
+    pub fn new(alloc: Global, schedule: &Schedule) -> Result<OutputCounter, AllocError> {
+        let plan = schedule.plan(0);
         let mut origins = Vec::new(alloc);
-        for stream in plan.streams() {
+        for stream in schedule.streams() {
             origins.push(Origin {
                 output_pid: stream.output_pid,
                 input: stream.input,

@@ -2,7 +2,7 @@
 
 use crate::output_counter::OutputCounter;
 use crate::run_board::RunBoard;
-use plan::Plan;
+use schedule::Schedule;
 use std::alloc::{AllocError, Global};
 use std::sync::Arc;
 
@@ -14,14 +14,14 @@ pub struct OutputWatch {
 }
 
 impl OutputWatch {
-    /// That of a plan's multiplex, of which nothing was written.
+    /// That of a schedule's multiplex, of which nothing was written.
     pub(crate) fn new(
         alloc: Global,
-        plan: &Plan,
+        schedule: &Schedule,
         board: &Arc<RunBoard, Global>,
     ) -> Result<OutputWatch, AllocError> {
         let counter = if board.is_counted() {
-            Some(OutputCounter::new(alloc, plan)?)
+            Some(OutputCounter::new(alloc, schedule)?)
         } else {
             None
         };

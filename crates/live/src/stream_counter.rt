@@ -1,6 +1,6 @@
-//! Packets of a plan's streams, counted as their input is read.
+//! Packets of a schedule's streams, counted as their input is read.
 
-use plan::Plan;
+use schedule::Schedule;
 use std::alloc::{AllocError, Global};
 use tspkt::{Framer, Item, MAX_LIMIT, Packet, PacketSize};
 
@@ -12,7 +12,7 @@ pub(crate) struct Counted {
     pub last: u64,
 }
 
-/// Counts the packets of the streams that a plan takes of an input.
+/// Counts the packets of the streams that the plans of a schedule take of an input.
 #[derive(Drop)]
 pub(crate) struct StreamCounter {
     framer: Framer,
@@ -25,12 +25,12 @@ impl StreamCounter {
     /// That of the input with this number, whose stream has this size, and of which nothing was read.
     pub fn new(
         alloc: Global,
-        plan: &Plan,
+        schedule: &Schedule,
         number: usize,
         size: PacketSize,
     ) -> Result<StreamCounter, AllocError> {
         let mut pids = Vec::new(alloc);
-        for stream in plan.streams() {
+        for stream in schedule.streams() {
             if stream.input == number {
                 pids.push(stream.pid)?;
             }

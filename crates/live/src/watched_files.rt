@@ -7,7 +7,7 @@ use crate::run_files::RunFiles;
 use crate::watched::Watched;
 use crate::watched_sink::WatchedSink;
 use files::{FileCause, FileIdentity, Files, Sources};
-use plan::Plan;
+use schedule::Schedule;
 use std::alloc::{AllocError, Global};
 use std::sync::Arc;
 
@@ -39,6 +39,10 @@ impl<F: Files> Sources for WatchedFiles<F> {
 
     fn reader(&mut self, name: &str) -> Result<F::Reader, FileCause> {
         self.files.reader(name)
+    }
+
+    fn anew(&mut self, name: &str, first: F::Reader) -> Result<F::Reader, FileCause> {
+        self.files.anew(name, first)
     }
 
     fn again(
@@ -80,12 +84,12 @@ impl<F: Files> RunFiles for WatchedFiles<F> {
     fn watch(
         &mut self,
         alloc: Global,
-        plan: &Plan,
+        schedule: &Schedule,
         is_counted: bool,
     ) -> Result<Arc<RunBoard, Global>, AllocError> {
-        let board = Arc::new(alloc, RunBoard::new(alloc, plan, is_counted)?)?;
-        self.inputs = watches(alloc, plan, &board)?;
-        self.output = Some(OutputWatch::new(alloc, plan, &board)?);
+        let board = Arc::new(alloc, RunBoard::new(alloc, schedule.plan(0), is_counted)?)?;
+        self.inputs = watches(alloc, schedule, &board)?;
+        self.output = Some(OutputWatch::new(alloc, schedule, &board)?);
         Ok(board)
     }
 }

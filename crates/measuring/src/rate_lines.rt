@@ -1,11 +1,14 @@
 //! What is said of the rates of inputs, on standard error, behind all other lines.
 
+ghost use Rattle.std.specs.Prelude.{◌≤◌, length};
+
 use crate::metered::Metered;
 use advice::{left_rate, packets_rate};
 use files::InputFile;
 use plan::Plan;
 use rate_meter::{Change, Deviation, Measured, Meter, ProgramChange, off_by};
-use request::{Input, Stream};
+use request::{Input, Service, Stream};
+use schedule::Schedule;
 use std::io;
 use std::io::Write;
 
@@ -60,21 +63,52 @@ fn print_change<E: Write>(
     writeln!(err, " at packet {packet}, which isn't followed")
 }
 
-/// Says of each service of a plan whose program changed inside its input how it did.
+/// Whether a plan of a schedule before the one with this number has the program of a service.
+fn is_earlier(schedule: &Schedule, number: usize, service: &Service) -> bool {
+    for earlier in 0..=schedule.later_plans() {
+        if earlier < number
+            && schedule.plan(earlier).services().iter().any(|other| {
+                other.input == service.input && other.program == service.program
+            })
+        {
+            return true;
+        }
+    }
+    false
+}
+
+/// Says of each program of a schedule's services that changed inside its input how it did.
 fn print_changes<R, M: Meter, E: Write>(
-    plan: &Plan,
+    schedule: &Schedule,
     readers: &[Metered<R, M>],
     err: &mut E,
 ) -> io::Result<()> {
-    for service in plan.request().services() {
-        let (input, program) = (service.input, service.program);
-        if let Some(reader) = readers.get(input)
-            && let Some(found) = change_in(reader, program)
-        {
-            print_change(input, program, found, err)?;
+    for number in 0..=schedule.later_plans() {
+        for service in schedule.plan(number).services() {
+            let (input, program) = (service.input, service.program);
+            if !is_earlier(schedule, number, service)
+                && let Some(reader) = readers.get(input)
+                && let Some(found) = change_in(reader, program)
+            {
+                print_change(input, program, found, err)?;
+            }
         }
     }
     Ok(())
+}
+
+/// Whether a program of a schedule's services changed inside its input.
+fn has_changes<R, M: Meter>(schedule: &Schedule, readers: &[Metered<R, M>]) -> bool {
+    for number in 0..=schedule.later_plans() {
+        for service in schedule.plan(number).services() {
+            if let Some(reader) = readers.get(service.input)
+                && change_in(reader, service.program).is_some()
+            {
+                return true;
+            }
+        }
+    }
+    false
 }
 
 /// Says by which command a program of an input of variable rate gets null packets up to a constant one, as packets of 188 bytes: a tenth
@@ -192,35 +226,64 @@ fn sum_of<R, M: Meter>(plan: &Plan, readers: &[Metered<R, M>]) -> Option<u64> {
 }
 
 /// Whether the streams of a plan take more than its rate leaves after the tables, where all of them were measured.
-pub fn is_too_much<R, M: Meter>(plan: &Plan, readers: &[Metered<R, M>]) -> bool {
+fn takes_too_much<R, M: Meter>(plan: &Plan, readers: &[Metered<R, M>]) -> bool {
     match sum_of(plan, readers) {
         Some(sum) => sum > left_rate(plan.rounds()),
         None => false,
     }
 }
 
-/// Says what the streams of a plan take in all, beside its rate, where all of them were measured, and that it is too much, where
-/// it is.
+/// Whether the streams of one of a schedule's plans take more than its rate leaves after the tables, where all of them were measured.
+pub fn is_too_much<R, M: Meter>(schedule: &Schedule, readers: &[Metered<R, M>]) -> bool {
+    for number in 0..=schedule.later_plans() {
+        if takes_too_much(schedule.plan(number), readers) {
+            return true;
+        }
+    }
+    false
+}
+
+/// Says from which slot on something holds that is said of the plan of a schedule with this number: nothing of the first.
+fn print_from<E: Write>(schedule: &Schedule, number: usize, err: &mut E) -> io::Result<()> {
+    match number.checked_sub(1) {
+        Some(before) => {
+            let slot = schedule.switch_slot(before).unwrap_or(0);
+            write!(err, " from slot {slot} on")
+        }
+        None => Ok(()),
+    }
+}
+
+/// Says what the streams of the plan of a schedule with this number take in all, beside its rate, where all of them were measured, and
+/// that it is too much, where it is.
 fn print_sum<R, M: Meter, E: Write>(
-    plan: &Plan,
+    schedule: &Schedule,
+    number: usize,
     readers: &[Metered<R, M>],
     err: &mut E,
-) -> io::Result<()> {
+) -> io::Result<()>
+    requires { number ≤ length schedule.now.later }
+{
+    let plan = schedule.plan(number);
     let Some(sum) = sum_of(plan, readers) else {
         return Ok(());
     };
     let (rate, left) = (plan.rate(), left_rate(plan.rounds()));
     let tables = rate.saturating_sub(left);
+    write!(err, "services")?;
+    print_from(schedule, number, err)?;
     writeln!(
         err,
-        "services: measured {sum} bits a second of {rate}, the tables take {tables}"
+        ": measured {sum} bits a second of {rate}, the tables take {tables}"
     )?;
     if sum <= left {
         return Ok(());
     }
+    write!(err, "overfull")?;
+    print_from(schedule, number, err)?;
     writeln!(
         err,
-        "overfull: the services take more than the {left} bits a second that rate {rate} leaves after the tables: raise it, or leave a service out"
+        ": the services take more than the {left} bits a second that rate {rate} leaves after the tables: raise it, or leave a service out"
     )
 }
 
@@ -252,38 +315,39 @@ fn print_leak<R, M: Meter, E: Write>(
     )
 }
 
-/// Says of each stream of a plan whose buffer leaks more slowly than its packets come that it does.
+/// Says of each stream of a schedule whose buffer leaks more slowly than its packets come that it does.
 fn print_leaks<R, M: Meter, E: Write>(
-    plan: &Plan,
+    schedule: &Schedule,
     readers: &[Metered<R, M>],
     err: &mut E,
 ) -> io::Result<()> {
-    for stream in plan.streams() {
+    for stream in schedule.streams() {
         if let Some(reader) = readers.get(stream.input) {
-            print_leak(plan, reader, stream, err)?;
+            print_leak(schedule.plan(0), reader, stream, err)?;
         }
     }
     Ok(())
 }
 
-/// The same of the streams of one input of a plan, that with this number.
+/// The same of the streams of one input of a schedule, that with this number.
 pub fn print_leaks_of<R, M: Meter, E: Write>(
-    plan: &Plan,
+    schedule: &Schedule,
     number: usize,
     reader: &Metered<R, M>,
     err: &mut E,
 ) -> io::Result<()> {
-    for stream in plan.streams() {
+    for stream in schedule.streams() {
         if stream.input == number {
-            print_leak(plan, reader, stream, err)?;
+            print_leak(schedule.plan(0), reader, stream, err)?;
         }
     }
     Ok(())
 }
 
 /// Whether a stream of a plan has a buffer that leaks more slowly than its packets come.
-fn has_low_leak<R, M: Meter>(plan: &Plan, readers: &[Metered<R, M>]) -> bool {
-    for stream in plan.streams() {
+fn has_low_leak<R, M: Meter>(schedule: &Schedule, readers: &[Metered<R, M>]) -> bool {
+    let plan = schedule.plan(0);
+    for stream in schedule.streams() {
         if let Some(reader) = readers.get(stream.input)
             && rate_above_leak(plan, reader, stream).is_some()
         {
@@ -299,13 +363,13 @@ fn scrambled_in<R, M: Meter>(reader: &Metered<R, M>, stream: &Stream) -> Option<
     if count > 0 { Some(count) } else { None }
 }
 
-/// Says of each stream of a plan that packets of it are scrambled, where some are: they go out as they are.
+/// Says of each stream of a schedule that packets of it are scrambled, where some are: they go out as they are.
 fn print_scrambled<R, M: Meter, E: Write>(
-    plan: &Plan,
+    schedule: &Schedule,
     readers: &[Metered<R, M>],
     err: &mut E,
 ) -> io::Result<()> {
-    for stream in plan.streams() {
+    for stream in schedule.streams() {
         let (output_pid, input, pid) = (stream.output_pid, stream.input, stream.pid);
         if let Some(reader) = readers.get(input)
             && let Some(count) = scrambled_in(reader, stream)
@@ -319,9 +383,9 @@ fn print_scrambled<R, M: Meter, E: Write>(
     Ok(())
 }
 
-/// Whether packets of a stream of a plan are scrambled.
-fn has_scrambled<R, M: Meter>(plan: &Plan, readers: &[Metered<R, M>]) -> bool {
-    for stream in plan.streams() {
+/// Whether packets of a stream of a schedule are scrambled.
+fn has_scrambled<R, M: Meter>(schedule: &Schedule, readers: &[Metered<R, M>]) -> bool {
+    for stream in schedule.streams() {
         if let Some(reader) = readers.get(stream.input)
             && scrambled_in(reader, stream).is_some()
         {
@@ -331,57 +395,56 @@ fn has_scrambled<R, M: Meter>(plan: &Plan, readers: &[Metered<R, M>]) -> bool {
     false
 }
 
-/// Whether something is wrong with the inputs of a plan by what was read of them: what `print_wrong_rates` has a line for.
-pub fn is_input_wrong<R, M: Meter>(plan: &Plan, readers: &[Metered<R, M>]) -> bool {
-    for (input, reader) in plan.inputs().iter().zip(readers.iter()) {
+/// Whether something is wrong with the inputs of a schedule by what was read of them: what `print_wrong_rates` has a line for.
+pub fn is_input_wrong<R, M: Meter>(schedule: &Schedule, readers: &[Metered<R, M>]) -> bool {
+    for (input, reader) in schedule.plan(0).inputs().iter().zip(readers.iter()) {
         if let Some(measured) = reader.measured()
             && is_wrong(measured, input.rate)
         {
             return true;
         }
     }
-    for service in plan.request().services() {
-        if let Some(reader) = readers.get(service.input)
-            && change_in(reader, service.program).is_some()
-        {
-            return true;
-        }
-    }
-    has_low_leak(plan, readers) || has_scrambled(plan, readers)
+    has_changes(schedule, readers)
+        || has_low_leak(schedule, readers)
+        || has_scrambled(schedule, readers)
 }
 
-/// Says what was measured of a plan's inputs: of each what is wrong with its rate, or why it isn't known; what the streams take in
-/// all; which of them have too low a leak rate, and which are scrambled.
+/// Says what was measured of a schedule's inputs: of each what is wrong with its rate, or why it isn't known; what the streams of each
+/// plan take in all; which of them have too low a leak rate, and which are scrambled.
 pub fn print_measured<R: InputFile, M: Meter, E: Write>(
-    plan: &Plan,
+    schedule: &Schedule,
     readers: &[Metered<R, M>],
     err: &mut E,
 ) -> io::Result<()> {
+    let plan = schedule.plan(0);
     for (number, (input, reader)) in plan.inputs().iter().zip(readers.iter()).enumerate() {
         match reader.measured() {
             Some(measured) => print_rate(plan, input, number, measured, reader, err)?,
             None => print_unmeasured(number, reader, err)?,
         }
     }
-    print_changes(plan, readers, err)?;
-    print_sum(plan, readers, err)?;
-    print_leaks(plan, readers, err)?;
-    print_scrambled(plan, readers, err)
+    print_changes(schedule, readers, err)?;
+    for number in 0..=schedule.later_plans() {
+        print_sum(schedule, number, readers, err)?;
+    }
+    print_leaks(schedule, readers, err)?;
+    print_scrambled(schedule, readers, err)
 }
 
 /// Says what is wrong with a run's inputs by what it read of them: a rate that isn't as stated, or is variable, a leak rate that is too
 /// low, and packets that are scrambled. It says nothing of an input that can't be measured, and nothing where nothing is wrong.
 pub fn print_wrong_rates<R, M: Meter, E: Write>(
-    plan: &Plan,
+    schedule: &Schedule,
     readers: &[Metered<R, M>],
     err: &mut E,
 ) -> io::Result<()> {
+    let plan = schedule.plan(0);
     for (number, (input, reader)) in plan.inputs().iter().zip(readers.iter()).enumerate() {
         if let Some(measured) = reader.measured() {
             print_rate(plan, input, number, measured, reader, err)?;
         }
     }
-    print_changes(plan, readers, err)?;
-    print_leaks(plan, readers, err)?;
-    print_scrambled(plan, readers, err)
+    print_changes(schedule, readers, err)?;
+    print_leaks(schedule, readers, err)?;
+    print_scrambled(schedule, readers, err)
 }

@@ -4,6 +4,7 @@ use crate::run_end::bytes_read;
 use crate::run_lines::slots_of;
 use advice::{is_early, reached};
 use plan::Plan;
+use schedule::Schedule;
 use serial::Summary;
 use std::io;
 use std::io::Write;
@@ -32,40 +33,49 @@ fn last_of(plan: &Plan, summary: &Summary) -> u64 {
     last.min(reached(0, plan.rate(), slots.saturating_mul(SLOT)))
 }
 
-/// Whether a stream of a plan comes from the input with this number.
-fn is_used(plan: &Plan, number: usize) -> bool {
-    plan.streams().iter().any(|stream| stream.input == number)
+/// Whether a stream of a run comes from the input with this number.
+fn is_used(schedule: &Schedule, number: usize) -> bool {
+    schedule
+        .streams()
+        .iter()
+        .any(|stream| stream.input == number)
 }
 
-/// When the input with this number ended, in milliseconds, where its streams are among those of the plan, and the run went on with
+/// When the input with this number ended, in milliseconds, where streams of the run come from it, and the run went on with
 /// others until `last`, more than a second.
-fn early_end(plan: &Plan, summary: &Summary, number: usize, last: u64) -> Option<u64> {
+fn early_end(schedule: &Schedule, summary: &Summary, number: usize, last: u64) -> Option<u64> {
     let ran = summary.inputs.get(number)?;
-    let end = reached_in(plan, summary, number);
-    if ran.report.stopped.is_none() && is_used(plan, number) && is_early(end, last) {
+    let end = reached_in(schedule.plan(0), summary, number);
+    if ran.report.stopped.is_none() && is_used(schedule, number) && is_early(end, last) {
         Some(end)
     } else {
         None
     }
 }
 
-/// Whether an input of a run with streams of its plan ended more than a second before others.
-pub fn has_early_end(plan: &Plan, summary: &Summary) -> bool {
+/// Whether an input of a run with streams of its plans ended more than a second before others.
+pub fn has_early_end(schedule: &Schedule, summary: &Summary) -> bool {
+    let plan = schedule.plan(0);
     let last = last_of(plan, summary);
     for number in 0..plan.inputs().len() {
-        if early_end(plan, summary, number, last).is_some() {
+        if early_end(schedule, summary, number, last).is_some() {
             return true;
         }
     }
     false
 }
 
-/// Prints the inputs of a run that have streams of its plan and ended more than a second before others: when each ended, and how long
+/// Prints the inputs of a run that have streams of its plans and ended more than a second before others: when each ended, and how long
 /// the run went on.
-pub fn print_early_ends<E: Write>(plan: &Plan, summary: &Summary, err: &mut E) -> io::Result<()> {
+pub fn print_early_ends<E: Write>(
+    schedule: &Schedule,
+    summary: &Summary,
+    err: &mut E,
+) -> io::Result<()> {
+    let plan = schedule.plan(0);
     let last = last_of(plan, summary);
     for number in 0..plan.inputs().len() {
-        if let Some(end) = early_end(plan, summary, number, last) {
+        if let Some(end) = early_end(schedule, summary, number, last) {
             let more = last.saturating_sub(end);
             writeln!(
                 err,

@@ -12,6 +12,7 @@ mod same_files;
 mod stream_analysis;
 mod stream_line;
 mod strict;
+mod switch_lines;
 
 pub use early_ends::{has_early_end, print_early_ends};
 pub use fault_lines::print_faults;
@@ -23,3 +24,4 @@ pub use same_files::print_same_files;
 pub use stream_analysis::StreamAnalysis;
 pub use stream_line::print_shape;
 pub use strict::strict_status;
+pub use switch_lines::{print_switch_tables, print_switches, print_unreached};

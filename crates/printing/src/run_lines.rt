@@ -3,7 +3,7 @@
 ghost use Rattle.std.specs.Prelude.{◌≤◌};
 
 use mux::Counts;
-use plan::Plan;
+use schedule::Schedule;
 use serial::{InputSummary, Summary};
 use std::io;
 use std::io::Write;
@@ -57,10 +57,14 @@ pub fn print_summary<O: Write>(summary: &Summary, out: &mut O) -> io::Result<()>
     writeln!(out, "faults {faults}")
 }
 
-/// Prints how long the streams of a run waited, by their numbers: a line each with the largest delay of its packets, in ticks of
+/// Prints how long the streams of a run waited, those of all its plans: a line each with the largest delay of its packets, in ticks of
 /// 27 MHz, and the most packets that waited in its queue.
-pub fn print_delays<E: Write>(plan: &Plan, summary: &Summary, err: &mut E) -> io::Result<()> {
-    for (stream, peak) in plan.streams().iter().zip(summary.streams.iter()) {
+pub fn print_delays<E: Write>(
+    schedule: &Schedule,
+    summary: &Summary,
+    err: &mut E,
+) -> io::Result<()> {
+    for (stream, peak) in schedule.streams().iter().zip(summary.streams.iter()) {
         let (output_pid, input, pid) = (stream.output_pid, stream.input, stream.pid);
         let (delay, queued) = (peak.delay, peak.queued);
         writeln!(

@@ -16,8 +16,8 @@ fn is_same_input(input: &Input, other: &Input) -> bool
         && input.size == other.size
 }
 
-/// Whether two lists of inputs agree.
-fn are_same_inputs(inputs: &[Input], others: &[Input]) -> bool
+/// Whether two lists of inputs agree in all that a plan says of them, their files too.
+pub fn are_same_inputs(inputs: &[Input], others: &[Input]) -> bool
     ensures { IsTrue result ↔ (map input_value inputs.now ≡ map input_value others.now) }
 {
     if inputs.len() != others.len() {

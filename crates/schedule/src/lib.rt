@@ -17,5 +17,7 @@ pub mod laws;
 mod output_pids;
 mod schedule;
 
+pub use evenness::are_same_inputs;
 pub use judge::{LAST_SWITCH_SLOT, MAX_LATER_PLANS};
+pub use output_pids::{has_output_pid, has_pmt_of, has_stream};
 pub use schedule::Schedule;

@@ -34,14 +34,15 @@ fn has_pmt_on(request: &Request, pid: u16) -> bool
 }
 
 /// Whether a plan has an output PID, for a stream or for the PMT of a service.
-fn has_output_pid(request: &Request, pid: u16) -> bool
+pub fn has_output_pid(request: &Request, pid: u16) -> bool
     ensures { IsTrue result ↔ Contains (output_pids request.now) pid }
 {
     has_stream_on(request, pid) || has_pmt_on(request, pid)
 }
 
-/// Whether a plan has this very stream.
-fn has_stream(request: &Request, stream: &Stream) -> bool
+/// Whether a plan has this very stream: of the same input and PID, to the same PID, and of the same leak. At a switch to it such a stream goes
+/// on.
+pub fn has_stream(request: &Request, stream: &Stream) -> bool
     ensures { IsTrue result ↔ Contains request.now.streams stream.now }
 {
     request.streams().iter().any(|other| *other == *stream)
@@ -56,8 +57,8 @@ fn is_among(services: &[Service], service: u16, pmt: u16) -> bool
         .any(|other| other.service == service && other.pmt == pmt)
 }
 
-/// Whether a plan has the PMT of this service, on the same PID.
-fn has_pmt_of(request: &Request, service: u16, pmt: u16) -> bool
+/// Whether a plan has the PMT of the service with this number, on this PID. At a switch to it such a PMT stays where it is.
+pub fn has_pmt_of(request: &Request, service: u16, pmt: u16) -> bool
     ensures { result ≡ list_any (λ (v : ServiceValue). v.service == service && v.pmt == pmt) request.now.services }
 {
     is_among(request.services(), service, pmt)

@@ -1,5 +1,6 @@
 -- What a command line may ask for (profile).
 use Rattle.std.specs.Prelude.{ℕ, ◌≤◌, IfSome}
+use Rattle.std.specs.List.{All as Each}
 use Rattle.words.specs.declared.command.Command.{Command}
 use Rattle.words.specs.declared.command.Command.TheVariants.{Run, Check, Analyse}
 use Rattle.words.specs.declared.run_length.RunLength.{RunLength}
@@ -19,9 +20,14 @@ abbrev pub most_slots_of : RunLength → ℕ
 most_slots_of (Slots slots) = slots
 most_slots_of All = 1099511627776
 
--- the numbers of a command are in their ranges: slots of a run and the seconds between its reports, a rate in bits a second, and a
--- period in slots
+-- a later plan comes into force at a slot from 1 to 999,999
+abbrev pub IsAllowedSwitch : {N : Type 0} → ℕ × N → Type 0
+IsAllowedSwitch later = IsWithin 1 999999 later.0
+
+-- the numbers of a command are in their ranges: slots of a run, those of its switches, and the seconds between its reports, a rate in
+-- bits a second, and a period in slots
 abbrev pub IsAllowed : Command → Type 0
-IsAllowed (Run plan out length serial delays strict report) = IsAllowedLength length × IfSome report (IsWithin 1 3600)
-IsAllowed (Check plan strict) = Unit {0}
+IsAllowed (Run plan later out length serial delays strict report) =
+    Each IsAllowedSwitch later.items × IsAllowedLength length × IfSome report (IsWithin 1 3600)
+IsAllowed (Check plan later strict) = Each IsAllowedSwitch later.items
 IsAllowed (Analyse size rate period file) = IsWithin 500000 100000000 rate × IsWithin 1 1000000 period

@@ -4,12 +4,14 @@ use crate::run_length::RunLength;
 use tspkt::PacketSize;
 
 /// What the program is asked to do, in the words of its command line.
-#[derive(Clone, Copy, Debug, PartialEq, Eq)]
+#[derive(Debug, PartialEq, Eq, Drop)]
 pub enum Command<'a> {
     /// Make the multiplex.
     Run {
         /// The name of the plan's file.
         plan: &'a str,
+        /// The plans that follow it: the slot from which on each is in force, 1 to 999,999, and the name of its file.
+        later: Vec<(u64, &'a str)>,
         /// The name of the output file, which is none of those that the run reads.
         out: &'a str,
         /// How long the run goes on.
@@ -27,6 +29,8 @@ pub enum Command<'a> {
     Check {
         /// The name of the plan's file.
         plan: &'a str,
+        /// The plans that follow it, as those of a run.
+        later: Vec<(u64, &'a str)>,
         /// Whether a plan that an input's rates don't fit ends it with status 1.
         strict: bool,
     },
@@ -56,6 +60,8 @@ pub enum LineFault {
 
 /// The most slots of a run that isn't asked to go on until its inputs end, and of a watched period.
 pub(crate) const MOST_SLOTS: u64 = 1_000_000;
+/// The last slot from which on a plan may come into force.
+pub(crate) const MOST_SWITCH_SLOT: u64 = 999_999;
 /// The most seconds from one report of a run to the next.
 pub(crate) const MOST_SECONDS: u64 = 3_600;
 /// The least rate of a stream, in bits a second.

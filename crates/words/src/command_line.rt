@@ -1,15 +1,18 @@
 //! The words of a command line.
 
-ghost use Rattle.std.specs.Prelude.{◌≡◌, IfOk, IfSome};
+ghost use Rattle.std.specs.Prelude.{◌≡◌, length, map, IfOk, IfSome};
+ghost use Rattle.std.specs.List.{All};
 ghost use Rattle.tspkt.specs.PacketSize.{stride_of};
-ghost use Rattle.words.specs.Ranges.{IsWithin, IsAllowedLength, IsAllowed};
+ghost use Rattle.words.specs.Ranges.{IsWithin, IsAllowedLength, IsAllowedSwitch, IsAllowed};
 
-use crate::command::{Command, LEAST_RATE, LineFault, MOST_RATE, MOST_SECONDS, MOST_SLOTS};
+use crate::command::{
+    Command, LEAST_RATE, LineFault, MOST_RATE, MOST_SECONDS, MOST_SLOTS, MOST_SWITCH_SLOT,
+};
 use crate::options::program;
 use crate::run_length::RunLength;
 use clap::error::ErrorKind;
 use clap::{ArgMatches, Error};
-use std::alloc::Global;
+use std::alloc::{AllocError, Global};
 use std::convert::AsStr;
 use tspkt::PacketSize;
 
@@ -42,6 +45,56 @@ fn report_of(matches: &ArgMatches) -> Option<u64>
     within(matches.get_one::<u64>("report")?, 1, MOST_SECONDS)
 }
 
+/// The slot from which on a plan may come into force, if this is one.
+fn slot_in(text: &str) -> Option<u64>
+    ensures { IfSome result (IsWithin 1 999999) }
+{
+    within(text.parse().ok()?, 1, MOST_SWITCH_SLOT)
+}
+
+/// What is said of words that the parser took, and which are no command.
+const NO_COMMAND: &str = "error: the words are no command\n\nFor more information, try '--help'.\n";
+
+/// What is said of a later plan without a slot, or of a slot without one.
+const UNPAIRED: &str =
+    "error: '--then <F>' and '--at <N>' go in pairs: a plan's file, and the slot from which on it is in force\n\nFor more information, try '--help'.\n";
+
+/// These plans, in their order, each with the slot of the same place; what is said where a slot is out of its range, which the parser
+/// excludes.
+fn paired<'a>(
+    alloc: Global,
+    plans: &[&'a str],
+    slots: &[&'a str],
+) -> Result<Result<Vec<(u64, &'a str)>, &'static str>, AllocError>
+    requires { length slots.now ≡ length plans.now }
+    ensures slots { IfOk result (λ read. IfOk read (λ later. All IsAllowedSwitch later.items)) }
+    ensures plans { IfOk result (λ read. IfOk read (λ later. map (λ pair. pair.1) later.items ≡ plans.now)) }
+{
+    let mut later = Vec::new(alloc);
+    for number in 0..plans.len() {
+        let Some(slot) = slot_in(slots[number]) else {
+            return Ok(Err(NO_COMMAND));
+        };
+        later.push((slot, plans[number]))?;
+    }
+    Ok(Ok(later))
+}
+
+/// The plans that follow the first, in the order in which they are given, each with its slot; what is said where they aren't given in
+/// pairs.
+fn later_of<'a>(
+    alloc: Global,
+    matches: &ArgMatches<'a>,
+) -> Result<Result<Vec<(u64, &'a str)>, &'static str>, AllocError>
+    ensures { IfOk result (λ read. IfOk read (λ later. All IsAllowedSwitch later.items)) }
+{
+    match (matches.get_strs("then"), matches.get_strs("at")) {
+        (None, None) => Ok(Ok(Vec::new(alloc))),
+        (Some(plans), Some(slots)) if plans.len() == slots.len() => paired(alloc, plans, slots),
+        _ => Ok(Err(UNPAIRED)),
+    }
+}
+
 /// The size of packets that stand so many bytes apart, if it is one.
 fn size_of(bytes: u64) -> Option<PacketSize>
     ensures { IfSome result (λ size. stride_of size ≡ bytes) }
@@ -53,13 +106,19 @@ fn size_of(bytes: u64) -> Option<PacketSize>
     }
 }
 
-/// The command that was read; none where a value is missing or out of its range, which the parser excludes.
-fn command_of<'a>(name: &str, matches: &ArgMatches<'a>) -> Option<Command<'a>>
+/// The command that was read, with these later plans; none where a value is missing or out of its range, which the parser excludes.
+fn command_of<'a>(
+    name: &str,
+    matches: &ArgMatches<'a>,
+    later: Vec<(u64, &'a str)>,
+) -> Option<Command<'a>>
+    requires { All IsAllowedSwitch later.items }
     ensures { IfSome result IsAllowed }
 {
     match name {
         "run" => Some(Command::Run {
             plan: matches.get_str("plan")?,
+            later,
             out: matches.get_str("out")?,
             length: length_of(matches)?,
             serial: matches.get_flag("serial"),
@@ -69,6 +128,7 @@ fn command_of<'a>(name: &str, matches: &ArgMatches<'a>) -> Option<Command<'a>>
         }),
         "check" => Some(Command::Check {
             plan: matches.get_str("plan")?,
+            later,
             strict: matches.get_flag("strict"),
         }),
         "analyse" => Some(Command::Analyse {
@@ -81,14 +141,24 @@ fn command_of<'a>(name: &str, matches: &ArgMatches<'a>) -> Option<Command<'a>>
     }
 }
 
-/// The words as the parser reads them.
-fn parse<'a, S: AsStr>(alloc: Global, words: &'a [S]) -> Result<Option<Command<'a>>, Error>
-    ensures { IfOk result (λ read. IfSome read IsAllowed) }
+/// The words as the parser reads them; what is said of them where it takes them and they are no command.
+fn parse<'a, S: AsStr>(
+    alloc: Global,
+    words: &'a [S],
+) -> Result<Result<Command<'a>, &'static str>, Error>
+    ensures { IfOk result (λ read. IfOk read IsAllowed) }
 {
     let matches = program(alloc)?.try_get_matches_from(words)?;
-    match matches.subcommand() {
-        Some((name, inner)) => Ok(command_of(name, inner)),
-        None => Ok(None),
+    let Some((name, inner)) = matches.subcommand() else {
+        return Ok(Err(NO_COMMAND));
+    };
+    let later = match later_of(alloc, inner)? {
+        Ok(later) => later,
+        Err(text) => return Ok(Err(text)),
+    };
+    match command_of(name, inner, later) {
+        Some(command) => Ok(Ok(command)),
+        None => Ok(Err(NO_COMMAND)),
     }
 }
 
@@ -128,12 +198,9 @@ fn fault_of(alloc: Global, error: &Error) -> LineFault {
     }
 }
 
-/// That of words which the parser took, and which are no command.
-fn no_command(alloc: Global) -> LineFault {
-    match String::from_str(
-        alloc,
-        "error: the words are no command\n\nFor more information, try '--help'.\n",
-    ) {
+/// That of words of which this is said.
+fn refused_with(alloc: Global, text: &str) -> LineFault {
+    match String::from_str(alloc, text) {
         Ok(text) => LineFault::Refused(text),
         Err(_) => LineFault::Memory,
     }
@@ -147,8 +214,8 @@ pub fn line<'a, S: AsStr>(alloc: Global, words: &'a [S]) -> Result<Command<'a>, 
     ensures { IfOk result IsAllowed }
 {
     match parse(alloc, words) {
-        Ok(Some(command)) => Ok(command),
-        Ok(None) => Err(no_command(alloc)),
+        Ok(Ok(command)) => Ok(command),
+        Ok(Err(text)) => Err(refused_with(alloc, text)),
         Err(error) => Err(fault_of(alloc, &error)),
     }
 }

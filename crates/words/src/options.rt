@@ -1,6 +1,6 @@
 //! The commands and their options, as the parser knows them, and their help.
 
-use crate::command::{LEAST_RATE, MOST_RATE, MOST_SECONDS, MOST_SLOTS};
+use crate::command::{LEAST_RATE, MOST_RATE, MOST_SECONDS, MOST_SLOTS, MOST_SWITCH_SLOT};
 use clap::builder::ValueParser;
 use clap::{Arg, ArgAction, Command};
 use std::alloc::{AllocError, Global};
@@ -15,7 +15,7 @@ const EXAMPLE: &str = "Example, from the top of the repository:
 Status: 0 success, 1 analyse reported a fault or --strict what is wrong with a plan or an input, 2 refused words, 3 refused plan, 4 a file that failed, 5 out of memory.";
 
 const RUN_USAGE: &str =
-    "remux run --plan <F> --out <F> [--slots <N> | --all] [--serial] [--delays] [--strict] [--report <N>]";
+    "remux run --plan <F> [--then <F> --at <N>].. --out <F> [--slots <N> | --all] [--serial] [--delays] [--strict] [--report <N>]";
 
 const RUN_EXAMPLE: &str =
     "It prints a line for each input and one for the output, on standard error where the multiplex goes to standard output.
@@ -34,13 +34,17 @@ A stream whose packets waited more than a second is reported on standard error, 
 and one whose queue came to the plan's 'queue' too; so are inputs whose rate isn't as the plan states or that ended a second before others, \
 and a 'leak' that is too low. With --strict the status of such a run is 1; its output is the same.
 
+With --then F --at N the plan in F is in force from slot N on, and the output goes on without a gap; the pair may be given again, for the \
+plan behind it. Both plans have the same rate, period and inputs, and the second has the next version. \
+`remux check` with the same words shows what each switch keeps, drops and begins.
+
 With --report 10 it prints every 10 seconds how far the run is, on standard error; and at once where an input ends while others go on, \
 or makes all wait for more than a second.
 
 Example:
   ./remux run --plan examples/plan.toml --out out.ts --slots 50000";
 
-const CHECK_USAGE: &str = "remux check --plan <F> [--strict]";
+const CHECK_USAGE: &str = "remux check --plan <F> [--then <F> --at <N>].. [--strict]";
 
 const CHECK_EXAMPLE: &str =
     "It reads the plan and the tables of its inputs, and prints the rhythm of the tables, \
@@ -96,6 +100,21 @@ fn number<'a>(alloc: Global, name: &'a str, help: &'a str, least: u64, most: u64
 /// The option `--plan F`.
 fn plan<'a>(alloc: Global) -> Arg<'a> {
     file(alloc, "plan", "The plan's file, in TOML").long("plan")
+}
+
+/// The option `--then F`, which may be given several times.
+fn then<'a>(alloc: Global) -> Arg<'a> {
+    Arg::new(alloc, "then")
+        .long("then")
+        .value_name("F")
+        .help("The file of a plan that follows, in TOML; with --at")
+        .action(ArgAction::Append)
+}
+
+/// The option `--at N`, once for each `--then`.
+fn at<'a>(alloc: Global) -> Arg<'a> {
+    let help = "The slot from which on that plan is in force, 1 to 999999";
+    number(alloc, "at", help, 1, MOST_SWITCH_SLOT).action(ArgAction::Append)
 }
 
 /// The option `--out F`.
@@ -168,6 +187,8 @@ fn run_command<'a>(alloc: Global) -> Result<Command<'a>, AllocError> {
     let about = "Makes the multiplex of a plan";
     command(alloc, "run", about, RUN_USAGE, RUN_EXAMPLE)
         .arg(plan(alloc))?
+        .arg(then(alloc))?
+        .arg(at(alloc))?
         .arg(out(alloc))?
         .arg(slots(alloc))?
         .arg(all(alloc)?)?
@@ -185,6 +206,8 @@ fn check_command<'a>(alloc: Global) -> Result<Command<'a>, AllocError> {
     let about = "Says whether a plan can be run, and shows what it makes";
     command(alloc, "check", about, CHECK_USAGE, CHECK_EXAMPLE)
         .arg(plan(alloc))?
+        .arg(then(alloc))?
+        .arg(at(alloc))?
         .arg(strict(alloc))
 }
 

@@ -65,6 +65,14 @@ impl Sources for MemoryFiles {
         self.open(name)
     }
 
+    fn anew(
+        &mut self,
+        name: &str,
+        _first: FileReader<MemoryReader>,
+    ) -> Result<FileReader<MemoryReader>, FileCause> {
+        self.open(name)
+    }
+
     fn again(
         &mut self,
         name: &str,
