@@ -9,6 +9,7 @@ use printing::{
     StreamAnalysis, print_plan, print_rhythm, print_same_files, print_shape, print_switch_tables,
     print_switches, strict_status,
 };
+use probing::probe_files;
 use rate_meter::RateMeter;
 use std::alloc::Global;
 use std::convert::AsStr;
@@ -28,8 +29,8 @@ const TOLD: u8 = 1;
 /// of a run that is asked for them. What `err` doesn't take is left out. The answer is the status with which the program
 /// ends, and the output's writer, where one was made.
 ///
-/// The status is 0 for success, 1 where an analysis told a fault, or a strict check or run what isn't as it should be, 2 for refused
-/// words, 3 for a refused plan, 4 for a file that failed and 5 for want of memory. Without words it does the stored first run.
+/// The status is 0 for success, 1 where an analysis told a fault, a strict check or run what isn't as it should be, or a probe found no
+/// packets or made no plan, 2 for refused words, 3 for a refused plan, 4 for a file that failed and 5 for want of memory. Without words it does the stored first run.
 ///
 /// The first fault ends a command: of its words, of the plan's file, of its text, of the inputs while their tables are sought,
 /// of the plan, of the inputs as they are opened again, of the output file, and of the run. An output that is the plan's file or
@@ -90,6 +91,10 @@ where
         ) => {
             let mut analysis = StreamAnalysis::new(alloc, size, rate, period);
             let ended = analyse(alloc, files, &mut analysis, size, file, out, err);
+            (end(ended, out, err), None)
+        }
+        Ok(Command::Probe { files: names, plan }) => {
+            let ended = probe_files(alloc, files, &names, plan, out, err);
             (end(ended, out, err), None)
         }
         Ok(

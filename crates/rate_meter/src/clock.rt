@@ -36,16 +36,17 @@ impl Model for Clock {
     ghost invariant = { λ c. (c.last ≡ slice_get c.past 0) × (c.line ≡ points_of c.past) };
 }
 
-/// How many ticks of 27 MHz it is from one PCR to a later one.
-fn elapsed(before: u64, now: u64) -> u64
+/// How many ticks of 27 MHz it is from one PCR to a later one, below 2^42.
+pub fn elapsed(before: u64, now: u64) -> u64
     ensures value { result ≡ ticks_from before now }
     ensures fits { result < 2 ^ 42 }
 {
     (now % PCR_MODULUS + PCR_MODULUS - before % PCR_MODULUS) % PCR_MODULUS
 }
 
-/// Whether the clock was set anew between two neighbours.
-fn is_splice(before: Reading, now: Reading) -> bool
+/// Whether the clock was set anew between two neighbours: there is a discontinuity indicator (ISO/IEC 13818-1, 2.4.3.5), or they are more
+/// than a second apart.
+pub fn is_splice(before: Reading, now: Reading) -> bool
     ensures { result ≡ is_spliced before now }
 {
     now.is_discontinuous || LONGEST_STEP < elapsed(before.pcr, now.pcr)

@@ -27,7 +27,7 @@ mod stepper;
 mod table_watch;
 mod watched_program;
 
-pub use clock::Clock;
+pub use clock::{Clock, elapsed, is_splice};
 pub use deviation::{Deviation, deviation_of, off_by};
 pub use laws::send_meter;
 pub use line::Line;

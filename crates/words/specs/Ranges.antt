@@ -1,8 +1,8 @@
 -- What a command line may ask for (profile).
-use Rattle.std.specs.Prelude.{ℕ, ◌≤◌, IfSome}
+use Rattle.std.specs.Prelude.{ℕ, ◌≤◌, IfSome, length}
 use Rattle.std.specs.List.{All as Each}
 use Rattle.words.specs.declared.command.Command.{Command}
-use Rattle.words.specs.declared.command.Command.TheVariants.{Run, Check, Analyse}
+use Rattle.words.specs.declared.command.Command.TheVariants.{Run, Check, Analyse, Probe}
 use Rattle.words.specs.declared.run_length.RunLength.{RunLength}
 use Rattle.words.specs.declared.run_length.RunLength.TheVariants.{Slots, All}
 
@@ -25,9 +25,10 @@ abbrev pub IsAllowedSwitch : {N : Type 0} → ℕ × N → Type 0
 IsAllowedSwitch later = IsWithin 1 999999 later.0
 
 -- the numbers of a command are in their ranges: slots of a run, those of its switches, and the seconds between its reports, a rate in
--- bits a second, and a period in slots
+-- bits a second, a period in slots, and how many files are probed
 abbrev pub IsAllowed : Command → Type 0
 IsAllowed (Run plan later out length serial delays strict report) =
     Each IsAllowedSwitch later.items × IsAllowedLength length × IfSome report (IsWithin 1 3600)
 IsAllowed (Check plan later strict) = Each IsAllowedSwitch later.items
 IsAllowed (Analyse size rate period file) = IsWithin 500000 100000000 rate × IsWithin 1 1000000 period
+IsAllowed (Probe files plan) = IsWithin 1 8 (length files.items)

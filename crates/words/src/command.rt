@@ -45,6 +45,13 @@ pub enum Command<'a> {
         /// The name of the stream's file.
         file: &'a str,
     },
+    /// Say what is in streams.
+    Probe {
+        /// The names of their files, 1 to 8.
+        files: Vec<&'a str>,
+        /// Whether a plan of them is made, and nothing else is said.
+        plan: bool,
+    },
 }
 
 /// Why words are no command.
@@ -68,3 +75,5 @@ pub(crate) const MOST_SECONDS: u64 = 3_600;
 pub(crate) const LEAST_RATE: u64 = 500_000;
 /// The largest one.
 pub(crate) const MOST_RATE: u64 = 100_000_000;
+/// The most files that are probed at once: as many as a plan has inputs.
+pub(crate) const MOST_FILES: usize = 8;

@@ -6,7 +6,8 @@ ghost use Rattle.tspkt.specs.PacketSize.{stride_of};
 ghost use Rattle.words.specs.Ranges.{IsWithin, IsAllowedLength, IsAllowedSwitch, IsAllowed};
 
 use crate::command::{
-    Command, LEAST_RATE, LineFault, MOST_RATE, MOST_SECONDS, MOST_SLOTS, MOST_SWITCH_SLOT,
+    Command, LEAST_RATE, LineFault, MOST_FILES, MOST_RATE, MOST_SECONDS, MOST_SLOTS,
+    MOST_SWITCH_SLOT,
 };
 use crate::options::program;
 use crate::run_length::RunLength;
@@ -106,11 +107,31 @@ fn size_of(bytes: u64) -> Option<PacketSize>
     }
 }
 
-/// The command that was read, with these later plans; none where a value is missing or out of its range, which the parser excludes.
+/// The files that are probed, in their order; none of another command.
+fn files_of<'a>(alloc: Global, matches: &ArgMatches<'a>) -> Result<Vec<&'a str>, AllocError> {
+    match matches.get_strs("files") {
+        Some(files) => Vec::from_slice(alloc, files),
+        None => Ok(Vec::new(alloc)),
+    }
+}
+
+/// The command that probes these files; none where they are too few or too many, which the parser excludes.
+fn probe_of<'a>(files: Vec<&'a str>, plan: bool) -> Option<Command<'a>>
+    ensures { IfSome result IsAllowed }
+{
+    if files.is_empty() || files.len() > MOST_FILES {
+        return None;
+    }
+    Some(Command::Probe { files, plan })
+}
+
+/// The command that was read, with these later plans and these files to probe; none where a value is missing or out of its range, which
+/// the parser excludes.
 fn command_of<'a>(
     name: &str,
     matches: &ArgMatches<'a>,
     later: Vec<(u64, &'a str)>,
+    files: Vec<&'a str>,
 ) -> Option<Command<'a>>
     requires { All IsAllowedSwitch later.items }
     ensures { IfSome result IsAllowed }
@@ -137,6 +158,7 @@ fn command_of<'a>(
             period: within(matches.get_one::<u64>("period")?, 1, MOST_SLOTS)?,
             file: matches.get_str("file")?,
         }),
+        "probe" => probe_of(files, matches.get_flag("plan")),
         _ => None,
     }
 }
@@ -156,7 +178,8 @@ fn parse<'a, S: AsStr>(
         Ok(later) => later,
         Err(text) => return Ok(Err(text)),
     };
-    match command_of(name, inner, later) {
+    let files = files_of(alloc, inner)?;
+    match command_of(name, inner, later, files) {
         Some(command) => Ok(Ok(command)),
         None => Ok(Err(NO_COMMAND)),
     }

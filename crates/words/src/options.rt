@@ -1,6 +1,8 @@
 //! The commands and their options, as the parser knows them, and their help.
 
-use crate::command::{LEAST_RATE, MOST_RATE, MOST_SECONDS, MOST_SLOTS, MOST_SWITCH_SLOT};
+use crate::command::{
+    LEAST_RATE, MOST_FILES, MOST_RATE, MOST_SECONDS, MOST_SLOTS, MOST_SWITCH_SLOT,
+};
 use clap::builder::ValueParser;
 use clap::{Arg, ArgAction, Command};
 use std::alloc::{AllocError, Global};
@@ -9,10 +11,11 @@ const ABOUT: &str = "Takes services from several MPEG-2 transport streams and ma
 of constant rate. Without words it sends the first two slots of a stored plan.";
 
 const EXAMPLE: &str = "Example, from the top of the repository:
+  ./remux probe examples/north.ts examples/south.ts --plan
   ./remux run --plan examples/plan.toml --out out.ts
   ./remux analyse --rate 3000000 --period 5000 out.ts
 
-Status: 0 success, 1 analyse reported a fault or --strict what is wrong with a plan or an input, 2 refused words, 3 refused plan, 4 a file that failed, 5 out of memory.";
+Status: 0 success, 1 analyse reported a fault, --strict what is wrong with a plan or an input, or probe found no packets or made no plan, 2 refused words, 3 refused plan, 4 a file that failed, 5 out of memory.";
 
 const RUN_USAGE: &str =
     "remux run --plan <F> [--then <F> --at <N>].. --out <F> [--slots <N> | --all] [--serial] [--delays] [--strict] [--report <N>]";
@@ -67,6 +70,20 @@ and --rate counts them. Else packets follow one another every 188 bytes.
 
 Example:
   ./remux analyse --rate 3000000 --period 5000 out.ts";
+
+const PROBE_USAGE: &str = "remux probe <F>.. [--plan]";
+
+const PROBE_EXAMPLE: &str =
+    "It reads the first 67108864 bytes of each file, of packets of 188 or 204 bytes, and prints what it is: its size and rate, \
+its tables, its programs with their streams, and for each PID its rate, its PCRs, and what is wrong there. \
+The status is 1 where a file has no packets.
+
+With --plan it prints a plan of all services instead, which runs as it is, and on standard error which are left out and why. \
+The status is 1 where no plan can be made.
+
+Example, from the top of the repository:
+  ./remux probe examples/north.ts
+  ./remux probe examples/north.ts examples/south.ts --plan > plan.toml";
 
 /// How many bytes may lie from one packet to the next.
 const SIZES: [&str; 2] = ["188", "204"];
@@ -221,6 +238,19 @@ fn analyse_command<'a>(alloc: Global) -> Result<Command<'a>, AllocError> {
         .arg(file(alloc, "file", stream))
 }
 
+fn probe_command<'a>(alloc: Global) -> Result<Command<'a>, AllocError> {
+    let about = "Says what is in streams, or makes a plan of them";
+    let streams = "The streams' files, 1 to 8; - is standard input";
+    let files = file(alloc, "files", streams).action(ArgAction::Append);
+    command(alloc, "probe", about, PROBE_USAGE, PROBE_EXAMPLE)
+        .arg(files.num_args(1..=MOST_FILES))?
+        .arg(flag(
+            alloc,
+            "plan",
+            "Print a plan of all services that can be taken",
+        ))
+}
+
 /// The program, with its commands.
 pub(crate) fn program<'a>(alloc: Global) -> Result<Command<'a>, AllocError> {
     Command::new(alloc, "remux")
@@ -231,5 +261,6 @@ pub(crate) fn program<'a>(alloc: Global) -> Result<Command<'a>, AllocError> {
         .subcommand_required(true)
         .subcommand(run_command(alloc)?)?
         .subcommand(check_command(alloc)?)?
-        .subcommand(analyse_command(alloc)?)
+        .subcommand(analyse_command(alloc)?)?
+        .subcommand(probe_command(alloc)?)
 }

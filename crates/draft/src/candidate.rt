@@ -1,0 +1,23 @@
+//! A service that a plan can take.
+
+/// A stream of a service that a plan can take.
+#[derive(Clone, Copy, Debug, PartialEq, Eq)]
+pub(crate) struct CandidateStream {
+    /// Its PID in the file, 0x0020 to 0x1FFE.
+    pub pid: u16,
+    /// The leak rate of its transport buffer, in bits a second.
+    pub leak: u64,
+    /// The highest rate that was measured of it, in bits a second.
+    pub highest: u64,
+}
+
+/// A service that a plan can take.
+#[derive(Drop)]
+pub(crate) struct Candidate {
+    /// The place of its file.
+    pub file: usize,
+    /// Its number there.
+    pub program: u16,
+    /// Its streams, each PID once.
+    pub streams: Vec<CandidateStream>,
+}

@@ -1,0 +1,89 @@
+//! The text of a plan.
+
+use request::{InputParts, Parts, ServiceParts, StreamParts};
+use std::alloc::{AllocError, Global};
+use toml::Value;
+
+/// What stands in front of the values.
+const HEAD: &str =
+    "# A plan that remux probe made. Beside the tables its rate leaves a tenth more than the services took at most.
+";
+
+/// Adds the settings at the top.
+fn push_settings(text: &mut String, parts: &Parts) -> Result<(), AllocError> {
+    let (rate, period, watch, version) = (parts.rate, parts.period, parts.watch, parts.version);
+    let (queue, ring) = (parts.queue, parts.ring);
+    write!(text, "rate = {rate}\nperiod = {period}\nwatch = {watch}\n")?;
+    write!(
+        text,
+        "version = {version}\nqueue = {queue}\nring = {ring}\n"
+    )
+}
+
+/// Adds what names the output and its network.
+fn push_names(alloc: Global, text: &mut String, parts: &Parts) -> Result<(), AllocError> {
+    let (stream, network) = (parts.transport_stream_id, parts.network_id);
+    let original = parts.original_network_id;
+    let name = Value::string(alloc, &parts.network_name)?;
+    let descriptors = hex::encode(alloc, &parts.transport_descriptors)?;
+    write!(
+        text,
+        "transport_stream_id = {stream}\noriginal_network_id = {original}\n"
+    )?;
+    write!(text, "network_id = {network}\nnetwork_name = {name}\n")?;
+    write!(text, "transport_descriptors = \"{descriptors}\"\n")
+}
+
+/// Adds an input.
+fn push_input(alloc: Global, text: &mut String, input: &InputParts) -> Result<(), AllocError> {
+    let (rate, offset) = (input.rate, input.offset);
+    let file = Value::string(alloc, &input.file)?;
+    write!(
+        text,
+        "\n[[input]]\nfile = {file}\nrate = {rate}\noffset = {offset}\n"
+    )?;
+    match input.size {
+        Some(size) => write!(text, "size = {size}\n"),
+        None => Ok(()),
+    }
+}
+
+/// Adds a stream of a service.
+fn push_stream(text: &mut String, stream: &StreamParts) -> Result<(), AllocError> {
+    let (pid, out, leak) = (stream.pid, stream.out, stream.leak);
+    write!(
+        text,
+        "[[service.stream]]\npid = {pid}\nout = {out}\nleak = {leak}\n"
+    )
+}
+
+/// Adds a service.
+fn push_service(text: &mut String, service: &ServiceParts) -> Result<(), AllocError> {
+    let (input, program) = (service.input, service.program);
+    let (number, pmt) = (service.service, service.pmt);
+    write!(
+        text,
+        "\n[[service]]\ninput = {input}\nprogram = {program}\nservice = {number}\npmt = {pmt}\n"
+    )?;
+    if service.streams.is_empty() {
+        return text.push_str("stream = []\n");
+    }
+    for stream in &service.streams {
+        push_stream(text, stream)?;
+    }
+    Ok(())
+}
+
+/// The text of a plan with these values.
+pub(crate) fn plan_text(alloc: Global, parts: &Parts) -> Result<String, AllocError> {
+    let mut text = String::from_str(alloc, HEAD)?;
+    push_settings(&mut text, parts)?;
+    push_names(alloc, &mut text, parts)?;
+    for input in &parts.inputs {
+        push_input(alloc, &mut text, input)?;
+    }
+    for service in &parts.services {
+        push_service(&mut text, service)?;
+    }
+    Ok(text)
+}

@@ -1,0 +1,8 @@
+pub mod Codec
+pub mod Counting
+pub mod Counts
+pub mod Jitter
+pub mod Language
+pub mod Occurring
+pub mod Probing
+pub mod Programs

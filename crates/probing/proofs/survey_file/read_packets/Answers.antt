@@ -1,0 +1,14 @@
+use Rattle.std.proofs.Common.{◌≡◌, false, Option, Some, None, Ok, sym, ap, ◌∙◌, rules}
+use Rattle.std.specs.Option.{is_none, IsSome}
+use Rattle.probing.proofs.survey_file.read_packets.Goals as goal
+
+-- what isn't none is there
+some_where : {X : Type 0} (o : Option X) → is_none o ≡ false → IsSome o
+some_where None e = cc
+some_where (Some x) e = search rules
+
+pub read-requires-clause-ahead : goal.read-requires-clause-ahead
+read-requires-clause-ahead g c = c.give_told.ensures.none (c.in_ok-give_told.was ∙ ap Ok c.if-branch.false)
+
+pub read-requires-clause-open : goal.read-requires-clause-open
+read-requires-clause-open g c = some_where c.give_told.new.stream.items.framer (sym c.is_over.ensures ∙ c.if-is_over.false)
