@@ -11,12 +11,10 @@ use crate::fault_kind::FaultKind;
 use crate::pat_watch::PatWatch;
 use crate::sync_watch::SyncWatch;
 use crate::table_watches::TableWatches;
+use rounds::half_second;
 use std::alloc::{AllocError, Global};
 use std::marker::Model;
 use tspkt::Packet;
-
-/// Two packets' bits: half of a stream's rate over a packet's 1,504 bits is the slots of half a second.
-const TWO_PACKETS: u64 = 3008;
 
 /// Tells a fault, where there is one.
 #[inline(always)]
@@ -92,7 +90,7 @@ impl StreamWatch {
     pub fn new(alloc: Global, rate: u64, period: u64) -> Result<StreamWatch, AllocError>
         ensures { IfOk result (λ w. HaveSeenStream rate period w []) }
     {
-        let limit = rate / TWO_PACKETS;
+        let limit = half_second(rate);
         Ok(StreamWatch {
             count: 0,
             sync: SyncWatch::new(),
