@@ -3,7 +3,7 @@
 
 use crate::threaded_tests::inputs::Inputs;
 use crate::threaded_tests::runs::{run_gated, written_in_one};
-use crate::threaded_tests::turn_gates::RandomGate;
+use crate::threaded_tests::turn_gates::{RandomGate, TurnsGate};
 use anyhow::{Error, Result};
 use example::{planned, service, settings_with_rings, switched, tables};
 use mux::Totals;
@@ -147,6 +147,33 @@ fn runs_switch_while_rings_of_one_packet_are_full(rt: HostRuntime) -> Result<(),
 #[test]
 fn runs_switch_while_rings_of_four_packets_are_full(rt: HostRuntime) -> Result<(), Fail> {
     Ok(run_overfull(rt.alloc(), rt, 4)?)
+}
+
+/// How often a gate lets other threads go first at each of its points.
+const TURNS: [u32; 3] = [0, 1, 7];
+
+/// Each pair of gates, which let other threads go first 0, 1 or 7 times, writes what the run in one thread writes.
+#[test]
+fn runs_switch_whatever_the_turns(rt: HostRuntime) -> Result<(), Fail> {
+    let alloc = rt.alloc();
+    let inputs = Inputs {
+        count: 2,
+        packets: 110,
+    };
+    let schedule = schedule_of(alloc, 4)?;
+    let written = written_in_one(alloc, &schedule, 1_000, inputs)?;
+    assert!(rt; count_on(0x0202, &written) > 0);
+    for first in TURNS {
+        for second in TURNS {
+            let gates = vec![in alloc; TurnsGate { turns: first }, TurnsGate { turns: second }]?;
+            let (bytes, _, _) = run_gated(alloc, rt, schedule.copy(alloc)?, 1_000, inputs, gates)?;
+            assert!(rt;
+                bytes.as_slice() == written.as_slice(),
+                "{first} and {second} turns"
+            );
+        }
+    }
+    Ok(())
 }
 
 /// A run that has all its slots at the switch doesn't switch, and one of a slot more sends the PAT of the next plan in it.

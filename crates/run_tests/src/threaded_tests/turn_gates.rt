@@ -12,6 +12,21 @@ fn yield_often(turns: u32) {
     }
 }
 
+/// A gate that lets other threads go first at each of its points, as often each time. It never says no.
+#[derive(Drop)]
+pub struct TurnsGate {
+    pub turns: u32,
+}
+
+impl Gate for TurnsGate {
+    ghost stops = { λ g. 0 };
+
+    fn pass(&mut self, _at: Point) -> bool {
+        yield_often(self.turns);
+        true
+    }
+}
+
 /// A gate that lets other threads go first at each of its points, from 0 to 7 times: the next number of a generator. It never says no.
 #[derive(Drop)]
 pub struct RandomGate {
