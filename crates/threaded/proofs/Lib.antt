@@ -1,9 +1,5 @@
 pub mod ResultLaws
 pub mod ListLaws
-pub mod DrivingLaws
-pub mod WritingLaws
-pub mod HandingLaws
-pub mod CrewLaws
 pub mod ReportLaws
 pub mod SentLaws
 pub mod OutcomeLaws

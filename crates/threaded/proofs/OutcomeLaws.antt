@@ -37,16 +37,16 @@ use Rattle.outcome.proofs.SoundLaws.{sound_nothing}
 use Rattle.outcome.proofs.WrittenLaws.{nothing_sent}
 use Rattle.outcome.proofs.OutcomeLaws as outcome
 use Rattle.outcome.proofs.OutcomeLaws.{AreRead, IsDone, IsBroken, left_of, broken_taking, unread, read_nothing, unread_had_memory}
-use Rattle.threaded.specs.Crews.{AreUnsent, AreSeated, AreStarted, AreEnded, HaveWorked, WantedMemory}
+use Rattle.workers.specs.Crews.{AreUnsent, AreSeated, AreStarted, AreEnded, HaveWorked, WantedMemory}
 use Rattle.threaded.specs.Opening.{IsReady}
-use Rattle.threaded.specs.Driving.{output_of, HasAnalysedAll, IsSameRun, BreaksOff, IsDriven, Drives}
+use Rattle.handing.specs.Driving.{output_of, HasAnalysedAll, IsSameRun, BreaksOff, IsDriven, Drives}
 use Rattle.threaded.specs.Outcome.{HasBegun, RunsThrough, IsCutShort}
 use Rattle.threaded.proofs.ListLaws.{firsts_at, seconds_at}
 use Rattle.outcome.proofs.ResultLaws.{not_write}
 use Rattle.threaded.proofs.ResultLaws.{either_part, unless_write, fine_part}
-use Rattle.threaded.proofs.CrewLaws.{have_worked}
-use Rattle.threaded.proofs.DrivingLaws.{breaks_either}
-use Rattle.threaded.specs.declared.run_gate.RunGate.{RunGate}
+use Rattle.workers.proofs.CrewLaws.{have_worked}
+use Rattle.handing.proofs.DrivingLaws.{breaks_either}
+use Rattle.workers.specs.declared.run_gate.RunGate.{RunGate}
 use Rattle.worker.specs.declared.worker.Worker.{Worker}
 use Rattle.threaded.proofs.SentLaws.{settled_input, served}
 

@@ -8,7 +8,7 @@ use Rattle.reading.specs.declared.stop.Stop.{Stop}
 use Rattle.reading.specs.declared.stop.Stop.TheVariants.{Gate, ReadFailed, TooMuch, Memory}
 use Rattle.outcome.specs.Ending.{HadMemory}
 use Rattle.outcome.specs.declared.ended.Ended.{Ended}
-use Rattle.threaded.specs.Crews.{WantedMemory, wants_memory}
+use Rattle.workers.specs.Crews.{WantedMemory, wants_memory}
 
 -- where none of the workers wanted memory, each of them had it
 pub all_had_memory : {R G : Type 0} (ended : List (Ended (R × G))) → list_any (λ (e : Ended (R × G)). wants_memory e.report.stopped) ended ≡ false → HadMemory ended

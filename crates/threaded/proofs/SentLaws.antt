@@ -23,8 +23,8 @@ use Rattle.station.specs.Stations.{Input, StationValue, IsLawfulInput}
 use Rattle.outcome.specs.declared.ended.Ended.{Ended}
 use Rattle.outcome.proofs.NextLaws.{next_in_order}
 use Rattle.outcome.proofs.ServedLaws.{IsServed}
-use Rattle.threaded.specs.Crews.{IsStarted, IsEnded}
-use Rattle.threaded.specs.declared.run_gate.RunGate.{RunGate}
+use Rattle.workers.specs.Crews.{IsStarted, IsEnded}
+use Rattle.workers.specs.declared.run_gate.RunGate.{RunGate}
 
 -- What the worker of an input sent, and what became of that: it was taken, or is held, or is left in the ring. Nothing is left where
 -- the end mark came, and there is none where a gate stopped the worker.

@@ -17,8 +17,8 @@ use Rattle.outcome.specs.declared.ended.Ended.{Ended}
 use Rattle.outcome.specs.declared.summary.Summary.{Summary}
 use Rattle.port.specs.Rings.{PortValue}
 use Rattle.station.specs.Stations.{StationValue, IsLawfulStation}
-use Rattle.threaded.specs.Crews.{HaveWorked, WantedMemory}
-use Rattle.threaded.specs.Driving.{IsDriven, BreaksOff}
+use Rattle.workers.specs.Crews.{HaveWorked, WantedMemory}
+use Rattle.handing.specs.Driving.{IsDriven, BreaksOff}
 
 -- What a run in threads makes of these readers, each of at most so many bytes at its input's size, where it doesn't end by itself but
 -- with this fault. So many writes had failed before the run, and so many after it.

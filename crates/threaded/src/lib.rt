@@ -6,19 +6,10 @@
 //! of each input what can be taken of its bytes.
 #![tactic(auto)]
 
-mod crew;
-mod driving;
 mod opening;
-mod output_thread;
-mod output_worker;
-mod passage;
 mod run;
-mod run_gate;
 mod seats;
 mod telling;
-mod turn;
-mod work;
 mod working;
-mod written;
 
 pub use run::run_threads;

@@ -6,7 +6,6 @@ ghost use Rattle.station.specs.Opening.{IsOpened};
 ghost use Rattle.threaded.specs.Opening.{IsReady};
 
 use crate::seats::seats;
-use crate::work::WorkHandle;
 use outcome::Ended;
 use outlet::SlotWriter;
 use port::Port;
@@ -17,6 +16,7 @@ use std::alloc::{AllocError, Global};
 use std::sync::Arc;
 use std::sync::atomic::AtomicBool;
 use worker::Gate;
+use workers::WorkHandle;
 
 /// A run before its workers are started: the station, what each worker is made of, what the output goes through, whether the run is
 /// over, and room for the threads of the workers and for what they leave.

@@ -7,7 +7,6 @@ ghost use Rattle.reading.specs.InputLimit.{IsAllowed};
 ghost use Rattle.outcome.specs.Outcome.{HasRun, FailuresAreTold};
 ghost use Rattle.threaded.specs.Outcome.{HasBegun};
 
-use crate::crew::join_all;
 use crate::opening::{Opening, open};
 use crate::telling::tell;
 use crate::working::work;
@@ -21,6 +20,7 @@ use std::sync::atomic::Ordering;
 use std::thread::Threads;
 use std::time::Clock;
 use worker::Gate;
+use workers::join_all;
 
 /// Runs a schedule in threads: reads one reader an input, each in a thread of its own and at most as many bytes of each as `limit` says
 /// at the input's size (up to 140,737,488,355,328), and analyses and writes the packet of each slot in one thread more, at most so

@@ -2,13 +2,13 @@
 
 ghost use Rattle.std.specs.Prelude.{◌≡◌, ◌⊎◌, length, Err, IfOk, OnOk, OnErr};
 ghost use Rattle.outcome.specs.Ending.{HadMemory, IsTold};
-ghost use Rattle.threaded.specs.Crews.{WantedMemory};
+ghost use Rattle.workers.specs.Crews.{WantedMemory};
 
-use crate::crew::wanted_memory;
 use outcome::{Ended, Summary, end_run};
 use outlet::{Outlet, RunFault, Sink};
 use station::Station;
 use std::alloc::Global;
+use workers::wanted_memory;
 
 /// What is told of a run that was driven so, whose workers left this. Where one wanted memory `Memory` is told, whatever the writer
 /// did. The sink comes back.

@@ -2,13 +2,10 @@
 
 ghost use Rattle.std.specs.Prelude.{◌≡◌, ◌⊎◌, ◌≤◌, [], length, vec_capacity, map, Err, OnOk, OnErr};
 ghost use Rattle.reading.specs.InputLimit.{IsAllowed};
-ghost use Rattle.threaded.specs.Crews.{AreUnsent, AreStarted};
-ghost use Rattle.threaded.specs.Driving.{Drives};
+ghost use Rattle.workers.specs.Crews.{AreUnsent, AreStarted};
+ghost use Rattle.handing.specs.Driving.{Drives};
 
-use crate::crew::start_all;
-use crate::output_thread::send_out;
-use crate::passage::Passage;
-use crate::work::WorkHandle;
+use handing::{Passage, send_out};
 use outlet::{Outlet, RunFault, Sink};
 use port::Port;
 use reading::{InputLimit, Source};
@@ -20,9 +17,10 @@ use std::sync::{Arc, Wait};
 use std::thread::Threads;
 use std::time::Clock;
 use worker::Gate;
+use workers::{WorkHandle, start_all};
 
 /// Starts the workers, and ticks to the end of the run.
-#[tactic(auto, using(crate::proofs::DrivingLaws::drives_nowhere))]
+#[tactic(auto, using(handing::proofs::DrivingLaws::drives_nowhere))]
 pub(crate) fn work<
     T: Threads + Wait + Clock + Copy + Send + Drop + 'static,
     R: Source + Send + Drop + 'static,

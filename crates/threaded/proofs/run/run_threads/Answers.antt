@@ -11,8 +11,8 @@ use Rattle.outlet.proofs.SendingLaws.{if_err_is, same_err}
 use Rattle.outcome.proofs.ResultLaws.{not_write}
 use Rattle.outcome.specs.Outcome.{HasRun}
 use Rattle.threaded.specs.Outcome.{HasBegun}
-use Rattle.threaded.proofs.CrewLaws.{seated_workers}
-use Rattle.threaded.proofs.DrivingLaws.{same_either}
+use Rattle.workers.proofs.CrewLaws.{seated_workers}
+use Rattle.handing.proofs.DrivingLaws.{same_either}
 use Rattle.threaded.proofs.ResultLaws.{unless_write, fine_part, if_ok_both}
 use Rattle.threaded.proofs.OutcomeLaws.{ready_count, ready_unsent, ready_seated, run_is, begun_nothing, run_failed, runs_through, is_cut_short, run_ended, lent_count, failures_told}
 use Rattle.threaded.proofs.run.run_threads.Goals as goal

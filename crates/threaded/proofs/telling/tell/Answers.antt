@@ -6,7 +6,7 @@ use Rattle.outlet.proofs.SendingLaws.{same_err}
 use Rattle.outcome.specs.Ending.{IsTold}
 use Rattle.outcome.specs.declared.ended.Ended.{Ended}
 use Rattle.outcome.proofs.ResultLaws.{not_write, is_fine}
-use Rattle.threaded.specs.Crews.{wants_memory}
+use Rattle.workers.specs.Crews.{wants_memory}
 use Rattle.threaded.proofs.ReportLaws.{all_had_memory, one_wanted_memory}
 use Rattle.threaded.proofs.ResultLaws.{ok_fine}
 use Rattle.threaded.proofs.telling.tell.Goals as goal

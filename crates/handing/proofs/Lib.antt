@@ -1,0 +1,3 @@
+pub mod DrivingLaws
+pub mod WritingLaws
+pub mod HandingLaws

@@ -1,6 +1,0 @@
-use Rattle.std.proofs.Common.{take}
-use Rattle.threaded.proofs.WritingLaws.{Puts}
-use Rattle.threaded.proofs.output_worker.put_all.Given as goal
-
-abbrev pub invariant-loop-packet : goal.invariant-loop-packet
-invariant-loop-packet g l = record { puts : Puts g.W.Sink.contents g.W.Sink.failures l.fn.outlet (take l.packet-index l.packets) l.outlet }
