@@ -129,6 +129,18 @@ class Live:
                 found += part
         return found
 
+    def seconds(self):
+        """The processor time that the run's threads have taken, in seconds."""
+        nanoseconds = 0
+        for name in os.listdir(f"/proc/{self.process.pid}/task"):
+            with open(f"/proc/{self.process.pid}/task/{name}/schedstat", encoding="ascii") as file:
+                nanoseconds += int(file.read().split()[0])
+        return nanoseconds / 1e9
+
+    def threads(self):
+        """How many threads the run has."""
+        return len(os.listdir(f"/proc/{self.process.pid}/task"))
+
     def leave(self):
         """Closes the output's other end."""
         os.close(self.out)
@@ -225,6 +237,80 @@ class WhileAnInputWaits(CommandCase):
             found = run.read(600 * 188)
             run.end(1)
             self.assertTrue(found + run.read(10**6) == written(plan, inputs), "another output")
+            self.assertEqual(run.status(), 0)
+
+    def test_a_write_that_fails_ends_the_waits(self):
+        """The first input has no more for a while, the other's ring is full, and the output waits for its reader, which goes away. The first
+        input's thread is in a read, and the run's own waits for it; the other two end."""
+        with live(plan_of(inputs=2), inputs=2) as run:
+            run.feeds(input_with(100))
+            run.feeds(input_with(400), 1)
+            run.stands_still(1)
+            threads = run.threads() - 2
+            run.leave()
+            until = time.monotonic() + PATIENCE
+            while run.threads() > threads and time.monotonic() < until:
+                time.sleep(0.005)
+            self.assertEqual(run.threads(), threads)
+            run.end()
+            self.assertEqual(run.status(), 4)
+
+    def test_a_run_that_waits_takes_no_processor(self):
+        """Of two inputs the first has no more for a while, and the other's ring is full: all threads wait. In two seconds they take less than a
+        hundredth of a core."""
+        plan = plan_of(inputs=2)
+        inputs = [input_with(400), input_with(400)]
+        with live(plan, inputs=2) as run:
+            run.feeds(inputs[0][:5 * 188])
+            run.feeds(inputs[1], 1)
+            run.stands_still(1)
+            before = run.seconds()
+            time.sleep(2)
+            self.assertLess(run.seconds() - before, 0.02)
+            run.feeds(inputs[0][5 * 188:], then=run.end)
+            found = run.read(600 * 188)
+            run.end(1)
+            self.assertTrue(found + run.read(10**6) == written(plan, inputs), "another output")
+            self.assertEqual(run.status(), 0)
+
+    def test_pipes_that_are_written_in_turn(self):
+        """The second input is late by more packets than its ring has places, so its worker stands at a full ring. Who writes both pipes in turn
+        waits for that worker, and the run for what comes by the first pipe then."""
+        plan, inputs = late(plan_of(ring=64, inputs=2), 100 * 27000), [input_with(2000), input_with(2000)]
+        with live(plan, inputs=2) as run:
+            run.feed(inputs[0][:PAGE])
+
+            def write_in_turn():
+                for at in range(0, len(inputs[0]), PAGE):
+                    run.feed(inputs[1][at:at + PAGE], 1)
+                    run.feed(inputs[0][at + PAGE:at + 2 * PAGE])
+                run.end()
+                run.end(1)
+
+            writer = threading.Thread(target=write_in_turn)
+            writer.start()
+            found = run.read(10**7)
+            writer.join()
+            self.assertTrue(found == written(plan, inputs), "another output")
+            self.assertEqual(run.status(), 0)
+
+    def test_each_packet_goes_out_in_time(self):
+        """A packet comes every five milliseconds. The slot that it lets go is read behind it within a millisecond, in the median of twenty packets:
+        of the best twenty of a hundred, since the machine may do other things too."""
+        plan, octets = plan_of(), input_with(120)
+        with live(plan) as run:
+            run.feed(octets[:20 * 188])
+            found, delays = run.read(19 * 188), []
+            for at in range(20 * 188, len(octets), 188):
+                time.sleep(0.005)
+                start = time.monotonic()
+                run.feed(octets[at:at + 188])
+                found += run.read(188)
+                delays.append(time.monotonic() - start)
+            twenties = [sorted(delays[at:at + 20]) for at in range(0, 100, 20)]
+            self.assertLess(min(twenty[10] for twenty in twenties), 0.001)
+            run.end()
+            self.assertTrue(found + run.read(10**6) == written(plan, [octets]), "another output")
             self.assertEqual(run.status(), 0)
 
 

@@ -10,13 +10,11 @@ use crate::passage::STEPS;
 use crate::turn::Turn;
 use mux::Sending;
 use relay::{BlockSender, FinishedSender};
+use signals::Signals;
 use station::Station;
-use std::alloc::Global;
-use std::sync::atomic::{AtomicBool, Ordering};
-use std::sync::{Arc, Wait};
+use std::sync::Wait;
 use std::time::Clock;
 use tspkt::Packet;
-use worker::pause;
 
 /// Lets the station go on until nothing is left to send or the run has all its slots, and hands on what goes out, and then the end
 /// mark. Where an input isn't ready, or no empty block has come back, the calling thread lets others go first. Where the run is over
@@ -27,7 +25,7 @@ pub(crate) fn drive<T: Wait + Clock>(
     station: &mut Station,
     packets: &mut Vec<Packet>,
     sender: BlockSender,
-    is_over: &Arc<AtomicBool, Global>,
+    signals: &mut Signals,
 ) -> FinishedSender
     requires unsent { sender.sent ≡ [] }
     requires empty { packets.old.items ≡ [] }
@@ -36,10 +34,10 @@ pub(crate) fn drive<T: Wait + Clock>(
 {
     let mut sender = sender;
     for _ in rt.forever() {
-        match step(rt, station, packets, &mut sender, is_over) {
-            Turn::Goes => {}
-            Turn::Waits => pause(rt),
-            Turn::Over => return end(rt, sender, is_over),
+        match step(rt, station, packets, &mut sender, signals) {
+            Turn::Goes => signals.came(),
+            Turn::Waits => signals.waits_for_packets(rt, !packets.is_empty()),
+            Turn::Over => return end(rt, sender, signals),
             Turn::CutShort => return sender.finish(),
         }
     }
@@ -52,7 +50,7 @@ fn step<T: Wait + Clock>(
     station: &mut Station,
     packets: &mut Vec<Packet>,
     sender: &mut BlockSender,
-    is_over: &Arc<AtomicBool, Global>,
+    signals: &mut Signals,
 ) -> Turn
     requires { STEPS ≤ vec_capacity packets.old }
     ensures relay { sender.new.relay ≡ sender.old.relay }
@@ -66,10 +64,12 @@ fn step<T: Wait + Clock>(
     ensures room { STEPS ≤ vec_capacity packets.new }
 {
     let before = packets.len();
-    let answer = station.advance_behind(STEPS.saturating_sub(before), packets);
+    let most = STEPS.saturating_sub(before);
+    let answer = station.advance_behind(most, packets);
     let is_nothing_sent = packets.len() == before;
+    signals.turned(&answer, most, packets.len().saturating_sub(before));
     let turn = turn_of(answer, is_nothing_sent);
-    hand_on(rt, packets, sender, is_over, turn)
+    hand_on(rt, packets, sender, signals, turn)
 }
 
 /// What a turn did whose steps ended with this answer, by what went out.
@@ -86,13 +86,13 @@ fn turn_of(answer: Sending, is_nothing_sent: bool) -> Turn
 
 /// Hands the block in hand on behind a turn, where it has packets: as soon as an empty one is there, if it is full or the last one, and
 /// else only where more than the last few blocks are empty. So the run never waits for its output before that has as many full blocks to
-/// write, however little each turn sends; and nothing stays in hand for longer than a sleep while the output has nothing to do. It
+/// write, however little each turn sends; and nothing stays in hand while the output has nothing to do. It
 /// answers what the turn did, or `CutShort` where the run was over before.
 fn hand_on<T: Wait + Clock>(
     rt: &T,
     packets: &mut Vec<Packet>,
     sender: &mut BlockSender,
-    is_over: &Arc<AtomicBool, Global>,
+    signals: &mut Signals,
     turn: Turn,
 ) -> Turn
     requires { STEPS ≤ vec_capacity packets.old }
@@ -106,14 +106,14 @@ fn hand_on<T: Wait + Clock>(
 {
     if !packets.is_empty() {
         if matches!(turn, Turn::Over) || packets.len() >= STEPS {
-            if !send(rt, packets, sender, is_over) {
+            if !send(rt, packets, sender, signals) {
                 return Turn::CutShort;
             }
-        } else {
-            sender.offer(packets);
+        } else if sender.offer(packets) {
+            signals.sent();
         }
     }
-    if is_over.load(Ordering::SeqCst) {
+    if signals.is_over() {
         return Turn::CutShort;
     }
     turn
@@ -124,7 +124,7 @@ fn send<T: Wait + Clock>(
     rt: &T,
     packets: &mut Vec<Packet>,
     sender: &mut BlockSender,
-    is_over: &Arc<AtomicBool, Global>,
+    signals: &mut Signals,
 ) -> bool
     requires { STEPS ≤ vec_capacity packets.old }
     ensures relay { sender.new.relay ≡ sender.old.relay }
@@ -135,34 +135,34 @@ fn send<T: Wait + Clock>(
 {
     for _ in rt.forever() {
         if sender.send(packets) {
+            signals.sent();
             return true;
         }
-        if is_over.load(Ordering::SeqCst) {
+        if signals.is_over() {
             return false;
         }
-        pause(rt);
+        signals.waits_for_block(rt);
     }
     unreachable!()
 }
 
 /// Ends the sender with the end mark, as soon as there is a place for it, or without it where the run was over before.
-fn end<T: Wait + Clock>(
-    rt: &T,
-    sender: BlockSender,
-    is_over: &Arc<AtomicBool, Global>,
-) -> FinishedSender
+fn end<T: Wait + Clock>(rt: &T, sender: BlockSender, signals: &mut Signals) -> FinishedSender
     ensures { result.sender ≡ sender }
 {
     let mut sender = sender;
     for _ in rt.forever() {
         match sender.end() {
-            Ok(finished) => return finished,
+            Ok(finished) => {
+                signals.sent();
+                return finished;
+            }
             Err(back) => sender = back,
         }
-        if is_over.load(Ordering::SeqCst) {
+        if signals.is_over() {
             return sender.finish();
         }
-        pause(rt);
+        signals.waits_for_block(rt);
     }
     unreachable!()
 }

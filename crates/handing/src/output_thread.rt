@@ -12,11 +12,10 @@ use crate::passage::Passage;
 use crate::written::Written;
 use outlet::{Outlet, RunFault, Sink};
 use relay::{BlockSender, FinishedSender};
+use signals::Signals;
 use station::Station;
-use std::alloc::Global;
 use std::snapshot::Snapshot;
-use std::sync::atomic::AtomicBool;
-use std::sync::{Arc, Wait};
+use std::sync::Wait;
 use std::thread;
 use std::thread::{Promise, PromisedHandle, Threads};
 use std::time::Clock;
@@ -77,7 +76,7 @@ pub fn send_out<
     rt: T,
     station: &mut Station,
     passage: Passage,
-    is_over: &Arc<AtomicBool, Global>,
+    signals: &mut Signals,
     outlet: Outlet<W>,
 ) -> (Outlet<W>, Result<(), RunFault>)
     requires relay { IsNewRelay BLOCKS passage.sender passage.receiver }
@@ -89,16 +88,16 @@ pub fn send_out<
         mut packets,
         sender,
         receiver,
-        is_over: told,
+        signals: told,
     } = passage;
     let worker = OutputWorker {
         receiver,
         outlet,
-        is_over: told,
+        signals: told,
     };
     match start(rt, sender, worker) {
         Ok((sender, handle)) => {
-            let mut finished = drive(&rt, station, &mut packets, sender, is_over);
+            let mut finished = drive(&rt, station, &mut packets, sender, signals);
             let Written {
                 mut receiver,
                 outlet,

@@ -6,19 +6,17 @@ ghost use Rattle.handing.specs.Outputs.{IsPut, IsWritten};
 use crate::written::Written;
 use outlet::{Outlet, RunFault, Sink};
 use relay::{BlockReceiver, Message};
-use std::alloc::Global;
-use std::sync::atomic::{AtomicBool, Ordering};
-use std::sync::{Arc, Wait};
+use signals::OutputSignals;
+use std::sync::Wait;
 use std::time::Clock;
 use tspkt::Packet;
-use worker::pause;
 
-/// The end of the relay that a run's packets come through, what they go out by, and whether the run is over.
+/// The end of the relay that a run's packets come through, what they go out by, and what it tells the thread that ticks.
 #[derive(Drop)]
 pub(crate) struct OutputWorker<W> {
     pub receiver: BlockReceiver,
     pub outlet: Outlet<W>,
-    pub is_over: Arc<AtomicBool, Global>,
+    pub signals: OutputSignals,
 }
 
 impl<W: Sink + Drop> OutputWorker<W> {
@@ -32,11 +30,11 @@ impl<W: Sink + Drop> OutputWorker<W> {
         let OutputWorker {
             mut receiver,
             mut outlet,
-            is_over,
+            mut signals,
         } = self;
-        let result = write_all(rt, &mut receiver, &mut outlet);
+        let result = write_all(rt, &mut receiver, &mut outlet, &mut signals);
         if result.is_err() {
-            is_over.store(true, Ordering::SeqCst);
+            signals.end();
         }
         Written {
             receiver,
@@ -52,6 +50,7 @@ fn write_all<T: Wait + Clock, W: Sink>(
     rt: &T,
     receiver: &mut BlockReceiver,
     outlet: &mut Outlet<W>,
+    signals: &mut OutputSignals,
 ) -> Result<(), RunFault>
     ensures { IsWritten W.contents W.failures receiver.old outlet.old receiver.new outlet.new result }
 {
@@ -60,14 +59,14 @@ fn write_all<T: Wait + Clock, W: Sink>(
         match receiver.next() {
             Some(Message::Block(block)) => {
                 has_waited = false;
+                signals.came();
                 put_all(block.as_slice(), outlet)?;
                 let _ = receiver.give_back(block);
             }
             Some(Message::End) => return outlet.output.flush(&mut outlet.sink),
             None => {
                 write_waiting(outlet, has_waited)?;
-                has_waited = true;
-                pause(rt);
+                has_waited = signals.waits(rt, has_waited);
             }
         }
     }

@@ -4,9 +4,8 @@ ghost use Rattle.std.specs.Prelude.{◌≡◌, ◌≤◌, [], IfOk, vec_capacity
 ghost use Rattle.relay.specs.Relays.{IsNewRelay};
 
 use relay::{BlockReceiver, BlockSender, ROOM, relay};
+use signals::OutputSignals;
 use std::alloc::{AllocError, Global};
-use std::sync::Arc;
-use std::sync::atomic::AtomicBool;
 use tspkt::Packet;
 
 /// How many packets a block has when it is full, and how many steps a station goes on by at once, at most: each sends a slot, or
@@ -17,30 +16,29 @@ pub(crate) const STEPS: usize = ROOM;
 const BLOCKS: usize = 15;
 
 /// How a run's packets come to the thread of its output: the block in hand, which those of a turn go into, the two ends of a relay,
-/// and what the thread says by that the run is over.
+/// and what the thread tells the one that ticks.
 #[derive(Drop)]
 pub struct Passage {
     pub packets: Vec<Packet>,
     pub sender: BlockSender,
     pub receiver: BlockReceiver,
-    pub is_over: Arc<AtomicBool, Global>,
+    pub signals: OutputSignals,
 }
 
 impl Passage {
     /// One that nothing came through. `Err` is want of memory.
-    pub fn open(alloc: Global, is_over: &Arc<AtomicBool, Global>) -> Result<Passage, AllocError>
+    pub fn open(alloc: Global, signals: OutputSignals) -> Result<Passage, AllocError>
         ensures relay { IfOk result (λ p. IsNewRelay BLOCKS p.sender p.receiver) }
         ensures empty { IfOk result (λ p. p.packets.items ≡ []) }
         ensures room { IfOk result (λ p. STEPS ≤ vec_capacity p.packets) }
     {
         let packets = Vec::with_capacity(alloc, STEPS)?;
         let (sender, receiver) = relay(alloc, BLOCKS)?;
-        let is_over = Arc::try_clone(is_over)?;
         Ok(Passage {
             packets,
             sender,
             receiver,
-            is_over,
+            signals,
         })
     }
 }

@@ -11,20 +11,20 @@ use outlet::SlotWriter;
 use port::Port;
 use reading::Source;
 use schedule::Schedule;
+use signals::{OutputSignals, Signals};
 use station::Station;
 use std::alloc::{AllocError, Global};
-use std::sync::Arc;
-use std::sync::atomic::AtomicBool;
 use worker::Gate;
 use workers::WorkHandle;
 
-/// A run before its workers are started: the station, what each worker is made of, what the output goes through, whether the run is
-/// over, and room for the threads of the workers and for what they leave.
+/// A run before its workers are started: the station, what each worker is made of, what the output goes through, what the
+/// threads tell one another, and room for the threads of the workers and for what they leave.
 pub(crate) struct Opening<R: Source + Drop, G: Gate + Drop> {
     pub station: Station,
     pub seats: Vec<((R, G), Port)>,
     pub output: SlotWriter,
-    pub is_over: Arc<AtomicBool, Global>,
+    pub signals: Signals,
+    pub told: OutputSignals,
     pub handles: Vec<WorkHandle<R, G>>,
     pub ended: Vec<Ended<(R, G)>>,
 }
@@ -66,7 +66,8 @@ pub(crate) fn open<R: Source + Drop, G: Gate + Drop>(
     ensures ended { IfOk result (λ o. (o.ended.items ≡ []) × (length o.seats.items ≤ vec_capacity o.ended)) }
 {
     let output = open_output(alloc, schedule)?;
-    let is_over = Arc::new(alloc, AtomicBool::new(false))?;
+    let ring = schedule.plan(0).request().ring();
+    let (signals, told) = Signals::open(alloc, readers.len(), ring)?;
     let (station, ports) = open_station(alloc, schedule, slots)?;
     let seats = seats(alloc, readers, gates, ports)?;
     let (handles, ended) = (
@@ -77,7 +78,8 @@ pub(crate) fn open<R: Source + Drop, G: Gate + Drop>(
         station,
         seats,
         output,
-        is_over,
+        signals,
+        told,
         handles,
         ended,
     })

@@ -16,7 +16,6 @@ use reading::{InputLimit, Source};
 use schedule::Schedule;
 use std::alloc::Global;
 use std::sync::Wait;
-use std::sync::atomic::Ordering;
 use std::thread::Threads;
 use std::time::Clock;
 use worker::Gate;
@@ -75,7 +74,8 @@ pub fn run_threads<
         mut station,
         seats,
         output,
-        is_over,
+        mut signals,
+        told,
         mut handles,
         mut ended,
     } = opening;
@@ -88,13 +88,14 @@ pub fn run_threads<
         rt,
         &schedule,
         limit,
-        &is_over,
+        &mut signals,
+        told,
         seats,
         &mut handles,
         &mut station,
         outlet,
     );
-    is_over.store(true, Ordering::SeqCst);
+    signals.end();
     join_all(&rt, &mut station, handles, &mut ended);
     station.known();
     tell(alloc, &station, driven, ended, outlet)

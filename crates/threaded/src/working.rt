@@ -10,10 +10,10 @@ use outlet::{Outlet, RunFault, Sink};
 use port::Port;
 use reading::{InputLimit, Source};
 use schedule::Schedule;
+use signals::{OutputSignals, Signals};
 use station::Station;
 use std::alloc::Global;
-use std::sync::atomic::AtomicBool;
-use std::sync::{Arc, Wait};
+use std::sync::Wait;
 use std::thread::Threads;
 use std::time::Clock;
 use worker::Gate;
@@ -31,7 +31,8 @@ pub(crate) fn work<
     rt: T,
     schedule: &Schedule,
     limit: InputLimit,
-    is_over: &Arc<AtomicBool, Global>,
+    signals: &mut Signals,
+    told: OutputSignals,
     seats: Vec<((R, G), Port)>,
     handles: &mut Vec<WorkHandle<R, G>>,
     station: &mut Station,
@@ -48,11 +49,11 @@ pub(crate) fn work<
     ensures crewed { result.1 ≡ Err RunFault.Write → length handles.new.items ≡ length seats.items }
     ensures drives { Drives W.contents W.failures station.old station.new outlet result.0 result.1 }
 {
-    let Ok(passage) = Passage::open(alloc, is_over) else {
+    let Ok(passage) = Passage::open(alloc, told) else {
         return (outlet, Err(RunFault::Memory));
     };
-    if start_all(alloc, rt, schedule, limit, is_over, seats, handles).is_err() {
+    if start_all(alloc, rt, schedule, limit, signals, seats, handles).is_err() {
         return (outlet, Err(RunFault::Memory));
     }
-    send_out(rt, station, passage, is_over, outlet)
+    send_out(rt, station, passage, signals, outlet)
 }

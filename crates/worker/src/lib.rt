@@ -6,13 +6,16 @@
 
 mod gate;
 mod open_gate;
+mod place_wait;
 mod point;
 mod sender;
 mod waiting;
+mod wakes;
 mod worker;
 
 pub use gate::Gate;
 pub use open_gate::OpenGate;
 pub use point::Point;
 pub use waiting::pause;
+pub use wakes::{PLACE, Wakes};
 pub use worker::Worker;

@@ -5,8 +5,8 @@ ghost use Rattle.worker.specs.Stops.{StopsOnce};
 ghost use Rattle.worker.specs.Sending.{first_cause};
 
 use crate::gate::Gate;
+use crate::place_wait::PlaceWait;
 use crate::point::Point;
-use crate::waiting::pause;
 use port::{FinishedPort, Port};
 use reading::{Look, PIECE, PacketReader, Report, Source, Stop};
 use schedule::Schedule;
@@ -21,6 +21,7 @@ pub(crate) struct Sender<R, G> {
     pub reader: PacketReader<R>,
     pub gate: G,
     pub port: Port,
+    pub wait: PlaceWait,
 }
 
 impl<R: Source + Drop, G: Gate + Drop> Sender<R, G> {
@@ -98,12 +99,13 @@ impl<R: Source + Drop, G: Gate + Drop> Sender<R, G> {
             let is_sent = self.port.send_for(place, &self.reader.held().unwrap());
             if is_sent {
                 self.reader.release();
+                self.wait.ends();
                 return self.gate.pass(Point::Offered);
             }
             if !self.gate.pass(Point::Full) {
                 return false;
             }
-            pause(rt);
+            self.wait.waits(rt);
         }
         unreachable!()
     }
@@ -124,13 +126,15 @@ impl<R: Source + Drop, G: Gate + Drop> Sender<R, G> {
             reader,
             mut gate,
             port,
+            mut wait,
             ..
         } = self;
         let finished = if matches!(stop, Some(Stop::Gate)) {
             port.finish()
         } else {
-            end(rt, port, &mut gate)
+            end(rt, port, &mut gate, &mut wait)
         };
+        wait.ends();
         let report = reader.report();
         let stopped = cause(report.stopped, stop, finished.is_ended());
         let report = Report { stopped, ..report };
@@ -151,7 +155,12 @@ fn cause(reading: Option<Stop>, sending: Option<Stop>, is_ended: bool) -> Option
 }
 
 /// Ends a port with the end mark, or without it where the gate says no before the mark found a free place.
-pub(crate) fn end<G: Gate, T: Wait + Clock>(rt: &T, port: Port, gate: &mut G) -> FinishedPort
+pub(crate) fn end<G: Gate, T: Wait + Clock>(
+    rt: &T,
+    port: Port,
+    gate: &mut G,
+    wait: &mut PlaceWait,
+) -> FinishedPort
     ensures port { result.port ≡ port }
     ensures gate { MatchBool result.is_ended (G.stops gate.new ≡ G.stops gate.old)
         (StopsOnce (G.stops gate.old) (G.stops gate.new)) }
@@ -165,7 +174,7 @@ pub(crate) fn end<G: Gate, T: Wait + Clock>(rt: &T, port: Port, gate: &mut G) ->
         if !gate.pass(Point::Full) {
             return port.finish();
         }
-        pause(rt);
+        wait.waits(rt);
     }
     unreachable!()
 }

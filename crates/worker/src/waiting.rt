@@ -1,12 +1,9 @@
 //! Waiting for another thread.
 
-use std::thread;
-use std::time::{Clock, Duration};
+use std::time::Clock;
+use waking::nap;
 
-/// How long a thread that waits sleeps at once, in microseconds.
-const SLEEP: u64 = 50;
-
-/// Sleeps for a moment, so that a full ring or an empty one costs no core.
+/// Sleeps for a moment, which nobody ends, so that a full ring costs no core.
 pub fn pause(clock: &impl Clock) {
-    thread::sleep(clock, Duration::from_micros(SLEEP));
+    nap(clock);
 }

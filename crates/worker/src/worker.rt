@@ -6,7 +6,9 @@ ghost use Rattle.tspkt.specs.declared.packet_size.PacketSize.{PacketSize};
 ghost use Rattle.reading.specs.InputLimit.{limit_of_input};
 
 use crate::gate::Gate;
+use crate::place_wait::PlaceWait;
 use crate::sender::Sender;
+use crate::wakes::Wakes;
 use port::{FinishedPort, Port};
 use reading::{InputLimit, PacketReader, Report, Source, Stop};
 use schedule::Schedule;
@@ -24,6 +26,7 @@ pub struct Worker<R, G> {
     source: R,
     gate: G,
     port: Port,
+    wait: PlaceWait,
     ghost known: { number < length schedule.first.request.inputs },
     ghost within: { (size : PacketSize) → limit_of_input limit size ≤ MAX_LIMIT },
     ghost unsent: { length port.sent ≡ 0 },
@@ -64,6 +67,36 @@ impl<R: Source + Drop, G: Gate + Drop> Worker<R, G> {
             source,
             gate,
             port,
+            wait: PlaceWait::asleep(),
+        }
+    }
+
+    /// The same worker, which is woken where there is a place in its ring, and wakes whoever takes its packets: a worker by itself sleeps
+    /// 50 microseconds at a time at a full ring, and wakes nobody.
+    pub fn woken(self, wakes: Wakes) -> Worker<R, G>
+        ensures input { (result.schedule ≡ self.schedule) × (result.number ≡ self.number) × (result.limit ≡ self.limit) }
+        ensures ends { (result.source ≡ self.source) × (result.gate ≡ self.gate) × (result.port ≡ self.port) }
+    {
+        let Worker {
+            alloc,
+            schedule,
+            number,
+            limit,
+            source,
+            gate,
+            port,
+            ..
+        } = self;
+        let wait = PlaceWait::woken(wakes);
+        Worker {
+            alloc,
+            schedule,
+            number,
+            limit,
+            source,
+            gate,
+            port,
+            wait,
         }
     }
 
@@ -93,6 +126,7 @@ impl<R: Source + Drop, G: Gate + Drop> Worker<R, G> {
             source,
             gate,
             port,
+            wait,
         } = self;
         schedule.known();
         let input = &schedule.plan(0).inputs()[number];
@@ -103,6 +137,7 @@ impl<R: Source + Drop, G: Gate + Drop> Worker<R, G> {
             reader,
             gate,
             port,
+            wait,
         };
         let stop = sender.send(alloc, rt);
         sender.finish(rt, stop)

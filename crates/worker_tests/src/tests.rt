@@ -8,13 +8,15 @@ mod null_packets;
 mod read_gate;
 mod starting;
 mod taking_thread;
+mod turns;
 
 use crate::tests::emptying_gate::EmptyingGate;
 use crate::tests::full_gate::FullGate;
 use crate::tests::null_packets::NullPackets;
 use crate::tests::read_gate::ReadGate;
-use crate::tests::starting::{ring, run, run_over};
+use crate::tests::starting::{asks_in_time, ring, run, run_over, run_woken};
 use crate::tests::taking_thread::run_beside;
+use crate::tests::turns::take_all_turns;
 use anyhow::Result;
 use port::Arrival;
 use reading::Stop;
@@ -82,6 +84,34 @@ fn a_gate_stops_a_packet_that_waits(rt: HostRuntime) -> Result<(), Fail> {
             assert!(rt; end.next().is_none());
         }
     }
+    Ok(())
+}
+
+/// Nobody wakes a worker that waits to be woken. It asks its gate all the same, more often than it looks before it sleeps, and ends at the
+/// first no.
+#[test]
+fn a_worker_that_nobody_wakes_asks_its_gate(rt: HostRuntime) -> Result<(), Fail> {
+    let (port, mut end) = ring(rt.alloc(), 1)?;
+    let (report, finished, gate) = run_woken(&rt, rt.alloc(), port, FullGate::new(70), 5)?;
+    assert_eq!(rt; report.stopped, Some(Stop::Gate));
+    assert!(rt; !finished.is_ended());
+    assert_eq!(rt; (gate.full, gate.stops), (71, 1));
+    assert!(rt; matches!(end.next(), Some(Arrival::Packet(_))));
+    assert!(rt; end.next().is_none());
+    Ok(())
+}
+
+/// It asks its gate at least every ten milliseconds.
+#[test]
+fn a_worker_that_sleeps_asks_its_gate_in_time(rt: HostRuntime) -> Result<(), Fail> {
+    assert!(rt; asks_in_time(&rt, rt.alloc())?);
+    Ok(())
+}
+
+/// Two threads wait for each other 20,000 times, each until the other wakes it: where a wake-up was lost they never ended.
+#[test]
+fn threads_that_wait_for_each_other_are_woken(rt: HostRuntime) -> Result<(), Fail> {
+    assert_eq!(rt; take_all_turns(&rt, rt.alloc())?, (40_000, 40_001));
     Ok(())
 }
 

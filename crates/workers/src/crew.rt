@@ -11,10 +11,10 @@ use outcome::Ended;
 use port::Port;
 use reading::{InputLimit, Report, Source, Stop};
 use schedule::Schedule;
+use signals::Signals;
 use station::Station;
 use std::alloc::{AllocError, Global};
-use std::sync::atomic::AtomicBool;
-use std::sync::{Arc, Wait};
+use std::sync::Wait;
 use std::thread::Threads;
 use std::time::Clock;
 use worker::{Gate, Worker};
@@ -30,7 +30,7 @@ pub fn start_all<
     rt: T,
     schedule: &Schedule,
     limit: InputLimit,
-    is_over: &Arc<AtomicBool, Global>,
+    signals: &mut Signals,
     seats: Vec<((R, G), Port)>,
     handles: &mut Vec<WorkHandle<R, G>>,
 ) -> Result<(), AllocError>
@@ -44,11 +44,12 @@ pub fn start_all<
     ensures all { OnOk result (length handles.new.items ≡ length seats.items) }
 {
     for ((reader, gate), port) in seats {
-        let gate = RunGate::new(gate, Arc::try_clone(is_over)?);
+        let gate = RunGate::new(gate, signals.over()?);
         let number = handles.len();
         let own = schedule.copy(alloc)?;
+        let wakes = signals.worker(alloc)?;
         let worker = Worker::new(alloc, reader, gate, port, own, number, limit);
-        let handle = start(rt, worker)?;
+        let handle = start(rt, worker.woken(wakes))?;
         let Ok(()) = handles.push(handle) else {
             unreachable!()
         };

@@ -27,9 +27,11 @@ loop-reader-preserved g c =
     let next = drop_next (length l.handles.items) seats _ _ at in
     let number : c.len-number.result ≡ length l.handles.items = omega (arith, c.len-number.ensures, l.handles.ok.0) in
     let made = c.new-worker.ensures in
+    let woken = c.woken.ensures in
     record {
       started = started_next _ c.args.limit c.args.schedule.now seats l.handles.items new handle _ l.invariant.started next.0
-          (started_of c.args.limit c.args.schedule.now (length l.handles.items) _ _ c.in_ok-own.own c.len-number.result c.new-worker.result _ c.in_ok-handle.ensures made.input made.ends.0 made.ends.2 c.in_ok-own.ensures number)
+          (started_of c.args.limit c.args.schedule.now (length l.handles.items) _ _ c.in_ok-own.own c.len-number.result c.woken.result _ c.in_ok-handle.ensures
+          (woken.input.0 ∙ made.input.0, woken.input.1 ∙ made.input.1, woken.input.2 ∙ made.input.2) (woken.ends.0 ∙ made.ends.0) (woken.ends.2 ∙ made.ends.2) c.in_ok-own.ensures number)
           grown;
       rest = rest_next l.handles.items new handle seats _ _ grown at;
       left = (let size = ap length grown in let more = length-append l.handles.items (handle ∷ []) in omega (arith, l.invariant.left, c.in-Some.ensures.steps.1, size, more));

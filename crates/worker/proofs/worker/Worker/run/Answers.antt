@@ -36,7 +36,7 @@ returns-clause-sent g c input at =
     let is_at = input_at p xs i x all (slice_get_read xs (length xs) i x refl within c.index-inputs-number.is) in
     let same : input_value x ≡ input = same_Some (input_value x) input (sym is_at ∙ at) in
     let unsent : c.args.self.port.sent ≡ [] = empty_of c.args.self.port.sent c.args.self.unsent in
-    let a : Sender _ _ = record { schedule = p; reader = c.new-reader.result; gate = c.args.self.gate; port = c.args.self.port } in
+    let a : Sender _ _ = record { schedule = p; reader = c.new-reader.result; gate = c.args.self.gate; port = c.args.self.port; wait = c.args.self.wait } in
     let own : IsOwnStop c.send-stop.result c.send-stop.new.self.reader.report.stopped c.finish.result.1.is_ended = record {
       own = c.send-stop.ensures.causes;
       refused = λ e. ap (λ (v : Sender _ _). v.reader.report.stopped) (c.send-stop.ensures.refused e) ∙ ap (λ (v : Report). v.stopped) c.new-reader.ensures.report;
@@ -54,7 +54,7 @@ send-stop-requires g c = fresh_unheld g.R.Source.remaining c.args.self.schedule 
 
 pub returns-clause-unfailed : goal.returns-clause-unfailed
 returns-clause-unfailed g c other =
-    let a : Sender _ _ = record { schedule = c.args.self.schedule; reader = c.new-reader.result; gate = c.args.self.gate; port = c.args.self.port } in
+    let a : Sender _ _ = record { schedule = c.args.self.schedule; reader = c.new-reader.result; gate = c.args.self.gate; port = c.args.self.port; wait = c.args.self.wait } in
     told_unfailed g.R.Source.remaining g.R.Source.failures a c.send-stop.new.self c.args.self.source c.finish.result.2 c.send-stop.result c.finish.result.1.is_ended c.finish.result.0.stopped
     c.new-reader.ensures.failures c.send-stop.ensures.sent c.finish.ensures.source c.finish.ensures.cause other
 
@@ -66,7 +66,7 @@ returns-clause-left g c e =
 
 pub returns-clause-failed : goal.returns-clause-failed
 returns-clause-failed g c e =
-    let a : Sender _ _ = record { schedule = c.args.self.schedule; reader = c.new-reader.result; gate = c.args.self.gate; port = c.args.self.port } in
+    let a : Sender _ _ = record { schedule = c.args.self.schedule; reader = c.new-reader.result; gate = c.args.self.gate; port = c.args.self.port; wait = c.args.self.wait } in
     told_failed g.R.Source.remaining g.R.Source.failures a c.send-stop.new.self c.args.self.source c.finish.result.2 c.send-stop.result c.finish.result.1.is_ended c.finish.result.0.stopped
     c.new-reader.ensures.source c.new-reader.ensures.failures c.send-stop.ensures.sent c.finish.ensures.source c.send-stop.ensures.causes c.finish.ensures.cause e
 
