@@ -272,7 +272,7 @@ END
 answer 'an analysis of packets of 204 bytes' 1 analyse --rate 1000000 --period 5000 long.ts << 'END'
 long.ts: it looks like packets of 204 bytes: state --size 204
 END
-answer 'an analysis of a file without a byte' 0 analyse --rate 1000000 --period 5000 empty.ts << 'END'
+answer 'an analysis of a file without a byte' 1 analyse --rate 1000000 --period 5000 empty.ts << 'END'
 empty.ts: it is empty
 END
 mistake 'an input in another container' 3 's|"north.ts"|"film.mp4"|' << 'END'

@@ -14,7 +14,7 @@ INSTALL = f"{TOP}/scripts/install.sh"
 WORDS = {
     "run": "--plan --then --at --out --slots --all --serial --delays --strict --report",
     "check": "--plan --then --at --strict",
-    "analyse": "--rate --period --size",
+    "analyse": "--rate --period --size --limit --places --summary",
     "probe": "--plan",
 }
 

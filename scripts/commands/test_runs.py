@@ -146,10 +146,6 @@ class Analyses(CommandCase):
         shape = "x.ts: no five sync bytes stand in step at its beginning: it is no transport stream, or has fewer than five packets\n"
         self.ends(self.does(ANALYSE, {"x.ts": PAT + 375 * b"\xAA"}), 1, told, shape)
 
-    def test_an_empty_stream_is_told(self):
-        """It is said, since no fault says so."""
-        self.ends(self.does(ANALYSE, {"x.ts": b""}), 0, "slots 0 faults 0 rest 0\n", "x.ts: it is empty\n")
-
 
 class Words(CommandCase):
     def test_words_are_judged_first(self):

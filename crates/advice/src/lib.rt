@@ -10,6 +10,6 @@ mod rhythm;
 mod waiting;
 
 pub use ends::{is_early, reached};
-pub use load::{left_rate, packets_rate, taken_rate};
+pub use load::{left_rate, packets_rate, share, taken_rate};
 pub use rhythm::{longest_period, pat_interval, run_seconds, sdt_interval, shortest_period};
 pub use waiting::{is_filled, late_by};

@@ -7,7 +7,7 @@ use rounds::TableRounds;
 use tspkt::PacketSize;
 
 /// The part of a rate that so many slots of so many have, in bits a second, rounded down.
-fn share(rate: u64, part: u64, whole: u64) -> u64
+pub fn share(rate: u64, part: u64, whole: u64) -> u64
     requires some { 1 ≤ whole }
     requires part { part ≤ whole }
     ensures value { result ≡ share_of rate part whole }

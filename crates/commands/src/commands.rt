@@ -6,8 +6,8 @@ use files::{CommandFault, FileCause, Files, InputFile, ReadSchedule, read_schedu
 use live::{RunFiles, WaitTeller};
 use measuring::{is_input_wrong, is_too_much, print_measured};
 use printing::{
-    StreamAnalysis, print_plan, print_rhythm, print_same_files, print_shape, print_switch_tables,
-    print_switches, strict_status,
+    Shown, StreamAnalysis, analysis_status, print_plan, print_rhythm, print_same_files,
+    print_shape, print_switch_tables, print_switches, strict_status,
 };
 use probing::probe_files;
 use rate_meter::RateMeter;
@@ -17,20 +17,18 @@ use std::io::{ErrorKind, Write};
 use std::sync::Wait;
 use std::thread::Threads;
 use std::time::Clock;
-use tspkt::PacketSize;
-use words::{Command, LineFault, line};
+use words::{Analysis, Command, LineFault, line};
 
 /// The status of a refused command line.
 const REFUSED: u8 = 2;
-/// The status of an analysis that told a fault.
-const TOLD: u8 = 1;
 
 /// Does a whole command, with files by their names, and prints its lines to `out` and its fault to `err`, behind the delays
 /// of a run that is asked for them. What `err` doesn't take is left out. The answer is the status with which the program
 /// ends, and the output's writer, where one was made.
 ///
-/// The status is 0 for success, 1 where an analysis told a fault, a strict check or run what isn't as it should be, or a probe found no
-/// packets or made no plan, 2 for refused words, 3 for a refused plan, 4 for a file that failed and 5 for want of memory. Without words it does the stored first run.
+/// The status is 0 for success. It is 1 where an analysis told a fault or found no packet, where a strict check or run found what isn't as it
+/// should be, and where a probe found no packets or made no plan. It is 2 for refused words, 3 for a refused plan, 4 for a file that failed
+/// and 5 for want of memory. Without words it does the stored first run.
 ///
 /// The first fault ends a command: of its words, of the plan's file, of its text, of the inputs while their tables are sought,
 /// of the plan, of the inputs as they are opened again, of the output file, and of the run. An output that is the plan's file or
@@ -81,18 +79,7 @@ where
             let ended = check(rt, alloc, files, plan, &later, strict, out, err, voice);
             (end_over(plan, &later, ended, out, err), None)
         }
-        Ok(
-            Command::Analyse {
-                size,
-                rate,
-                period,
-                file,
-            },
-        ) => {
-            let mut analysis = StreamAnalysis::new(alloc, size, rate, period);
-            let ended = analyse(alloc, files, &mut analysis, size, file, out, err);
-            (end(ended, out, err), None)
-        }
+        Ok(Command::Analyse(asked)) => (analyse_asked(alloc, files, &asked, out, err), None),
         Ok(Command::Probe { files: names, plan }) => {
             let ended = probe_files(alloc, files, &names, plan, out, err);
             (end(ended, out, err), None)
@@ -271,17 +258,35 @@ fn check<
     Ok(strict_status(is_strict, is_sound, 0))
 }
 
-/// Reports the faults of a stream of this size, and on `err` what it looks like, where it has faults and isn't made of packets of
-/// that size.
+/// Does an analysis that is asked for, prints its fault, and answers the status.
+fn analyse_asked<F: Files, O: Write, E: Write>(
+    alloc: Global,
+    files: &mut F,
+    asked: &Analysis,
+    out: &mut O,
+    err: &mut E,
+) -> u8 {
+    let mut analysis = StreamAnalysis::new(alloc, asked.size, asked.rate, asked.period);
+    analysis.show(Shown {
+        limit: asked.limit,
+        places: asked.places,
+        summary: asked.summary,
+    });
+    let ended = analyse(alloc, files, &mut analysis, asked, out, err);
+    end(ended, out, err)
+}
+
+/// Reports what is found in a stream, and on `err` what it looks like, where it has a fault or no packet, and isn't made of packets of
+/// the size that is asked for.
 fn analyse<F: Files, O: Write, E: Write>(
     alloc: Global,
     files: &mut F,
     analysis: &mut StreamAnalysis,
-    size: PacketSize,
-    name: &str,
+    asked: &Analysis,
     out: &mut O,
     err: &mut E,
 ) -> Result<u8, CommandFault> {
+    let name = asked.file;
     let mut source = match files.reader(name) {
         Ok(source) => source,
         Err(cause) => return Err(CommandFault::file(alloc, name, cause)),
@@ -290,6 +295,7 @@ fn analyse<F: Files, O: Write, E: Write>(
         return Err(CommandFault::file(alloc, name, source.cause()));
     };
     out.flush()?;
-    let _ = print_shape(name, size, source.head(), faults, err);
-    Ok(if faults == 0 { 0 } else { TOLD })
+    let status = analysis_status(analysis.slots(), faults);
+    let _ = print_shape(name, asked.size, source.head(), status != 0, err);
+    Ok(status)
 }

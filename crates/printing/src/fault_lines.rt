@@ -10,7 +10,7 @@ use std::io;
 use std::io::Write;
 
 /// The kinds of faults, by their numbers.
-const KINDS: [FaultKind; 6] = [
+pub(crate) const KINDS: [FaultKind; 6] = [
     FaultKind::TsSyncLoss,
     FaultKind::SyncByteError,
     FaultKind::PatError2,

@@ -1,7 +1,9 @@
 //! The lines that commands print of plans, of runs and of streams: what became of them, and what they say to their user. A
-//! `StreamAnalysis` takes a stream in pieces, and its lines are those of its faults.
+//! `StreamAnalysis` takes a stream in pieces, and its lines are those of its faults and of their summary.
 #![tactic(auto)]
 
+mod analysis_end;
+mod analysis_summary;
 mod early_ends;
 mod fault_lines;
 mod overfull;
@@ -9,11 +11,13 @@ mod plan_lines;
 mod run_end;
 mod run_lines;
 mod same_files;
+mod shown;
 mod stream_analysis;
 mod stream_line;
 mod strict;
 mod switch_lines;
 
+pub use analysis_end::analysis_status;
 pub use early_ends::{has_early_end, print_early_ends};
 pub use fault_lines::print_faults;
 pub use overfull::{is_overfull, print_overfull};
@@ -21,6 +25,7 @@ pub use plan_lines::{print_plan, print_rhythm};
 pub use run_end::print_end;
 pub use run_lines::{print_delays, print_summary};
 pub use same_files::print_same_files;
+pub use shown::Shown;
 pub use stream_analysis::StreamAnalysis;
 pub use stream_line::print_shape;
 pub use strict::strict_status;

@@ -5,16 +5,16 @@ use std::io;
 use std::io::Write;
 use tspkt::PacketSize;
 
-/// Prints what a stream looks like that was read at this size and had so many faults, by its name and its first bytes, where it is
-/// empty, or has faults and isn't made of packets of that size; and with which `--size` it can be read, if with one.
+/// Prints what a stream looks like by its first bytes: where it is empty, and where it is wrong and these bytes aren't packets of the size at
+/// which it was read; and with which `--size` it can be read, if with one. A stream is wrong that has a fault or no packet.
 pub fn print_shape<E: Write>(
     name: &str,
     size: PacketSize,
     head: &[u8],
-    faults: u64,
+    is_wrong: bool,
     err: &mut E,
 ) -> io::Result<()> {
-    let is_odd = head.is_empty() || faults > 0 && !has_size(head, size);
+    let is_odd = head.is_empty() || is_wrong && !has_size(head, size);
     if !is_odd {
         return Ok(());
     }

@@ -1,6 +1,7 @@
 -- What a command line may ask for (profile).
 use Rattle.std.specs.Prelude.{ℕ, ◌≤◌, IfSome, length}
 use Rattle.std.specs.List.{All as Each}
+use Rattle.words.specs.declared.analysis.Analysis.{Analysis}
 use Rattle.words.specs.declared.command.Command.{Command}
 use Rattle.words.specs.declared.command.Command.TheVariants.{Run, Check, Analyse, Probe}
 use Rattle.words.specs.declared.run_length.RunLength.{RunLength}
@@ -24,11 +25,16 @@ most_slots_of All = 1099511627776
 abbrev pub IsAllowedSwitch : {N : Type 0} → ℕ × N → Type 0
 IsAllowedSwitch later = IsWithin 1 999999 later.0
 
+-- a rate in bits a second, a period in slots, and how many faults have a line
+abbrev pub IsAllowedAnalysis : Analysis → Type 0
+IsAllowedAnalysis asked =
+    IsWithin 500000 100000000 asked.rate × IsWithin 1 1000000 asked.period × IfSome asked.limit (IsWithin 0 1000000)
+
 -- the numbers of a command are in their ranges: slots of a run, those of its switches, and the seconds between its reports, a rate in
--- bits a second, a period in slots, and how many files are probed
+-- bits a second, a period in slots, how many faults are shown, and how many files are probed
 abbrev pub IsAllowed : Command → Type 0
 IsAllowed (Run plan later out length serial delays strict report) =
     Each IsAllowedSwitch later.items × IsAllowedLength length × IfSome report (IsWithin 1 3600)
 IsAllowed (Check plan later strict) = Each IsAllowedSwitch later.items
-IsAllowed (Analyse size rate period file) = IsWithin 500000 100000000 rate × IsWithin 1 1000000 period
+IsAllowed (Analyse asked) = IsAllowedAnalysis asked
 IsAllowed (Probe files plan) = IsWithin 1 8 (length files.items)

@@ -1,7 +1,7 @@
 //! What the program is asked to do.
 
+use crate::analysis::Analysis;
 use crate::run_length::RunLength;
-use tspkt::PacketSize;
 
 /// What the program is asked to do, in the words of its command line.
 #[derive(Debug, PartialEq, Eq, Drop)]
@@ -35,16 +35,7 @@ pub enum Command<'a> {
         strict: bool,
     },
     /// Tell the faults of a stream.
-    Analyse {
-        /// How its packets follow one another.
-        size: PacketSize,
-        /// The rate of all its bytes, in bits a second, 500,000 to 100,000,000.
-        rate: u64,
-        /// After how many slots without a packet a PID's absence is told, 1 to 1,000,000.
-        period: u64,
-        /// The name of the stream's file.
-        file: &'a str,
-    },
+    Analyse(Analysis<'a>),
     /// Say what is in streams.
     Probe {
         /// The names of their files, 1 to 8.
@@ -75,5 +66,7 @@ pub(crate) const MOST_SECONDS: u64 = 3_600;
 pub(crate) const LEAST_RATE: u64 = 500_000;
 /// The largest one.
 pub(crate) const MOST_RATE: u64 = 100_000_000;
+/// The most faults to which the lines of an analysis may be limited.
+pub(crate) const MOST_LINES: u64 = 1_000_000;
 /// The most files that are probed at once: as many as a plan has inputs.
 pub(crate) const MOST_FILES: usize = 8;

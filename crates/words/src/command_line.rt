@@ -5,8 +5,9 @@ ghost use Rattle.std.specs.List.{All};
 ghost use Rattle.tspkt.specs.PacketSize.{stride_of};
 ghost use Rattle.words.specs.Ranges.{IsWithin, IsAllowedLength, IsAllowedSwitch, IsAllowed};
 
+use crate::analysis::Analysis;
 use crate::command::{
-    Command, LEAST_RATE, LineFault, MOST_FILES, MOST_RATE, MOST_SECONDS, MOST_SLOTS,
+    Command, LEAST_RATE, LineFault, MOST_FILES, MOST_LINES, MOST_RATE, MOST_SECONDS, MOST_SLOTS,
     MOST_SWITCH_SLOT,
 };
 use crate::options::program;
@@ -44,6 +45,16 @@ fn report_of(matches: &ArgMatches) -> Option<u64>
     ensures { IfSome result (IsWithin 1 3600) }
 {
     within(matches.get_one::<u64>("report")?, 1, MOST_SECONDS)
+}
+
+/// At most how many faults of an analysis are to have a line, if not all are; none where it is out of its range.
+fn limit_of(matches: &ArgMatches) -> Option<Option<u64>>
+    ensures { IfSome result (λ limit. IfSome limit (IsWithin 0 1000000)) }
+{
+    match matches.get_one::<u64>("limit") {
+        Some(limit) => Some(Some(within(limit, 0, MOST_LINES)?)),
+        None => Some(None),
+    }
 }
 
 /// The slot from which on a plan may come into force, if this is one.
@@ -152,12 +163,15 @@ fn command_of<'a>(
             later,
             strict: matches.get_flag("strict"),
         }),
-        "analyse" => Some(Command::Analyse {
+        "analyse" => Some(Command::Analyse(Analysis {
             size: size_of(matches.get_one::<u64>("size")?)?,
             rate: within(matches.get_one::<u64>("rate")?, LEAST_RATE, MOST_RATE)?,
             period: within(matches.get_one::<u64>("period")?, 1, MOST_SLOTS)?,
+            limit: limit_of(matches)?,
+            places: matches.get_flag("places"),
+            summary: matches.get_flag("summary"),
             file: matches.get_str("file")?,
-        }),
+        })),
         "probe" => probe_of(files, matches.get_flag("plan")),
         _ => None,
     }

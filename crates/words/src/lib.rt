@@ -3,11 +3,13 @@
 //! `line` reads the words with `clap`, and looks at each number once more, so that its range is proved.
 #![tactic(auto)]
 
+mod analysis;
 mod command;
 mod command_line;
 mod options;
 mod run_length;
 
+pub use analysis::Analysis;
 pub use command::{Command, LineFault};
 pub use command_line::line;
 pub use run_length::{RunLength, most_slots};

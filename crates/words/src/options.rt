@@ -1,7 +1,7 @@
 //! The commands and their options, as the parser knows them, and their help.
 
 use crate::command::{
-    LEAST_RATE, MOST_FILES, MOST_RATE, MOST_SECONDS, MOST_SLOTS, MOST_SWITCH_SLOT,
+    LEAST_RATE, MOST_FILES, MOST_LINES, MOST_RATE, MOST_SECONDS, MOST_SLOTS, MOST_SWITCH_SLOT,
 };
 use clap::builder::ValueParser;
 use clap::{Arg, ArgAction, Command};
@@ -15,7 +15,7 @@ const EXAMPLE: &str = "Example, from the top of the repository:
   ./remux run --plan examples/plan.toml --out out.ts
   ./remux analyse --rate 3000000 --period 5000 out.ts
 
-Status: 0 success, 1 analyse reported a fault, --strict what is wrong with a plan or an input, or probe found no packets or made no plan, 2 refused words, 3 refused plan, 4 a file that failed, 5 out of memory.";
+Status: 0 success, 1 analyse reported a fault or found no packets, --strict what is wrong with a plan or an input, or probe found no packets or made no plan, 2 refused words, 3 refused plan, 4 a file that failed, 5 out of memory.";
 
 const RUN_USAGE: &str =
     "remux run --plan <F> [--then <F> --at <N>].. --out <F> [--slots <N> | --all] [--serial] [--delays] [--strict] [--report <N>]";
@@ -59,14 +59,19 @@ a 'leak' is too low, or the services take more than there is.
 Example:
   ./remux check --plan examples/plan.toml";
 
-const ANALYSE_USAGE: &str = "remux analyse --rate <N> --period <N> [--size <N>] <F>";
+const ANALYSE_USAGE: &str =
+    "remux analyse --rate <N> --period <N> [--size <N>] [--limit <N>] [--places] [--summary] <F>";
 
 const ANALYSE_EXAMPLE: &str =
     "It prints a line for each fault of the first priority of ETSI TR 101 290, and one for the \
-stream. The status is 1 where there is a fault.
+stream. The status is 1 where there is a fault or no packet.
 
 With --size 204 sixteen bytes follow each packet, as demodulators hand them out: they are skipped, \
 and --rate counts them. Else packets follow one another every 188 bytes.
+
+With --limit 10 only the first ten faults have a line; all are counted. With --places such a line ends with the byte of the file at which \
+the fault's packet begins, from 0, and with the time at which that byte comes at --rate, in milliseconds. With --summary the last line comes \
+behind the number of faults of each kind, and on each PID, and behind the packets and the rate of each PID.
 
 Example:
   ./remux analyse --rate 3000000 --period 5000 out.ts";
@@ -176,6 +181,12 @@ fn period<'a>(alloc: Global) -> Arg<'a> {
     number(alloc, "period", help, 1, MOST_SLOTS).required(true)
 }
 
+/// The option `--limit N`.
+fn limit<'a>(alloc: Global) -> Arg<'a> {
+    let help = "Print at most N faults, 0 to 1000000";
+    number(alloc, "limit", help, 0, MOST_LINES)
+}
+
 /// The option `--size N`, which may be left out.
 fn size<'a>(alloc: Global) -> Arg<'a> {
     Arg::new(alloc, "size")
@@ -235,6 +246,17 @@ fn analyse_command<'a>(alloc: Global) -> Result<Command<'a>, AllocError> {
         .arg(rate(alloc))?
         .arg(period(alloc))?
         .arg(size(alloc))?
+        .arg(limit(alloc))?
+        .arg(flag(
+            alloc,
+            "places",
+            "Print at which byte and millisecond each fault is",
+        ))?
+        .arg(flag(
+            alloc,
+            "summary",
+            "Print counts of faults and packets by PID",
+        ))?
         .arg(file(alloc, "file", stream))
 }
 
