@@ -366,7 +366,7 @@ END
 # Words.
 answer 'a plan without --plan' 2 check plan.toml << 'END'
 error: unexpected argument 'plan.toml' found
-Usage: remux check --plan <F> [--then <F> --at <N>].. [--strict]
+Usage: remux check --plan <F> [--then <F> --at <N>].. [--strict] [--json]
 END
 answer 'a run without an output' 2 run --plan plan.toml << 'END'
 error: the following required arguments were not provided:

@@ -2,13 +2,14 @@
 1,504,000 bits a second, as one of 204 bytes does at 1,632,000; and of two packets of a PID with payload the counter of the second is one more
 (ISO/IEC 13818-1, 2.4.3.3).
 """
+import json
 import os
 import select
 import subprocess
 import tempfile
 
 from does import ANALYSE, PROGRAM, CommandCase
-from small import NULL, PAT
+from small import EIGHT, NULL, PAT, PLAN, TABLES, packets
 
 # How long a line may take, in seconds.
 PATIENCE = 20
@@ -40,6 +41,95 @@ class Limits(CommandCase):
             done = self.does(with_words(f"--limit={limit}"), {"x.ts": PAUSED})
             self.assertEqual((done.status, done.out), (2, ""))
             self.assertTrue(done.err.startswith(f"error: invalid value '{limit}' for '--limit <N>'"), done.err)
+
+
+# Ten packets, a byte too many, and ten more. The slot at it and the next one begin with no sync byte: sync is lost at the second.
+SLIPPED = 10 * NULL + b"\0" + 10 * NULL
+
+
+class Syncs(CommandCase):
+    def test_packets_are_sought_where_sync_was_lost(self):
+        lines = """slot 10 1.2 - byte 1880 ms 10
+slot 11 1.1 - byte 2068 ms 11
+slot 11 1.2 - byte 2068 ms 11
+slots 22 faults 3 rest 1
+"""
+        self.ends(self.does(with_words("--sync", "--places"), {"x.ts": SLIPPED}), 1, lines, "")
+
+    def test_without_the_word_it_is_named(self):
+        """Slots 10 to 19 begin with no sync byte."""
+        lines = "".join(f"slot {slot} 1.2 -\n" for slot in range(12, 20))
+        lines = f"slot 10 1.2 -\nslot 11 1.1 -\nslot 11 1.2 -\n{lines}slots 20 faults 11 rest 1\n"
+        said = "x.ts: sync was lost by byte 2068: with --sync packets are sought behind it\n"
+        self.ends(self.does(ANALYSE, {"x.ts": SLIPPED}), 1, lines, said)
+
+    def test_a_bad_sync_byte_is_a_slot(self):
+        stream = 5 * NULL + b"\x48" + NULL[1:] + 5 * NULL
+        for words in ["--sync"], []:
+            self.ends(self.does(with_words(*words), {"x.ts": stream}), 1, "slot 5 1.2 -\nslots 11 faults 1 rest 0\n", "")
+
+    def test_bytes_before_the_first_packet_are_in_none(self):
+        self.ends(self.does(with_words("--sync"), {"x.ts": b"ab" + 10 * NULL}), 0, "slots 10 faults 0 rest 2\n", "")
+
+    def test_packets_of_204_bytes_are_sought_too(self):
+        lines = "slot 10 1.2 - byte 2040 ms 10\nslot 11 1.1 - byte 2244 ms 11\nslot 11 1.2 - byte 2244 ms 11\nslots 22 faults 3 rest 1\n"
+        words = ["analyse", "--rate", "1632000", "--period", "1000", "--size", "204", "--sync", "--places", "x.ts"]
+        wide = 10 * (NULL + 16 * b"\xff")
+        self.ends(self.does(words, {"x.ts": wide + b"\0" + wide}), 1, lines, "")
+
+    def test_a_file_without_packets_has_no_slot(self):
+        self.ends(self.does(with_words("--sync"), {"x.ts": b""}), 1, "slots 0 faults 0 rest 0\n", "x.ts: it is empty\n")
+
+
+class Levels(CommandCase):
+    """At 1,504,000 bits a second and a leak of 1,000,000 the level in bits a second times bytes is 188 * 1,504,000 - 187 * 1,000,000 =
+    95,752,000 behind a first packet, and 94,752,000 more behind each that follows at once. 512 bytes are 770,048,000."""
+
+    LEAK = "0x0101=1000000"
+
+    def test_the_highest_level_is_printed(self):
+        """Behind five packets it is 474,760,000: 315.7 bytes."""
+        told = "level 0x0101 leak 1000000 bytes 316 slot 7 over 0\nslots 8 faults 0 rest 0\n"
+        for leak in self.LEAK, "257=1000000":
+            self.ends(self.does(with_words("--leak", leak), {"x.ts": EIGHT}), 0, told, "")
+
+    def test_a_buffer_leaks_meanwhile(self):
+        """Two null packets take 376,000,000 off it, and a packet adds 94,752,000: 193,512,000 are 128.7 bytes, fewer than before. From the first
+        packet on: 95,752,000 leak away in one slot, and the second is as high as the first, 63.7 bytes."""
+        first = TABLES + packets(range(1)) + NULL + packets([1])
+        told = "level 0x0101 leak 1000000 bytes 64 slot 3 over 0\nslots 6 faults 0 rest 0\n"
+        self.ends(self.does(with_words("--leak", self.LEAK), {"x.ts": first}), 0, told, "")
+        told = "level 0x0101 leak 1000000 bytes 316 slot 7 over 0\nslots 11 faults 0 rest 0\n"
+        self.ends(self.does(with_words("--leak", self.LEAK), {"x.ts": EIGHT + 2 * NULL + packets([5])}), 0, told, "")
+
+    def test_an_overrun_is_counted(self):
+        """Behind eight packets it is 759,016,000, behind nine 853,768,000, and behind ten 948,520,000, which are 630.7 bytes."""
+        told = "level 0x0101 leak 1000000 bytes 631 slot 12 over 2\nslots 13 faults 0 rest 0\n"
+        self.ends(self.does(with_words("--leak", self.LEAK), {"x.ts": TABLES + packets(range(10))}), 0, told, "")
+
+    def test_a_plan_says_the_leaks(self):
+        """2,000,000 bits a second leave one byte, that which came last. The word of the command line counts for its PID."""
+        stream = b"".join(payload(0x0200, counter) for counter in range(10))
+        told = "level 0x0200 leak 2000000 bytes 1 slot 0 over 0\nslots 10 faults 0 rest 0\n"
+        self.ends(self.does(with_words("--levels", "x.toml"), {"x.toml": PLAN, "x.ts": stream}), 0, told, "")
+        told = "level 0x0200 leak 1000000 bytes 631 slot 9 over 2\nslots 10 faults 0 rest 0\n"
+        done = self.does(with_words("--levels", "x.toml", "--leak", "0x0200=1000000"), {"x.toml": PLAN, "x.ts": stream})
+        self.ends(done, 0, told, "")
+
+    def test_a_document_has_them(self):
+        done = self.does(with_words("--leak", self.LEAK, "--json"), {"x.ts": EIGHT})
+        level = {"pid": 0x0101, "leak": 1000000, "bytes": 316, "slot": 7, "over": 0}
+        self.assertEqual(json.loads(done.out)["end"]["levels"], [level])
+
+    def test_other_words_are_refused(self):
+        for word in "0x2000=1", "8192=1", "0x0101", "0x0101=0", "0x0101=100000001", "x=1", "0x=1", "=1", "1=-1":
+            done = self.does(with_words("--leak", word), {"x.ts": EIGHT})
+            self.assertEqual((done.status, done.out), (2, ""), word)
+            self.assertTrue(done.err.startswith("error: '--leak <PID=N>' has a PID from 0 to 0x1FFF"), done.err)
+
+    def test_a_refused_plan_is_told(self):
+        done = self.does(with_words("--levels", "x.toml"), {"x.toml": "rate = 1\n", "x.ts": EIGHT})
+        self.assertEqual((done.status, done.out), (3, ""))
 
 
 class Places(CommandCase):

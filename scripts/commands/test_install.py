@@ -12,10 +12,10 @@ INSTALL = f"{TOP}/scripts/install.sh"
 
 # The words of each command, as docs/OUTPUT.md and the README have them.
 WORDS = {
-    "run": "--plan --then --at --out --slots --all --serial --delays --strict --report",
-    "check": "--plan --then --at --strict",
-    "analyse": "--rate --period --size --limit --places --summary",
-    "probe": "--plan",
+    "run": "--plan --then --at --out --slots --all --serial --delays --strict --report --progress --quiet --graph --json",
+    "check": "--plan --then --at --strict --json",
+    "analyse": "--rate --period --size --sync --limit --places --summary --levels --leak --json",
+    "probe": "--plan --json",
 }
 
 

@@ -44,7 +44,16 @@ fn ends<T: Abort + Threads + Wait + Clock + Copy + Send + Drop + 'static>(
     let files = MemoryFiles::new(alloc, example::PLAN, input)?;
     let mut files = WatchedFiles::new(alloc, files);
     let (mut out, mut err) = (Vec::new(alloc), Vec::new(alloc));
-    let (status, writer) = command(rt, alloc, words, &mut files, &mut out, &mut err, io::sink());
+    let (status, writer) = command(
+        rt,
+        alloc,
+        words,
+        &mut files,
+        &mut out,
+        &mut err,
+        io::sink(),
+        false,
+    );
     let written = writer.map(|sink| sink.into_inner().into_inner().bytes.len());
     assert_eq!(rt; text(&err), wanted.2);
     assert_eq!(rt; text(&out), wanted.1);

@@ -2,14 +2,20 @@
 
 use crate::measuring_inputs::measure;
 use crate::run_command::{Asked, run};
-use files::{CommandFault, FileCause, Files, InputFile, ReadSchedule, read_schedule};
+use crate::shows::Shows;
+use advice::packets_rate;
+use files::{
+    CommandFault, FileCause, Files, InputFile, NoNotices, ReadSchedule, read_request,
+    read_schedule, stopped,
+};
+use levels::Levels;
 use live::{RunFiles, WaitTeller};
 use measuring::{is_input_wrong, is_too_much, print_measured};
 use printing::{
     Shown, StreamAnalysis, analysis_status, print_plan, print_rhythm, print_same_files,
-    print_shape, print_switch_tables, print_switches, strict_status,
+    print_schedule_document, print_shape, print_switch_tables, print_switches, strict_status,
 };
-use probing::probe_files;
+use probing::{ProbeAnswer, probe_files};
 use rate_meter::RateMeter;
 use std::alloc::Global;
 use std::convert::AsStr;
@@ -17,7 +23,10 @@ use std::io::{ErrorKind, Write};
 use std::sync::Wait;
 use std::thread::Threads;
 use std::time::Clock;
-use words::{Analysis, Command, LineFault, line};
+use words::{Analysis, Command, LineFault, Progress, line};
+
+/// The most bytes of a stream that is analysed with `--sync`: 2^47.
+const MOST_FRAMED: u64 = 1 << 47;
 
 /// The status of a refused command line.
 const REFUSED: u8 = 2;
@@ -37,10 +46,12 @@ const REFUSED: u8 = 2;
 /// An output gets its name when the run has ended and no input failed. Where the output goes to standard output, the lines of
 /// the run go to `err`.
 ///
-/// A run reads each input in a thread of its own, or all in the calling thread where the words ask for that.
+/// A run reads each input in a thread of its own; or all in the calling thread, where the words ask for that, and where there is one core and
+/// all inputs are files.
 ///
 /// What is waited for before a run or a check, once that takes two seconds, and how far a run is that is asked for that, a thread says on
-/// `voice`, and nothing more behind it: so `voice` and `err` may be one file.
+/// `voice`, and nothing more behind it: so `voice` and `err` may be one file. Where that is a terminal, a run that isn't asked for else shows
+/// there how far it is.
 pub fn command<
     T: Threads + Wait + Clock + Copy + Send + Drop + 'static,
     F: RunFiles,
@@ -56,6 +67,7 @@ pub fn command<
     out: &mut O,
     err: &mut E,
     voice: V,
+    is_terminal: bool,
 ) -> (u8, Option<F::Writer>)
 where
     F::Again: Send + 'static,
@@ -74,14 +86,27 @@ where
                 plan,
                 later,
                 strict,
+                json,
             },
         ) => {
-            let ended = check(rt, alloc, files, plan, &later, strict, out, err, voice);
+            let asked = AskedCheck {
+                plan,
+                later: &later,
+                strict,
+                json,
+            };
+            let ended = check(rt, alloc, files, &asked, out, err, voice);
             (end_over(plan, &later, ended, out, err), None)
         }
         Ok(Command::Analyse(asked)) => (analyse_asked(alloc, files, &asked, out, err), None),
-        Ok(Command::Probe { files: names, plan }) => {
-            let ended = probe_files(alloc, files, &names, plan, out, err);
+        Ok(
+            Command::Probe {
+                files: names,
+                plan,
+                json,
+            },
+        ) => {
+            let ended = probe_files(alloc, files, &names, answer_of(plan, json), out, err);
             (end(ended, out, err), None)
         }
         Ok(
@@ -94,6 +119,9 @@ where
                 delays,
                 strict,
                 report,
+                progress,
+                graph,
+                json,
             },
         ) => {
             let asked = Asked {
@@ -105,6 +133,9 @@ where
                 delays,
                 strict,
                 report,
+                shows: shows_of(progress, is_terminal),
+                graph,
+                json,
             };
             run::<T, F, O, E, V, RateMeter>(rt, alloc, files, &asked, out, err, voice)
         }
@@ -216,7 +247,38 @@ fn print_first<O: Write>(alloc: Global, out: &mut O) -> Result<u8, CommandFault>
     Ok(0)
 }
 
-/// Shows a plan and those that follow it: its lines, those of each switch, and on `err` what is said of its rhythm, of the switches'
+/// What a check is asked for.
+#[derive(Clone, Copy)]
+struct AskedCheck<'a> {
+    /// The name of the plan's file.
+    plan: &'a str,
+    /// The plans that follow it: the slot from which on each is in force, and the name of its file.
+    later: &'a [(u64, &'a str)],
+    /// Whether a plan that an input's rates don't fit ends it with status 1.
+    strict: bool,
+    /// Whether it is shown as JSON.
+    json: bool,
+}
+
+/// How a run shows how far it is, by where it is to show it.
+fn shows_of(progress: Progress, is_terminal: bool) -> Shows {
+    match (progress, is_terminal) {
+        (Progress::Never, _) | (Progress::OnTerminal, false) => Shows::Nothing,
+        (Progress::Always, false) => Shows::Lines,
+        (Progress::OnTerminal | Progress::Always, true) => Shows::OnTerminal,
+    }
+}
+
+/// What a probe prints, by what it is asked for: a plan, or JSON, or lines.
+fn answer_of(plan: bool, json: bool) -> ProbeAnswer {
+    match (plan, json) {
+        (true, _) => ProbeAnswer::Plan,
+        (false, true) => ProbeAnswer::Document,
+        (false, false) => ProbeAnswer::Lines,
+    }
+}
+
+/// Shows a plan and those that follow it: its lines, those of each switch, or all of this as JSON, and on `err` what is said of its rhythm, of the switches'
 /// tables and of its inputs' rates. A strict check ends with 1 where these aren't as they should be.
 fn check<
     T: Threads + Wait + Clock + Copy + Send + Drop + 'static,
@@ -228,23 +290,25 @@ fn check<
     rt: T,
     alloc: Global,
     files: &mut F,
-    plan: &str,
-    later: &[(u64, &str)],
-    is_strict: bool,
+    asked: &AskedCheck,
     out: &mut O,
     err: &mut E,
     voice: V,
 ) -> Result<u8, CommandFault> {
     let mut teller = WaitTeller::new(rt, alloc, voice);
-    let read = read_schedule(alloc, files, &mut teller, plan, later);
+    let read = read_schedule(alloc, files, &mut teller, asked.plan, asked.later);
     teller.end();
     let ReadSchedule {
         schedule,
         readers,
         ..
     } = read?;
-    print_plan(schedule.plan(0), out)?;
-    print_switches(&schedule, out)?;
+    if asked.json {
+        print_schedule_document(alloc, &schedule, out)?;
+    } else {
+        print_plan(schedule.plan(0), out)?;
+        print_switches(&schedule, out)?;
+    }
     out.flush()?;
     let _ = print_rhythm(schedule.plan(0), err);
     let _ = print_switch_tables(&schedule, err);
@@ -255,7 +319,29 @@ fn check<
     let _ = print_measured(&schedule, &readers, err);
     let _ = print_same_files(&readers, err);
     let is_sound = !is_input_wrong(&schedule, &readers) && !is_too_much(&schedule, &readers);
-    Ok(strict_status(is_strict, is_sound, 0))
+    Ok(strict_status(asked.strict, is_sound, 0))
+}
+
+/// Lets an analysis follow the transport buffers that are asked for: those of the PIDs that are named, and of the streams of a plan.
+fn watch_levels<F: Files>(
+    alloc: Global,
+    files: &mut F,
+    analysis: &mut StreamAnalysis,
+    asked: &Analysis,
+) -> Result<(), CommandFault> {
+    if asked.levels.is_none() && asked.leaks.is_empty() {
+        return Ok(());
+    }
+    let mut leaks = Vec::from_slice(alloc, &asked.leaks)?;
+    if let Some(name) = asked.levels {
+        let (request, _) = read_request(alloc, files, &mut NoNotices, name)?;
+        for stream in request.streams() {
+            leaks.push((stream.output_pid, stream.leak))?;
+        }
+    }
+    let rate = packets_rate(asked.size, asked.rate);
+    analysis.watch(Levels::new(alloc, &leaks, rate)?);
+    Ok(())
 }
 
 /// Does an analysis that is asked for, prints its fault, and answers the status.
@@ -271,12 +357,47 @@ fn analyse_asked<F: Files, O: Write, E: Write>(
         limit: asked.limit,
         places: asked.places,
         summary: asked.summary,
+        json: asked.json,
     });
-    let ended = analyse(alloc, files, &mut analysis, asked, out, err);
+    let ended = match watch_levels(alloc, files, &mut analysis, asked) {
+        Ok(()) => analyse(alloc, files, &mut analysis, asked, out, err),
+        Err(fault) => Err(fault),
+    };
     end(ended, out, err)
 }
 
-/// Reports what is found in a stream, and on `err` what it looks like, where it has a fault or no packet, and isn't made of packets of
+/// Analyses a stream whose packets are sought where they are. What it was read from comes back, and the number of faults.
+fn analyse_framed<R: InputFile + Drop, O: Write>(
+    alloc: Global,
+    analysis: &mut StreamAnalysis,
+    name: &str,
+    source: R,
+    out: &mut O,
+) -> Result<(R, u64), CommandFault> {
+    let (source, ended) = analysis.read_framed(alloc, source, out)?;
+    match ended {
+        Ok(faults) => Ok((source, faults)),
+        Err(stop) => Err(stopped(alloc, name, &source, stop, MOST_FRAMED)),
+    }
+}
+
+/// Analyses a stream whose slots follow one another. What it was read from comes back, and the number of faults.
+fn analyse_slots<R: InputFile + Drop, O: Write>(
+    alloc: Global,
+    analysis: &mut StreamAnalysis,
+    name: &str,
+    source: R,
+    out: &mut O,
+) -> Result<(R, u64), CommandFault> {
+    let mut source = source;
+    let ended = analysis.read(alloc, &mut source, out)?;
+    match ended {
+        Some(faults) => Ok((source, faults)),
+        None => Err(CommandFault::file(alloc, name, source.cause())),
+    }
+}
+
+/// Reports what is found in a stream, and on `err` where it lost its sync, and what it looks like, where it has a fault or no packet, and isn't made of packets of
 /// the size that is asked for.
 fn analyse<F: Files, O: Write, E: Write>(
     alloc: Global,
@@ -287,15 +408,19 @@ fn analyse<F: Files, O: Write, E: Write>(
     err: &mut E,
 ) -> Result<u8, CommandFault> {
     let name = asked.file;
-    let mut source = match files.reader(name) {
+    let source = match files.reader(name) {
         Ok(source) => source,
         Err(cause) => return Err(CommandFault::file(alloc, name, cause)),
     };
-    let Some(faults) = analysis.read(alloc, &mut source, out)? else {
-        return Err(CommandFault::file(alloc, name, source.cause()));
+    let (source, faults) = if asked.sync {
+        analyse_framed(alloc, analysis, name, source, out)?
+    } else {
+        analyse_slots(alloc, analysis, name, source, out)?
     };
     out.flush()?;
     let status = analysis_status(analysis.slots(), faults);
-    let _ = print_shape(name, asked.size, source.head(), status != 0, err);
+    let loss = if asked.sync { None } else { analysis.loss() };
+    let is_wrong = status != 0;
+    let _ = print_shape(name, asked.size, source.head(), is_wrong, loss, err);
     Ok(status)
 }

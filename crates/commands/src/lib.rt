@@ -4,6 +4,7 @@
 mod commands;
 mod measuring_inputs;
 mod run_command;
+mod shows;
 mod whole_run;
 
 pub use commands::command;

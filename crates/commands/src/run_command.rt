@@ -1,23 +1,26 @@
 //! The command that makes a multiplex.
 
-ghost use Rattle.std.specs.Prelude.{◌≡◌, ℕ, length, IfOk};
+ghost use Rattle.std.specs.Prelude.{◌≡◌, ℕ, length, true, IfOk};
 ghost use Rattle.reading.specs.InputLimit.{IsAllowed as IsAllowedLimit};
 ghost use Rattle.words.specs.Ranges.{IsAllowedLength};
 
 use crate::commands::{end, end_over};
 use crate::measuring_inputs::tell_low_leaks;
+use crate::shows::Shows;
 use crate::whole_run::run_schedule;
 use files::{
-    CommandFault, FileCause, FileIdentity, Files, InputFile, Notices, OutputFile, ReadSchedule,
-    open_again, open_output, read_schedule, stopped,
+    CommandFault, FileCause, FileIdentity, Files, InputFile, NoNotices, Notices, OutputFile,
+    ReadSchedule, is_among, open_again, open_output, read_schedule, stopped,
 };
-use live::{Reporter, RunBoard, RunFiles, WaitTeller, print_board};
+use graphs::{Bar, print_picture};
+use live::{Goal, Reporter, RunBoard, RunFiles, WaitTeller, print_board};
 use measuring::{Metered, is_input_wrong, print_wrong_rates, with_meters};
-use outlet::RunFault;
+use outlet::{RunFault, write_all};
 use plan::Plan;
 use printing::{
     has_early_end, is_overfull, print_delays, print_early_ends, print_end, print_faults,
-    print_overfull, print_same_files, print_summary, print_unreached, strict_status,
+    print_overfull, print_run_document, print_same_files, print_summary, print_unreached,
+    strict_status,
 };
 use rate_meter::Meter;
 use reading::{InputLimit, Stop};
@@ -26,6 +29,7 @@ use serial::Summary;
 use std::alloc::{AllocError, Global};
 use std::io::Write;
 use std::sync::{Arc, Wait};
+use std::thread;
 use std::thread::Threads;
 use std::time::Clock;
 use words::{RunLength, most_slots};
@@ -49,6 +53,12 @@ pub(crate) struct Asked<'a> {
     pub strict: bool,
     /// After how many seconds each time it is said how far the run is, if it is.
     pub report: Option<u64>,
+    /// How it shows how far it is, where it isn't asked for reports.
+    pub shows: Shows,
+    /// The name of the file that a picture of it is written to, if one is.
+    pub graph: Option<&'a str>,
+    /// Whether what became of it is printed as JSON.
+    pub json: bool,
 }
 
 /// The most bytes of an input of a run of this length.
@@ -81,6 +91,22 @@ struct Ran<R> {
     readers: Vec<R>,
 }
 
+/// Refuses a picture that would be written over a file that is read, or over the output.
+fn check_picture<F: Files>(
+    alloc: Global,
+    files: &mut F,
+    asked: &Asked,
+    read: &[FileIdentity],
+) -> Result<(), CommandFault> {
+    let Some(name) = asked.graph else {
+        return Ok(());
+    };
+    if name == asked.out || is_among(files.output_identity(name), read) {
+        return Err(CommandFault::file(alloc, name, FileCause::IsRead));
+    }
+    Ok(())
+}
+
 /// What a run needs, and the board on which it is noted how far it is. The output is made last, so that a refused run leaves none.
 fn prepare<F: RunFiles, N: Notices>(
     alloc: Global,
@@ -98,7 +124,9 @@ fn prepare<F: RunFiles, N: Notices>(
         readers,
         ..
     } = read;
-    let board = files.watch(alloc, &schedule, asked.report.is_some())?;
+    check_picture(alloc, files, asked, &identities)?;
+    let (is_counted, is_drawn) = (asked.report.is_some(), asked.graph.is_some());
+    let board = files.watch(alloc, &schedule, is_counted, is_drawn)?;
     let (readers, writer) = open_all(
         alloc,
         files,
@@ -189,12 +217,16 @@ where
         tell_low_leaks(alloc, files, &prepared.schedule, &prepared.readers, err);
     }
     let is_standard = files.is_standard_output(asked.out);
-    let (writer, ran) = run_reporting::<T, F, V, M>(
+    let (mut writer, ran) = run_reporting::<T, F, V, M>(
         rt, alloc, files, prepared, &board, asked, voice,
     );
     let status = match ran {
         Ok((ran, named)) => {
-            let told = tell_run(&ran, is_standard, asked.delays, out, err);
+            let told = tell_run(alloc, &ran, is_standard, asked, out, err);
+            let named = match named {
+                Ok(status) => draw(alloc, files, &mut writer, &ran, asked).and(Ok(status)),
+                Err(fault) => Err(fault),
+            };
             let status = end(told.and(named), out, err);
             tell_found(files, &ran, err);
             strict_status(asked.strict, is_sound(&ran), status)
@@ -210,6 +242,51 @@ where
         }
     };
     (status, Some(writer))
+}
+
+/// Draws a run whose multiplex went to this writer, where that is asked for.
+fn draw<F: RunFiles, R>(
+    alloc: Global,
+    files: &mut F,
+    writer: &mut F::Writer,
+    ran: &Ran<R>,
+    asked: &Asked,
+) -> Result<(), CommandFault>
+where
+    F::Writer: Drop,
+{
+    let (Some(name), Some(record)) = (asked.graph, F::take_record(writer)) else {
+        return Ok(());
+    };
+    let mut bars = Vec::new(alloc);
+    for (stream, peak) in ran
+        .schedule
+        .streams()
+        .iter()
+        .zip(ran.summary.streams.iter())
+    {
+        bars.push(Bar {
+            pid: stream.output_pid,
+            delay: peak.delay,
+        })?;
+    }
+    let mut picture = Vec::new(alloc);
+    if print_picture(&record, &bars, &mut picture).is_err() {
+        return Err(CommandFault::Memory);
+    }
+    let multiplex = files.output_identity(asked.out);
+    let mut read = Vec::new(alloc);
+    if let Some(multiplex) = multiplex {
+        read.push(multiplex)?;
+    }
+    let (mut writer, _) = open_output(alloc, files, &mut NoNotices, name, &read)?;
+    if write_all(&mut writer, &picture).is_err() {
+        return Err(CommandFault::file(alloc, name, writer.cause()));
+    }
+    match files.complete() {
+        Ok(()) => Ok(()),
+        Err(cause) => Err(CommandFault::file(alloc, name, cause)),
+    }
 }
 
 /// Whether a run failed since nobody reads its output any more.
@@ -248,7 +325,24 @@ fn tell_partial<F: Files, E: Write>(files: &F, err: &mut E) {
     }
 }
 
-/// A thread that says on `voice` how far a run is, where that is asked for.
+/// Where a run of these readers ends.
+fn goal_of<R: InputFile, W>(
+    alloc: Global,
+    prepared: &Prepared<R, W>,
+    length: RunLength,
+) -> Result<Goal, AllocError> {
+    let mut lengths = Vec::new(alloc);
+    for reader in &prepared.readers {
+        lengths.push(reader.length())?;
+    }
+    let slots = match length {
+        RunLength::Slots(slots) => Some(slots),
+        RunLength::All => None,
+    };
+    Ok(Goal::of(prepared.schedule.plan(0), lengths, slots))
+}
+
+/// A thread that says on `voice` how far a run is that ends there, where that is asked for.
 fn start_reporter<
     T: Threads + Wait + Clock + Copy + Send + Drop + 'static,
     V: Write + Send + Drop + 'static,
@@ -256,12 +350,17 @@ fn start_reporter<
     rt: T,
     alloc: Global,
     board: &Arc<RunBoard, Global>,
+    goal: Goal,
     asked: &Asked,
     voice: V,
 ) -> Result<Option<Reporter>, AllocError> {
-    match asked.report {
-        Some(seconds) => Ok(Some(Reporter::start(rt, alloc, board, seconds, voice)?)),
-        None => Ok(None),
+    match (asked.report, asked.shows) {
+        (Some(seconds), _) => Ok(Some(Reporter::start(rt, alloc, board, seconds, voice)?)),
+        (None, Shows::Nothing) => Ok(None),
+        (None, shows) => {
+            let is_terminal = shows == Shows::OnTerminal;
+            Ok(Some(Reporter::show(rt, alloc, board, goal, is_terminal, voice)?))
+        }
     }
 }
 
@@ -289,7 +388,11 @@ where
     requires readers { length prepared.readers.items ≡ length prepared.schedule.first.request.inputs }
     requires length { IsAllowedLength asked.now.length }
 {
-    let Ok(reporter) = start_reporter(rt, alloc, board, asked, voice) else {
+    let reporter = match goal_of(alloc, &prepared, asked.length) {
+        Ok(goal) => start_reporter(rt, alloc, board, goal, asked, voice),
+        Err(refused) => Err(refused),
+    };
+    let Ok(reporter) = reporter else {
         let Prepared { writer, .. } = prepared;
         return (writer, Err(CommandFault::Memory));
     };
@@ -298,6 +401,25 @@ where
         reporter.end(&rt);
     }
     ended
+}
+
+/// Whether this process may run on one core alone.
+fn has_one_core<T: Threads>(rt: &T) -> bool {
+    match thread::available_parallelism(rt) {
+        Ok(cores) => cores.get() == 1,
+        Err(_) => false,
+    }
+}
+
+/// Whether a run uses one thread alone: where that is asked for, and on one core, where threads have nothing to do beside one another, if
+/// all inputs are files of a known length: a read of one waits for nobody who writes it.
+fn is_alone<T: Threads, R: InputFile>(rt: &T, is_serial: bool, readers: &[R]) -> bool
+    ensures { is_serial ≡ true → result ≡ true }
+{
+    if is_serial {
+        return true;
+    }
+    has_one_core(rt) && readers.iter().all(|reader| reader.length().is_some())
 }
 
 /// Makes the multiplex of a plan. A run that has ended by itself is answered with what became of its output.
@@ -328,7 +450,7 @@ where
         return (writer, Err(CommandFault::Memory));
     };
     let (slots, limit) = (most_slots(asked.length), input_limit(asked.length));
-    let is_serial = asked.is_serial;
+    let is_serial = is_alone(&rt, asked.is_serial, &readers);
     match run_schedule(
         rt, alloc, is_serial, schedule, slots, limit, readers, writer,
     ) {
@@ -383,22 +505,37 @@ fn failure_of(stopped: Option<Stop>) -> Option<Stop> {
     }
 }
 
-/// Prints what became of a run: on `err` where `out` has the multiplex. With `delays` how long its streams waited comes behind
-/// it, on `err`.
+/// Prints what became of a run, in lines or as JSON.
+fn print_ran<R, O: Write>(
+    alloc: Global,
+    ran: &Ran<R>,
+    is_json: bool,
+    out: &mut O,
+) -> Result<(), CommandFault> {
+    if is_json {
+        return print_run_document(alloc, &ran.schedule, &ran.summary, out);
+    }
+    print_summary(&ran.summary, out)?;
+    Ok(())
+}
+
+/// Prints what became of a run: on `err` where `out` has the multiplex. How long its streams waited comes behind it, on `err`, where that is
+/// asked for.
 fn tell_run<R, O: Write, E: Write>(
+    alloc: Global,
     ran: &Ran<R>,
     is_standard: bool,
-    delays: bool,
+    asked: &Asked,
     out: &mut O,
     err: &mut E,
 ) -> Result<(), CommandFault> {
     if is_standard {
-        let _ = print_summary(&ran.summary, err);
+        let _ = print_ran(alloc, ran, asked.json, err);
     } else {
-        print_summary(&ran.summary, out)?;
+        print_ran(alloc, ran, asked.json, out)?;
         out.flush()?;
     }
-    if delays {
+    if asked.delays {
         let _ = print_delays(&ran.schedule, &ran.summary, err);
     }
     Ok(())

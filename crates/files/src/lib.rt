@@ -47,7 +47,7 @@ pub use notices::{NoNotices, Notices};
 pub use output_file::OutputFile;
 pub use output_opening::open_output;
 pub use output_place::OutputPlace;
-pub use plan_files::{read_plan, read_schedule, stopped};
+pub use plan_files::{read_plan, read_request, read_schedule, stopped};
 pub use plan_read::{ReadPlan, open_again};
 pub use schedule_read::ReadSchedule;
 pub use sources::Sources;

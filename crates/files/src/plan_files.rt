@@ -125,7 +125,7 @@ fn no_text_fault(alloc: Global, bytes: &[u8]) -> CommandFault {
 }
 
 /// The request that a plan's file writes, and which file that is.
-fn read_request<F: Sources, N: Notices>(
+pub fn read_request<F: Sources, N: Notices>(
     alloc: Global,
     files: &mut F,
     notices: &mut N,

@@ -1,1 +1,2 @@
+pub mod Pace
 pub mod Watching

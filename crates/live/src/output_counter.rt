@@ -1,13 +1,11 @@
 //! Packets and faults of an output, counted as it is written.
 
+use crate::packet_cut::PacketCut;
 use crate::run_board::RunBoard;
 use analyse::{Analyser, Fault};
 use schedule::Schedule;
 use std::alloc::{AllocError, Global};
 use tspkt::Packet;
-
-/// The length of a packet, in bytes.
-const PACKET: usize = 188;
 
 /// A stream of the output, and the input that it is taken from.
 #[derive(Clone, Copy)]
@@ -22,10 +20,7 @@ pub(crate) struct OutputCounter {
     origins: Vec<Origin>,
     analyser: Analyser,
     told: Vec<Fault>,
-    /// The packet that is being written.
-    packet: [u8; PACKET],
-    /// How many of its bytes were.
-    filled: usize,
+    cut: PacketCut,
 }
 
 impl OutputCounter {
@@ -43,28 +38,23 @@ impl OutputCounter {
             origins,
             analyser: Analyser::new(alloc, plan.rate(), plan.request().watch()),
             told: Vec::new(alloc),
-            packet: [0; PACKET],
-            filled: 0,
+            cut: PacketCut::new(),
         })
     }
 
     /// Counts on a board what is written, each packet once it is whole. Behind want of memory no faults are counted.
     pub fn count(&mut self, bytes: &[u8], board: &RunBoard) {
         for byte in bytes {
-            if self.filled < PACKET {
-                self.packet[self.filled] = *byte;
-                self.filled += 1;
-            }
-            if self.filled == PACKET {
-                self.filled = 0;
-                self.count_packet(board);
+            if let Some(packet) = self.cut.add(*byte) {
+                let packet = *packet;
+                self.count_packet(&packet, board);
             }
         }
     }
 
-    /// Counts the packet that was written.
-    fn count_packet(&mut self, board: &RunBoard) {
-        let pid = Packet::pid_in(&self.packet);
+    /// Counts a packet that was written.
+    fn count_packet(&mut self, packet: &[u8; 188], board: &RunBoard) {
+        let pid = Packet::pid_in(packet);
         for origin in &self.origins {
             if origin.output_pid == pid
                 && let Some(place) = board.inputs().get(origin.input)
@@ -73,7 +63,7 @@ impl OutputCounter {
             }
         }
         self.told.clear();
-        if self.analyser.push(&self.packet, &mut self.told).is_ok() {
+        if self.analyser.push(packet, &mut self.told).is_ok() {
             board.add_faults(self.told.len());
         }
     }

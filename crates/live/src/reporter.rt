@@ -1,5 +1,7 @@
 //! Says how far a run is.
 
+use crate::goal::Goal;
+use crate::progress_line::print_progress;
 use crate::report_lines::print_board;
 use crate::run_board::RunBoard;
 use crate::run_seen::{RunSeen, SECOND};
@@ -76,6 +78,56 @@ fn say_all<T: Wait + Clock, V: Write>(
     }
 }
 
+/// How long it is from one renewal of the line on a terminal to the next, in milliseconds.
+const RENEWAL: u64 = 500;
+
+/// What goes in front of a renewed line on a terminal: the cursor goes back to its beginning, and the line is emptied.
+const RENEW: &[u8] = b"\r\x1b[K";
+
+/// How many milliseconds have passed; 0 where the clock can't be read.
+fn since<T: Clock>(rt: &T, start: Option<Instant>) -> u64 {
+    let Some(start) = start else {
+        return 0;
+    };
+    match start.elapsed(rt) {
+        Ok(elapsed) => elapsed.as_millis().min(u128::from(u64::MAX)) as u64,
+        Err(_) => 0,
+    }
+}
+
+/// Shows how far a run is, until it has ended: on a terminal twice a second in a line that is renewed, and goes away at the end, and
+/// elsewhere each second in a line of its own.
+fn show_all<T: Wait + Clock, V: Write>(
+    rt: &T,
+    alloc: Global,
+    board: &RunBoard,
+    goal: &Goal,
+    is_terminal: bool,
+    voice: &mut V,
+) {
+    let start = Instant::now(rt).ok();
+    let pause = if is_terminal { RENEWAL } else { 2 * RENEWAL };
+    let mut line = Vec::new(alloc);
+    let mut is_shown = false;
+    for _ in rt.forever() {
+        let is_over = board.wait(rt, Duration::from_millis(pause));
+        if is_terminal && (is_shown || !is_over) {
+            let _ = line.write_all(RENEW);
+        }
+        if !is_over {
+            let _ = print_progress(board, goal, since(rt, start), &mut line);
+            if !is_terminal {
+                let _ = line.write_all(b"\n");
+            }
+        }
+        is_shown = true;
+        say(&mut line, voice);
+        if is_over {
+            return;
+        }
+    }
+}
+
 /// A thread that says how far a run is: every so many seconds a line, as
 /// `report: slots 126330 faults 0, input 0 position 23750000 queue 12, input 1 position 188000 queue 0 waited for`; and at once where an
 /// input ends while others go on, or where all wait for one for more than a second.
@@ -101,6 +153,31 @@ impl Reporter {
         let started = thread::spawn(&rt, move || {
             let (mut seen, mut voice) = (seen, voice);
             say_all(&rt, alloc, &theirs, &mut seen, every, &mut voice)
+        });
+        match started {
+            Ok(handle) => Ok(Reporter { board: own, handle }),
+            Err(_) => Err(AllocError),
+        }
+    }
+
+    /// Starts a thread that shows on `voice` how far the run is: on a terminal in a line that is renewed twice a second and goes away at the
+    /// end, and elsewhere in a line each second, as `slots 126330, inputs 45 46 %, 9 of 20 s, 12.3x, 1 s left`. An `Err` is want of memory, or
+    /// that no thread can be made.
+    pub fn show<
+        T: Threads + Wait + Clock + Copy + Send + Drop + 'static,
+        V: Write + Send + Drop + 'static,
+    >(
+        rt: T,
+        alloc: Global,
+        board: &Arc<RunBoard, Global>,
+        goal: Goal,
+        is_terminal: bool,
+        voice: V,
+    ) -> Result<Reporter, AllocError> {
+        let (own, theirs) = (Arc::try_clone(board)?, Arc::try_clone(board)?);
+        let started = thread::spawn(&rt, move || {
+            let mut voice = voice;
+            show_all(&rt, alloc, &theirs, &goal, is_terminal, &mut voice)
         });
         match started {
             Ok(handle) => Ok(Reporter { board: own, handle }),

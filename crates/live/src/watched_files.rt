@@ -7,6 +7,7 @@ use crate::run_files::RunFiles;
 use crate::watched::Watched;
 use crate::watched_sink::WatchedSink;
 use files::{FileCause, FileIdentity, Files, Sources};
+use graphs::Record;
 use schedule::Schedule;
 use std::alloc::{AllocError, Global};
 use std::sync::Arc;
@@ -86,10 +87,15 @@ impl<F: Files> RunFiles for WatchedFiles<F> {
         alloc: Global,
         schedule: &Schedule,
         is_counted: bool,
+        is_drawn: bool,
     ) -> Result<Arc<RunBoard, Global>, AllocError> {
         let board = Arc::new(alloc, RunBoard::new(alloc, schedule.plan(0), is_counted)?)?;
         self.inputs = watches(alloc, schedule, &board)?;
-        self.output = Some(OutputWatch::new(alloc, schedule, &board)?);
+        self.output = Some(OutputWatch::new(alloc, schedule, &board, is_drawn)?);
         Ok(board)
+    }
+
+    fn take_record(writer: &mut WatchedSink<F::Writer>) -> Option<Record> {
+        writer.take_record()
     }
 }

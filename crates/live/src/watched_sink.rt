@@ -2,6 +2,7 @@
 
 use crate::output_watch::OutputWatch;
 use files::{FileCause, OutputFile};
+use graphs::Record;
 use outlet::Sink;
 use std::io;
 
@@ -21,6 +22,11 @@ impl<W> WatchedSink<W> {
         ensures { sink_of result ≡ sink }
     {
         WatchedSink { sink, watch }
+    }
+
+    /// What was kept of it for a picture, if it was; it is kept no longer.
+    pub(crate) fn take_record(&mut self) -> Option<Record> {
+        self.watch.as_mut()?.take_record()
     }
 
     /// The sink.

@@ -3,6 +3,10 @@
 ghost use Rattle.std.specs.Prelude.{◌≡◌, ◌≤◌, Some, slice_get};
 
 use crate::fault_lines::KINDS;
+use crate::kind_document::KindDocument;
+use crate::pid_document::PidDocument;
+use crate::summary_document::SummaryDocument;
+use crate::told_document::ToldDocument;
 use advice::share;
 use analyse::{Fault, FaultCounts, FaultKind};
 use std::alloc::{AllocError, Global};
@@ -101,39 +105,85 @@ impl AnalysisSummary {
         for (key, tally) in &self.told {
             print_tally(*key, *tally, out)?;
         }
-        for pid in 0..self.packets.len() {
-            print_packets(pid, self.packets[pid], rate, slots, out)?;
+        for (pid, packets) in self.packets.iter().enumerate() {
+            if let Some(rate) = rate_of(*packets, rate, slots) {
+                writeln!(out, "pid 0x{pid:04X} packets {packets} rate {rate}")?;
+            }
         }
         Ok(())
     }
+
+    /// The same for a document. `Err` is want of memory.
+    pub fn document(
+        &self,
+        alloc: Global,
+        rate: u64,
+        slots: u64,
+    ) -> Result<SummaryDocument, AllocError> {
+        Ok(SummaryDocument {
+            kinds: KindDocument::all_of(alloc, &self.kinds)?,
+            told: self.told_documents(alloc)?,
+            pids: self.pid_documents(alloc, rate, slots)?,
+        })
+    }
+
+    /// Each fault on each PID, for a document. `Err` is want of memory.
+    fn told_documents(&self, alloc: Global) -> Result<Vec<ToldDocument>, AllocError> {
+        let mut told = Vec::new(alloc);
+        for (key, tally) in &self.told {
+            if let Some((kind, pid)) = split(*key) {
+                told.push(ToldDocument {
+                    kind: kind.number(),
+                    pid,
+                    count: tally.count,
+                    first: tally.first,
+                    last: tally.last,
+                })?;
+            }
+        }
+        Ok(told)
+    }
+
+    /// Each PID with packets, for a document. `Err` is want of memory.
+    fn pid_documents(
+        &self,
+        alloc: Global,
+        rate: u64,
+        slots: u64,
+    ) -> Result<Vec<PidDocument>, AllocError> {
+        let mut pids = Vec::new(alloc);
+        for (pid, packets) in self.packets.iter().enumerate() {
+            if let Some(rate) = rate_of(*packets, rate, slots) {
+                let packets = *packets;
+                pids.push(PidDocument { pid, packets, rate })?;
+            }
+        }
+        Ok(pids)
+    }
+}
+
+/// The kind and the PID that a key stands for.
+fn split(key: u32) -> Option<(FaultKind, Option<u16>)> {
+    let kind = *KINDS.get((key / KEYS) as usize)?;
+    let pid = (key % KEYS) as u16;
+    Some((kind, if pid == NO_PID { None } else { Some(pid) }))
 }
 
 /// Prints the line of a fault on a PID.
 fn print_tally<O: Write>(key: u32, tally: Tally, out: &mut O) -> io::Result<()> {
     let Tally { count, first, last } = tally;
-    let Some(kind) = KINDS.get((key / KEYS) as usize) else {
-        return Ok(());
-    };
-    let pid = key % KEYS;
-    if pid == u32::from(NO_PID) {
-        write!(out, "told {kind} -")?;
-    } else {
-        write!(out, "told {kind} 0x{pid:04X}")?;
+    match split(key) {
+        Some((kind, Some(pid))) => write!(out, "told {kind} 0x{pid:04X}")?,
+        Some((kind, None)) => write!(out, "told {kind} -")?,
+        None => return Ok(()),
     }
     writeln!(out, " count {count} first {first} last {last}")
 }
 
-/// Prints the line of a PID that has so many packets of so many slots, where it has some.
-fn print_packets<O: Write>(
-    pid: usize,
-    packets: u64,
-    rate: u64,
-    slots: u64,
-    out: &mut O,
-) -> io::Result<()> {
+/// The rate of so many packets of a stream of so many slots, whose packets have this rate, in bits a second; none where there are none.
+fn rate_of(packets: u64, rate: u64, slots: u64) -> Option<u64> {
     if packets == 0 || packets > slots {
-        return Ok(());
+        return None;
     }
-    let rate = share(rate, packets, slots);
-    writeln!(out, "pid 0x{pid:04X} packets {packets} rate {rate}")
+    Some(share(rate, packets, slots))
 }

@@ -9,4 +9,6 @@ pub struct Shown {
     pub places: bool,
     /// Whether faults and packets are counted by PID.
     pub summary: bool,
+    /// Whether all of this, and the last line, is one JSON document.
+    pub json: bool,
 }

@@ -1,7 +1,11 @@
 //! The command that says what is in streams.
 
+use crate::file_document::FileDocument;
+use crate::probe_answer::ProbeAnswer;
+use crate::probe_document::ProbeDocument;
 use crate::survey_file::survey_file;
 use crate::survey_lines::print_survey;
+use documents::print_document;
 use draft::{Draft, Surveyed, make_draft};
 use files::{CommandFault, Sources, StreamShape};
 use probe::Survey;
@@ -49,34 +53,41 @@ fn print_draft<O: Write, E: Write>(
     Ok(0)
 }
 
-/// Says what is in the files with these names, each by its first 67,108,864 bytes, or prints a plan of them if `is_plan`, and on `err`
-/// what is left out of it and why, which file is of variable rate, and which has no packet and what it looks like. The answer is the status: 1 where a file has no
-/// packet, or no plan can be made. The first file that fails ends it.
+/// Says what is in the files with these names, each by its first 67,108,864 bytes, in lines or as JSON, or prints a plan of them. With a
+/// plan, `err` has what is left out of it and why, and which file is of variable rate; and always which file has no packet, and what it
+/// looks like. The answer is the status: 1 where a file has no packet, or no plan can be made. The first file that fails ends it.
 pub fn probe_files<F: Sources, O: Write, E: Write>(
     alloc: Global,
     files: &mut F,
     names: &[&str],
-    is_plan: bool,
+    answer: ProbeAnswer,
     out: &mut O,
     err: &mut E,
 ) -> Result<u8, CommandFault> {
     let mut surveys = Vec::new(alloc);
+    let mut documents = Vec::new(alloc);
     let mut status = 0;
     for (number, name) in names.iter().enumerate() {
         let (survey, shape) = survey_file(alloc, files, name)?;
         if !print_shape(name, &survey, shape, err) {
             status = LACKING;
         }
-        if is_plan {
-            tell_variable(number, &survey, err);
-            let file: &str = name;
-            surveys.push(Surveyed { file, survey })?;
-        } else {
-            print_survey(number, name, shape, &survey, out)?;
+        match answer {
+            ProbeAnswer::Lines => print_survey(number, name, shape, &survey, out)?,
+            ProbeAnswer::Document => {
+                documents.push(FileDocument::of(alloc, name, shape, &survey)?)?;
+            }
+            ProbeAnswer::Plan => {
+                tell_variable(number, &survey, err);
+                let file: &str = name;
+                surveys.push(Surveyed { file, survey })?;
+            }
         }
     }
-    if is_plan {
-        status = status.max(print_draft(alloc, surveys, out, err)?);
+    match answer {
+        ProbeAnswer::Lines => {}
+        ProbeAnswer::Document => print_document(alloc, &ProbeDocument::of(documents), out)?,
+        ProbeAnswer::Plan => status = status.max(print_draft(alloc, surveys, out, err)?),
     }
     Ok(status)
 }

@@ -26,7 +26,7 @@ fn answer(is_so: bool) -> &'static str {
 }
 
 /// The length of a stream's packets, if five stand in step.
-fn packet_length(shape: StreamShape) -> Option<usize> {
+pub(crate) fn packet_length(shape: StreamShape) -> Option<usize> {
     match shape {
         StreamShape::Packets(length) => Some(length),
         _ => None,
@@ -79,13 +79,14 @@ fn print_pmt<O: Write>(
     write!(out, " pcr 0x{pcr_pid:04X} scrambled {scrambled}")
 }
 
+/// What the SDT says of a program, by its row.
+pub(crate) fn described(row: Option<&SdtRow>) -> Option<ServiceDescriptor<'_>> {
+    ServiceDescriptor::first_in(&row?.descriptors)
+}
+
 /// Prints what the SDT says of a program.
 fn print_description<O: Write>(row: Option<&SdtRow>, out: &mut O) -> io::Result<()> {
-    let described = match row {
-        Some(row) => ServiceDescriptor::first_in(&row.descriptors),
-        None => None,
-    };
-    let Some(described) = described else {
+    let Some(described) = described(row) else {
         return writeln!(out, " type - name -");
     };
     let service_type = described.service_type;
@@ -102,7 +103,7 @@ fn code_text(code: &[u8]) -> Option<&str> {
 }
 
 /// The language of a stream as text.
-fn language(row: &PmtRow) -> Option<&str> {
+pub(crate) fn language(row: &PmtRow) -> Option<&str> {
     code_text(language_of(&row.descriptors)?)
 }
 
@@ -166,6 +167,17 @@ fn print_trouble<O: Write>(
     writeln!(out, "")
 }
 
+/// What may be wrong on a PID, each by its word.
+pub(crate) fn troubles_of(survey: &PidSurvey) -> [(&'static str, Occurrences); 5] {
+    [
+        ("error", survey.errors),
+        ("crc", survey.wrong_sections),
+        ("late", survey.late_pcrs),
+        ("jump", survey.pcr_jumps),
+        ("scrambled", survey.scrambled),
+    ]
+}
+
 /// Prints the line of a PID, and those of what is wrong there.
 fn print_pid<O: Write>(survey: &PidSurvey, rate: Option<u64>, out: &mut O) -> io::Result<()> {
     let (pid, packets) = (survey.pid, survey.packets);
@@ -176,11 +188,10 @@ fn print_pid<O: Write>(survey: &PidSurvey, rate: Option<u64>, out: &mut O) -> io
     write!(out, " pcrs {pcrs}")?;
     print_known("jitter", survey.jitter, out)?;
     writeln!(out, "")?;
-    print_trouble(pid, "error", survey.errors, rate, out)?;
-    print_trouble(pid, "crc", survey.wrong_sections, rate, out)?;
-    print_trouble(pid, "late", survey.late_pcrs, rate, out)?;
-    print_trouble(pid, "jump", survey.pcr_jumps, rate, out)?;
-    print_trouble(pid, "scrambled", survey.scrambled, rate, out)
+    for (word, trouble) in troubles_of(survey) {
+        print_trouble(pid, word, trouble, rate, out)?;
+    }
+    Ok(())
 }
 
 /// Prints the lines of the file with this number and name, which looks like this: one for the file, one for its tables, those of its

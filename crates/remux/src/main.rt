@@ -8,7 +8,7 @@ use commands::command;
 use files::{CommandFault, SystemFiles};
 use live::WatchedFiles;
 use std::fs::OpenOptions;
-use std::io::{BufWriter, ErrorKind, Write};
+use std::io::{BufWriter, ErrorKind, IsTerminal, Write};
 use std::os::fd::{AsRawFd, IntoRawFd};
 use std::process::ExitCode;
 use std::rt::Env;
@@ -66,6 +66,7 @@ fn main(rt: HostRuntime) -> ExitCode {
         return ExitCode::from(no_memory(&mut err));
     };
     let alloc = rt.alloc();
+    let is_terminal = err.is_terminal();
     let mut files = WatchedFiles::new(alloc, SystemFiles::new(alloc, &rt, rt.stdout()));
     let (status, _) = command(
         rt,
@@ -75,6 +76,7 @@ fn main(rt: HostRuntime) -> ExitCode {
         &mut out,
         &mut err,
         rt.stderr(),
+        is_terminal,
     );
     ExitCode::from(status)
 }

@@ -1,6 +1,7 @@
 //! What the program is asked to do.
 
 use crate::analysis::Analysis;
+use crate::progress::Progress;
 use crate::run_length::RunLength;
 
 /// What the program is asked to do, in the words of its command line.
@@ -24,6 +25,12 @@ pub enum Command<'a> {
         strict: bool,
         /// After how many seconds each time it is said how far the run is, 1 to 3,600, if it is.
         report: Option<u64>,
+        /// Where it shows how far it is.
+        progress: Progress,
+        /// The name of the file that a picture of it is written to, if one is.
+        graph: Option<&'a str>,
+        /// Whether what became of it is printed as JSON.
+        json: bool,
     },
     /// Make the plan, and show it.
     Check {
@@ -33,6 +40,8 @@ pub enum Command<'a> {
         later: Vec<(u64, &'a str)>,
         /// Whether a plan that an input's rates don't fit ends it with status 1.
         strict: bool,
+        /// Whether it is shown as JSON.
+        json: bool,
     },
     /// Tell the faults of a stream.
     Analyse(Analysis<'a>),
@@ -42,6 +51,8 @@ pub enum Command<'a> {
         files: Vec<&'a str>,
         /// Whether a plan of them is made, and nothing else is said.
         plan: bool,
+        /// Whether what is in them is printed as JSON.
+        json: bool,
     },
 }
 

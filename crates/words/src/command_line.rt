@@ -3,14 +3,16 @@
 ghost use Rattle.std.specs.Prelude.{◌≡◌, length, map, IfOk, IfSome};
 ghost use Rattle.std.specs.List.{All};
 ghost use Rattle.tspkt.specs.PacketSize.{stride_of};
-ghost use Rattle.words.specs.Ranges.{IsWithin, IsAllowedLength, IsAllowedSwitch, IsAllowed};
+ghost use Rattle.words.specs.Ranges.{IsWithin, IsAllowedLength, IsAllowedSwitch, IsAllowedLeak, IsAllowed};
 
 use crate::analysis::Analysis;
 use crate::command::{
     Command, LEAST_RATE, LineFault, MOST_FILES, MOST_LINES, MOST_RATE, MOST_SECONDS, MOST_SLOTS,
     MOST_SWITCH_SLOT,
 };
+use crate::leak::leaks_in;
 use crate::options::program;
+use crate::progress::Progress;
 use crate::run_length::RunLength;
 use clap::error::ErrorKind;
 use clap::{ArgMatches, Error};
@@ -45,6 +47,17 @@ fn report_of(matches: &ArgMatches) -> Option<u64>
     ensures { IfSome result (IsWithin 1 3600) }
 {
     within(matches.get_one::<u64>("report")?, 1, MOST_SECONDS)
+}
+
+/// Where a run is to show how far it is.
+fn progress_of(matches: &ArgMatches) -> Progress {
+    if matches.get_flag("quiet") {
+        Progress::Never
+    } else if matches.get_flag("progress") {
+        Progress::Always
+    } else {
+        Progress::OnTerminal
+    }
 }
 
 /// At most how many faults of an analysis are to have a line, if not all are; none where it is out of its range.
@@ -127,24 +140,39 @@ fn files_of<'a>(alloc: Global, matches: &ArgMatches<'a>) -> Result<Vec<&'a str>,
 }
 
 /// The command that probes these files; none where they are too few or too many, which the parser excludes.
-fn probe_of<'a>(files: Vec<&'a str>, plan: bool) -> Option<Command<'a>>
+fn probe_of<'a>(files: Vec<&'a str>, plan: bool, json: bool) -> Option<Command<'a>>
     ensures { IfSome result IsAllowed }
 {
     if files.is_empty() || files.len() > MOST_FILES {
         return None;
     }
-    Some(Command::Probe { files, plan })
+    Some(Command::Probe { files, plan, json })
 }
 
-/// The command that was read, with these later plans and these files to probe; none where a value is missing or out of its range, which
+/// The leak rates that an analysis is told; none of another command.
+fn leaks_of(
+    alloc: Global,
+    matches: &ArgMatches,
+) -> Result<Result<Vec<(u16, u64)>, &'static str>, AllocError>
+    ensures { IfOk result (λ read. IfOk read (λ leaks. All IsAllowedLeak leaks.items)) }
+{
+    match matches.get_strs("leak") {
+        Some(words) => leaks_in(alloc, words),
+        None => Ok(Ok(Vec::new(alloc))),
+    }
+}
+
+/// The command that was read, with these later plans, these files to probe and these leak rates; none where a value is missing or out of its range, which
 /// the parser excludes.
 fn command_of<'a>(
     name: &str,
     matches: &ArgMatches<'a>,
     later: Vec<(u64, &'a str)>,
     files: Vec<&'a str>,
+    leaks: Vec<(u16, u64)>,
 ) -> Option<Command<'a>>
-    requires { All IsAllowedSwitch later.items }
+    requires switches { All IsAllowedSwitch later.items }
+    requires leaks { All IsAllowedLeak leaks.items }
     ensures { IfSome result IsAllowed }
 {
     match name {
@@ -157,22 +185,30 @@ fn command_of<'a>(
             delays: matches.get_flag("delays"),
             strict: matches.get_flag("strict"),
             report: report_of(matches),
+            progress: progress_of(matches),
+            graph: matches.get_str("graph"),
+            json: matches.get_flag("json"),
         }),
         "check" => Some(Command::Check {
             plan: matches.get_str("plan")?,
             later,
             strict: matches.get_flag("strict"),
+            json: matches.get_flag("json"),
         }),
         "analyse" => Some(Command::Analyse(Analysis {
             size: size_of(matches.get_one::<u64>("size")?)?,
             rate: within(matches.get_one::<u64>("rate")?, LEAST_RATE, MOST_RATE)?,
+            sync: matches.get_flag("sync"),
             period: within(matches.get_one::<u64>("period")?, 1, MOST_SLOTS)?,
             limit: limit_of(matches)?,
             places: matches.get_flag("places"),
             summary: matches.get_flag("summary"),
+            levels: matches.get_str("levels"),
+            leaks,
+            json: matches.get_flag("json"),
             file: matches.get_str("file")?,
         })),
-        "probe" => probe_of(files, matches.get_flag("plan")),
+        "probe" => probe_of(files, matches.get_flag("plan"), matches.get_flag("json")),
         _ => None,
     }
 }
@@ -192,8 +228,12 @@ fn parse<'a, S: AsStr>(
         Ok(later) => later,
         Err(text) => return Ok(Err(text)),
     };
+    let leaks = match leaks_of(alloc, inner)? {
+        Ok(leaks) => leaks,
+        Err(text) => return Ok(Err(text)),
+    };
     let files = files_of(alloc, inner)?;
-    match command_of(name, inner, later, files) {
+    match command_of(name, inner, later, files, leaks) {
         Some(command) => Ok(Ok(command)),
         None => Ok(Err(NO_COMMAND)),
     }

@@ -6,10 +6,13 @@
 mod analysis;
 mod command;
 mod command_line;
+mod leak;
 mod options;
+mod progress;
 mod run_length;
 
 pub use analysis::Analysis;
 pub use command::{Command, LineFault};
 pub use command_line::line;
+pub use progress::Progress;
 pub use run_length::{RunLength, most_slots};

@@ -18,14 +18,14 @@ const EXAMPLE: &str = "Example, from the top of the repository:
 Status: 0 success, 1 analyse reported a fault or found no packets, --strict what is wrong with a plan or an input, or probe found no packets or made no plan, 2 refused words, 3 refused plan, 4 a file that failed, 5 out of memory.";
 
 const RUN_USAGE: &str =
-    "remux run --plan <F> [--then <F> --at <N>].. --out <F> [--slots <N> | --all] [--serial] [--delays] [--strict] [--report <N>]";
+    "remux run --plan <F> [--then <F> --at <N>].. --out <F> [--slots <N> | --all] [--serial] [--delays] [--strict] [--report <N> | --progress | --quiet] [--graph <F>] [--json]";
 
 const RUN_EXAMPLE: &str =
     "It prints a line for each input and one for the output, on standard error where the multiplex goes to standard output.
 The output is written as its name with .part, and gets its name when the run has ended well.
 
-Each input is read in a thread of its own. With --serial one thread reads them all in turn: it writes the same output, and \
-reads of each input no more than its slots ask for, where a run in threads reads ahead.
+Each input is read in a thread of its own. With --serial, and on one core over files, one thread reads them all in turn: it writes the \
+same output, and reads of each input no more than its slots ask for, where a run in threads reads ahead.
 
 With --all the run goes on until its inputs end, whatever its length; it takes no more memory than a short one.
 
@@ -44,44 +44,57 @@ plan behind it. Both plans have the same rate, period and inputs, and the second
 With --report 10 it prints every 10 seconds how far the run is, on standard error; and at once where an input ends while others go on, \
 or makes all wait for more than a second.
 
+Where standard error is a terminal a line there shows how far the run is, and how long it still takes; it goes away at the end. \
+With --quiet, and with --report, there is none; with --progress it is printed each second where standard error is no terminal, too.
+
+With --graph run.svg it draws the run when it has ended: what of the multiplex each service has over time, how full the \
+transport buffers are, and the longest delay of each stream.
+
+With --json the lines of its inputs, its output and its streams are one JSON document, in the place of the lines.
+
 Example:
   ./remux run --plan examples/plan.toml --out out.ts --slots 50000";
 
-const CHECK_USAGE: &str = "remux check --plan <F> [--then <F> --at <N>].. [--strict]";
+const CHECK_USAGE: &str = "remux check --plan <F> [--then <F> --at <N>].. [--strict] [--json]";
 
 const CHECK_EXAMPLE: &str =
     "It reads the plan and the tables of its inputs, and prints the rhythm of the tables, \
 the services and the streams. On standard error it prints how often the tables come, \
 which 'period' the plan may have, how long 1000000 slots take, \
 and what the inputs' rates are where they aren't as the plan states. With --strict the status is 1 where such a rate is wrong, \
-a 'leak' is too low, or the services take more than there is.
+a 'leak' is too low, or the services take more than there is. With --json standard output has one JSON document.
 
 Example:
   ./remux check --plan examples/plan.toml";
 
 const ANALYSE_USAGE: &str =
-    "remux analyse --rate <N> --period <N> [--size <N>] [--limit <N>] [--places] [--summary] <F>";
+    "remux analyse --rate <N> --period <N> [--size <N>] [--sync] [--limit <N>] [--places] [--summary] [--levels <F>] [--leak <PID=N>].. [--json] <F>";
 
 const ANALYSE_EXAMPLE: &str =
     "It prints a line for each fault of the first priority of ETSI TR 101 290, and one for the \
 stream. The status is 1 where there is a fault or no packet.
 
 With --size 204 sixteen bytes follow each packet, as demodulators hand them out: they are skipped, \
-and --rate counts them. Else packets follow one another every 188 bytes.
+and --rate counts them. Else packets follow one another every 188 bytes. With --sync they are sought behind each place where sync was lost, \
+as a run seeks those of its inputs; without it all that stands behind such a place is read at the old steps, and is mostly faults.
 
 With --limit 10 only the first ten faults have a line; all are counted. With --places such a line ends with the byte of the file at which \
 the fault's packet begins, from 0, and with the time at which that byte comes at --rate, in milliseconds. With --summary the last line comes \
-behind the number of faults of each kind, and on each PID, and behind the packets and the rate of each PID.
+behind the number of faults of each kind, and on each PID, and behind the packets and the rate of each PID. \
+With --json all of this is one JSON document, with each fault on a line.
+
+With --levels plan.toml, and with --leak 0x0200=2000000, it also prints the highest level of the transport buffers of these PIDs \
+(ISO/IEC 13818-1, 2.4.2), which hold 512 bytes.
 
 Example:
   ./remux analyse --rate 3000000 --period 5000 out.ts";
 
-const PROBE_USAGE: &str = "remux probe <F>.. [--plan]";
+const PROBE_USAGE: &str = "remux probe <F>.. [--plan | --json]";
 
 const PROBE_EXAMPLE: &str =
     "It reads the first 67108864 bytes of each file, of packets of 188 or 204 bytes, and prints what it is: its size and rate, \
 its tables, its programs with their streams, and for each PID its rate, its PCRs, and what is wrong there. \
-The status is 1 where a file has no packets.
+With --json it prints all this as one JSON document. The status is 1 where a file has no packets.
 
 With --plan it prints a plan of all services instead, which runs as it is, and on standard error which are left out and why. \
 The status is 1 where no plan can be made.
@@ -163,10 +176,37 @@ fn strict<'a>(alloc: Global) -> Arg<'a> {
     flag(alloc, "strict", help)
 }
 
+/// The option `--json`.
+fn json<'a>(alloc: Global) -> Arg<'a> {
+    flag(alloc, "json", "Print JSON in place of lines")
+}
+
 /// The option `--report N`.
 fn report<'a>(alloc: Global) -> Arg<'a> {
     let help = "Print on standard error every N seconds how far the run is, 1 to 3600";
     number(alloc, "report", help, 1, MOST_SECONDS)
+}
+
+/// The option `--progress`, which goes with no `--report`.
+fn progress<'a>(alloc: Global) -> Result<Arg<'a>, AllocError> {
+    let help = "Show how far the run is also where standard error is no terminal";
+    flag(alloc, "progress", help).conflicts_with("report")
+}
+
+/// The option `--quiet`, which goes with neither.
+fn quiet<'a>(alloc: Global) -> Result<Arg<'a>, AllocError> {
+    flag(alloc, "quiet", "Don't show how far the run is")
+        .conflicts_with("report")?
+        .conflicts_with("progress")
+}
+
+/// The option `--graph F`.
+fn graph<'a>(alloc: Global) -> Arg<'a> {
+    Arg::new(alloc, "graph")
+        .long("graph")
+        .value_name("F")
+        .help("Draw the run as an SVG in F")
+        .action(ArgAction::Set)
 }
 
 /// The option `--rate N`.
@@ -185,6 +225,26 @@ fn period<'a>(alloc: Global) -> Arg<'a> {
 fn limit<'a>(alloc: Global) -> Arg<'a> {
     let help = "Print at most N faults, 0 to 1000000";
     number(alloc, "limit", help, 0, MOST_LINES)
+}
+
+/// The option `--levels F`.
+fn levels<'a>(alloc: Global) -> Arg<'a> {
+    Arg::new(alloc, "levels")
+        .long("levels")
+        .value_name("F")
+        .help("Print the highest level of the transport buffer of each stream of the plan in F")
+        .action(ArgAction::Set)
+}
+
+/// The option `--leak PID=N`, which may be given several times.
+fn leak<'a>(alloc: Global) -> Arg<'a> {
+    Arg::new(alloc, "leak")
+        .long("leak")
+        .value_name("PID=N")
+        .help(
+            "Print the highest level of this PID's transport buffer, which leaks at N bits a second",
+        )
+        .action(ArgAction::Append)
 }
 
 /// The option `--size N`, which may be left out.
@@ -227,7 +287,11 @@ fn run_command<'a>(alloc: Global) -> Result<Command<'a>, AllocError> {
             "Print on standard error how long streams waited",
         ))?
         .arg(strict(alloc))?
-        .arg(report(alloc))
+        .arg(report(alloc))?
+        .arg(progress(alloc)?)?
+        .arg(quiet(alloc)?)?
+        .arg(graph(alloc))?
+        .arg(json(alloc))
 }
 
 fn check_command<'a>(alloc: Global) -> Result<Command<'a>, AllocError> {
@@ -236,7 +300,8 @@ fn check_command<'a>(alloc: Global) -> Result<Command<'a>, AllocError> {
         .arg(plan(alloc))?
         .arg(then(alloc))?
         .arg(at(alloc))?
-        .arg(strict(alloc))
+        .arg(strict(alloc))?
+        .arg(json(alloc))
 }
 
 fn analyse_command<'a>(alloc: Global) -> Result<Command<'a>, AllocError> {
@@ -246,6 +311,7 @@ fn analyse_command<'a>(alloc: Global) -> Result<Command<'a>, AllocError> {
         .arg(rate(alloc))?
         .arg(period(alloc))?
         .arg(size(alloc))?
+        .arg(flag(alloc, "sync", "Seek packets where sync was lost"))?
         .arg(limit(alloc))?
         .arg(flag(
             alloc,
@@ -257,6 +323,9 @@ fn analyse_command<'a>(alloc: Global) -> Result<Command<'a>, AllocError> {
             "summary",
             "Print counts of faults and packets by PID",
         ))?
+        .arg(levels(alloc))?
+        .arg(leak(alloc))?
+        .arg(json(alloc))?
         .arg(file(alloc, "file", stream))
 }
 
@@ -270,7 +339,8 @@ fn probe_command<'a>(alloc: Global) -> Result<Command<'a>, AllocError> {
             alloc,
             "plan",
             "Print a plan of all services that can be taken",
-        ))
+        ))?
+        .arg(json(alloc).conflicts_with("plan")?)
 }
 
 /// The program, with its commands.

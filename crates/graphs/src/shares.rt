@@ -1,0 +1,87 @@
+//! What of a multiplex each service has over time, drawn as areas one above the other.
+
+use crate::canvas::{LEFT, PLOT, SHARES, SHARES_HEIGHT, colour, x_of};
+use crate::record::Record;
+use std::io;
+use std::io::Write;
+
+/// How many packets the kinds below this one have in a piece.
+fn below(record: &Record, piece: usize, kind: usize) -> u64 {
+    let mut packets = 0u64;
+    for lower in 0..kind {
+        packets = packets.saturating_add(record.packets_of(piece, lower));
+    }
+    packets
+}
+
+/// How far from above so many packets of a piece stand.
+fn y_of(record: &Record, piece: usize, packets: u64) -> u64 {
+    let slots = record.slots_in(piece);
+    let part = packets.min(slots).saturating_mul(SHARES_HEIGHT);
+    let height = part.checked_div(slots).unwrap_or(0);
+    (SHARES + SHARES_HEIGHT).saturating_sub(height)
+}
+
+/// Draws the area of a kind: its upper edge from the left to the right, and its lower one back.
+fn print_area<W: Write>(record: &Record, kind: usize, out: &mut W) -> io::Result<()> {
+    let pieces = record.pieces();
+    let colour = colour(record.kinds().service(kind), kind);
+    write!(out, "<polygon fill=\"{colour}\" points=\"")?;
+    for piece in 0..pieces {
+        let y = y_of(record, piece, below(record, piece, kind.saturating_add(1)));
+        let (left, right) = (x_of(piece, pieces), x_of(piece.saturating_add(1), pieces));
+        write!(out, "{left},{y} {right},{y} ")?;
+    }
+    for piece in (0..pieces).rev() {
+        let y = y_of(record, piece, below(record, piece, kind));
+        let (left, right) = (x_of(piece, pieces), x_of(piece.saturating_add(1), pieces));
+        write!(out, "{right},{y} {left},{y} ")?;
+    }
+    writeln!(out, "\"/>")
+}
+
+/// How many packets a kind has in all.
+fn packets_of(record: &Record, kind: usize) -> u64 {
+    let mut packets = 0u64;
+    for piece in 0..record.pieces() {
+        packets = packets.saturating_add(record.packets_of(piece, kind));
+    }
+    packets
+}
+
+/// Writes which colour a kind has, and its mean rate, in thousands of bits a second.
+fn print_key<W: Write>(record: &Record, kind: usize, out: &mut W) -> io::Result<()> {
+    let service = record.kinds().service(kind);
+    let colour = colour(service, kind);
+    let (x, y) = (
+        LEFT + PLOT + 14,
+        (kind as u64).saturating_mul(15).saturating_add(SHARES),
+    );
+    let part = u128::from(packets_of(record, kind)) * u128::from(record.rate());
+    let rate = part.checked_div(u128::from(record.slots())).unwrap_or(0) / 1_000;
+    let text = y.saturating_add(9);
+    write!(
+        out,
+        "<rect x=\"{x}\" y=\"{y}\" width=\"10\" height=\"10\" fill=\"{colour}\"/>"
+    )?;
+    let x = x.saturating_add(15);
+    match service {
+        Some(number) => writeln!(
+            out,
+            "<text x=\"{x}\" y=\"{text}\">{number}: {rate} kbit/s</text>"
+        ),
+        None => writeln!(
+            out,
+            "<text x=\"{x}\" y=\"{text}\">tables: {rate} kbit/s</text>"
+        ),
+    }
+}
+
+/// Draws the shares of the services and of the tables, and their key.
+pub(crate) fn print_shares<W: Write>(record: &Record, out: &mut W) -> io::Result<()> {
+    for kind in 0..record.kinds().count() {
+        print_area(record, kind, out)?;
+        print_key(record, kind, out)?;
+    }
+    Ok(())
+}

@@ -1,0 +1,69 @@
+"""The picture of a run.
+
+The run over the small files has nine slots: three of tables, five of the stream, which wait a millisecond at most, and one of null. At
+1,504,000 bits a second five ninths are 835,555.6 and three ninths 501,333.3. A slot is 720 / 9 = 80 points wide. At a leak of 2,000,000 bits a
+second one byte is in the buffer behind a packet: 160 / 640 of a point."""
+import os
+import tempfile
+import xml.etree.ElementTree as xml
+
+from does import ENDED, LINES, RUN, CommandCase, does_once
+from small import PLAN, TABLES, packets
+
+GRAPH = [*RUN, "--graph", "g.svg"]
+
+SVG = "{http://www.w3.org/2000/svg}"
+
+
+class Graphs(CommandCase):
+    def drawn(self, words=GRAPH, files=None):
+        """The picture of a run that ends well."""
+        done = self.does(words, files)
+        self.assertEqual(done.status, 0, done.err)
+        return xml.fromstring(done.files["g.svg"])
+
+    def texts(self, picture):
+        return [text.text for text in picture.iter(f"{SVG}text")]
+
+    def test_a_run_is_drawn(self):
+        done = self.does(GRAPH)
+        self.ends(done, 0, LINES, ENDED)
+        self.assertEqual(sorted(done.files), ["g.svg", "out.ts", "x.toml", "x.ts"])
+        picture = xml.fromstring(done.files["g.svg"])
+        texts = self.texts(picture)
+        for text in "500: 835 kbit/s", "tables: 501 kbit/s", "1504 kbit/s", "0x0200", "1.0 ms", "0 ms", "9 ms":
+            self.assertIn(text, texts)
+        service, tables = picture.iter(f"{SVG}polygon")
+        self.assertEqual(len(service.get("points").split()), 4 * 9)
+        self.assertTrue(service.get("points").startswith("80,300 160,300 "), "slot 0 is of a table")
+        self.assertTrue(tables.get("points").startswith("80,60 160,60 "))
+        level, = picture.iter(f"{SVG}polyline")
+        self.assertEqual(len(level.get("points").split()), 2 * 9)
+
+    def test_a_long_run_has_as_many_pieces(self):
+        """Of 20,000 packets in some 20,600 slots 64 stand in a piece, so that there are fewer than 480 and more than 240."""
+        files = {"x.toml": PLAN, "x.ts": TABLES + packets(range(20_000))}
+        level, = self.drawn(files=files).iter(f"{SVG}polyline")
+        pieces = len(level.get("points").split()) // 2
+        self.assertTrue(240 < pieces <= 480, pieces)
+
+    def test_the_output_is_the_same(self):
+        self.assertEqual(self.does(GRAPH).written, self.does(RUN).written)
+
+    def test_a_name_that_is_read_is_refused(self):
+        for name in "x.ts", "./x.ts", "x.toml", "out.ts":
+            done = self.does([*RUN, "--graph", name])
+            self.assertEqual((done.status, done.out, sorted(done.files)), (4, "", ["x.toml", "x.ts"]), name)
+
+    def test_a_picture_that_cannot_be_made_leaves_the_multiplex(self):
+        done = self.does([*RUN, "--graph", "there/is/none/g.svg"])
+        self.assertEqual((done.status, done.out, sorted(done.files)), (4, LINES, ["out.ts", "x.toml", "x.ts"]))
+        self.assertIn("fault file there/is/none/g.svg\n", done.err)
+
+    def test_another_name_of_the_output_is_refused(self):
+        """It is found when the output has its name."""
+        with tempfile.TemporaryDirectory() as folder:
+            name = os.path.join(folder, "out.ts")
+            done = does_once(["run", "--plan", "x.toml", "--out", name, "--graph", os.path.join(folder, ".", "out.ts")])
+            self.assertEqual(done.status, 4)
+            self.assertEqual(os.path.getsize(name), 1692)
