@@ -38,7 +38,7 @@ class Graphs(CommandCase):
         self.assertTrue(service.get("points").startswith("80,300 160,300 "), "slot 0 is of a table")
         self.assertTrue(tables.get("points").startswith("80,60 160,60 "))
         level, = picture.iter(f"{SVG}polyline")
-        self.assertEqual(len(level.get("points").split()), 2 * 9)
+        self.assertEqual(len(level.get("points").split()), 2 * 5, "five slots have packets of the service")
 
     def test_a_long_run_has_as_many_pieces(self):
         """Of 20,000 packets in some 20,600 slots 64 stand in a piece, so that there are fewer than 480 and more than 240."""

@@ -359,7 +359,8 @@ fn start_reporter<
         (None, Shows::Nothing) => Ok(None),
         (None, shows) => {
             let is_terminal = shows == Shows::OnTerminal;
-            Ok(Some(Reporter::show(rt, alloc, board, goal, is_terminal, voice)?))
+            // A run that can't show how far it is goes on.
+            Ok(Reporter::show(rt, alloc, board, goal, is_terminal, voice).ok())
         }
     }
 }

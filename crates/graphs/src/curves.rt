@@ -16,15 +16,17 @@ pub(crate) fn y_of(bytes: u64) -> u64 {
     (LEVELS + LEVELS_HEIGHT).saturating_sub(height)
 }
 
-/// Draws the highest level of a service's transport buffers over time.
+/// Draws the highest level of a service's transport buffers behind its packets, from one piece that has some to the next.
 fn print_curve<W: Write>(record: &Record, kind: usize, out: &mut W) -> io::Result<()> {
     let pieces = record.pieces();
     let colour = colour(record.kinds().service(kind), kind);
     write!(out, "<polyline fill=\"none\" stroke=\"{colour}\" points=\"")?;
     for piece in 0..pieces {
-        let y = y_of(record.highest_of(piece, kind));
-        let (left, right) = (x_of(piece, pieces), x_of(piece.saturating_add(1), pieces));
-        write!(out, "{left},{y} {right},{y} ")?;
+        if record.packets_of(piece, kind) > 0 {
+            let y = y_of(record.highest_of(piece, kind));
+            let (left, right) = (x_of(piece, pieces), x_of(piece.saturating_add(1), pieces));
+            write!(out, "{left},{y} {right},{y} ")?;
+        }
     }
     writeln!(out, "\"/>")
 }

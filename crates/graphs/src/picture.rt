@@ -64,10 +64,10 @@ fn print_times<W: Write>(record: &Record, y: u64, out: &mut W) -> io::Result<()>
         let x = quarter.saturating_mul(PLOT / 4).saturating_add(LEFT);
         let time = all.saturating_mul(u128::from(quarter)) / 4;
         if all > 10_000 {
-            let seconds = time / 1_000;
+            let (seconds, tenth) = (time / 1_000, time / 100 % 10);
             writeln!(
                 out,
-                "<text x=\"{x}\" y=\"{y}\" text-anchor=\"middle\">{seconds} s</text>"
+                "<text x=\"{x}\" y=\"{y}\" text-anchor=\"middle\">{seconds}.{tenth} s</text>"
             )?;
         } else {
             writeln!(

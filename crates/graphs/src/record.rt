@@ -128,7 +128,7 @@ impl Record {
         (whole.checked_div(self.width).unwrap_or(0) as usize).min(PIECES)
     }
 
-    /// How many slots a piece has.
+    /// How many slots a piece has, of which the last one may have fewer than the others.
     pub(crate) fn slots_in(&self, piece: usize) -> u64 {
         let before = (piece as u64).saturating_mul(self.width);
         self.slots.saturating_sub(before).min(self.width)
