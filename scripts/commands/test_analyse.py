@@ -116,6 +116,15 @@ class Levels(CommandCase):
         done = self.does(with_words("--levels", "x.toml", "--leak", "0x0200=1000000"), {"x.toml": PLAN, "x.ts": stream})
         self.ends(done, 0, told, "")
 
+    def test_the_packets_of_a_stream_of_204_bytes_have_their_share_of_its_rate(self):
+        """Of 510,000 bits a second 470,000. At a leak of 235,000 the level is 188 * 470,000 - 187 * 235,000 = 44,415,000 behind a packet: 94.5
+        bytes."""
+        stream = TABLES + packets(range(1))
+        longer = b"".join(stream[at : at + 188] + bytes(16) for at in range(0, len(stream), 188))
+        words = ["analyse", "--rate", "510000", "--size", "204", "--period", "1000", "--leak", "0x0101=235000", "x.ts"]
+        told = "level 0x0101 leak 235000 bytes 95 slot 3 over 0\nslots 4 faults 0 rest 0\n"
+        self.ends(self.does(words, {"x.ts": longer}), 0, told, "")
+
     def test_a_document_has_them(self):
         done = self.does(with_words("--leak", self.LEAK, "--json"), {"x.ts": EIGHT})
         level = {"pid": 0x0101, "leak": 1000000, "bytes": 316, "slot": 7, "over": 0}

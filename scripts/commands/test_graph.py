@@ -7,10 +7,12 @@ import os
 import tempfile
 import xml.etree.ElementTree as xml
 
-from does import ENDED, LINES, RUN, CommandCase, does_once
+from does import ENDED, FILES, LINES, RUN, CommandCase, does_once
 from small import PLAN, TABLES, packets
 
 GRAPH = [*RUN, "--graph", "g.svg"]
+
+TAKEN = "it is the plan's file, an input or the output; the picture has to be another file"
 
 SVG = "{http://www.w3.org/2000/svg}"
 
@@ -54,6 +56,19 @@ class Graphs(CommandCase):
         for name in "x.ts", "./x.ts", "x.toml", "out.ts":
             done = self.does([*RUN, "--graph", name])
             self.assertEqual((done.status, done.out, sorted(done.files)), (4, "", ["x.toml", "x.ts"]), name)
+            self.assertEqual(done.err, f"fault file {name}\n{name}: {TAKEN}\n")
+
+    def test_another_name_of_an_output_that_is_there_is_refused(self):
+        """Before the run: the old output stays."""
+        done = self.does([*RUN, "--graph", "./out.ts"], {**FILES, "out.ts": b"old"})
+        self.assertEqual((done.status, done.out, done.files["out.ts"]), (4, "", b"old"))
+        self.assertEqual(done.err, f"fault file ./out.ts\n./out.ts: {TAKEN}\n")
+
+    def test_a_picture_that_does_not_fit_is_told(self):
+        """A file that is longer than it may be can't be written: the multiplex has 1,692 bytes, the picture more."""
+        done = self.does(GRAPH, room=2_000)
+        self.assertEqual((done.status, done.out, sorted(done.files)), (4, LINES, ["g.svg.part", "out.ts", "x.toml", "x.ts"]))
+        self.assertTrue(done.err.endswith("g.svg.part: the picture so far\n"), done.err)
 
     def test_a_picture_that_cannot_be_made_leaves_the_multiplex(self):
         done = self.does([*RUN, "--graph", "there/is/none/g.svg"])

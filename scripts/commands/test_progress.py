@@ -20,6 +20,9 @@ PAUSE = 1.6
 
 RENEW = "\r\x1b[K"
 
+# What makes a terminal cut a line off at its edge, and break lines again.
+CUT, BREAK = "\x1b[?7l", "\x1b[?7h"
+
 # The run waits for packet 503, so the slots before it went out. Half a second is 0 whole ones, of a pipe that ends nobody
 # knows when. It took at least 0.4 seconds until the first line.
 LINE = re.compile(r"slots 50[0-3], inputs - %, 0 s, [0-9]\.[0-9]x")
@@ -77,7 +80,8 @@ class Progress(unittest.TestCase):
         self.assertEqual((shown[0], end), ("", ENDED))
         self.assertGreaterEqual(len(shown), 3)
         for line in shown[1:]:
-            self.assertRegex(line, LINE)
+            self.assertTrue(line.startswith(CUT) and line.endswith(BREAK), line)
+            self.assertRegex(line.removeprefix(CUT).removesuffix(BREAK), LINE)
 
     def test_a_terminal_shows_nothing_where_it_is_not_asked_to(self):
         self.assertEqual(on_terminal(["--quiet"]), (ENDED, 0))

@@ -50,8 +50,8 @@ const REFUSED: u8 = 2;
 /// all inputs are files.
 ///
 /// What is waited for before a run or a check, once that takes two seconds, and how far a run is that is asked for that, a thread says on
-/// `voice`, and nothing more behind it: so `voice` and `err` may be one file. Where that is a terminal, a run that isn't asked for else shows
-/// there how far it is.
+/// `voice`, and nothing more behind it: so `voice` and `err` may be one file. Where that is a terminal, a run shows there how far it
+/// is, unless it is asked for reports or for silence.
 pub fn command<
     T: Threads + Wait + Clock + Copy + Send + Drop + 'static,
     F: RunFiles,

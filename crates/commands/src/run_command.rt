@@ -91,7 +91,8 @@ struct Ran<R> {
     readers: Vec<R>,
 }
 
-/// Refuses a picture that would be written over a file that is read, or over the output.
+/// Refuses a picture that would be written over one of the files that are read, or over the output, as far as that is known: where neither
+/// is there yet, by their names.
 fn check_picture<F: Files>(
     alloc: Global,
     files: &mut F,
@@ -101,8 +102,10 @@ fn check_picture<F: Files>(
     let Some(name) = asked.graph else {
         return Ok(());
     };
-    if name == asked.out || is_among(files.output_identity(name), read) {
-        return Err(CommandFault::file(alloc, name, FileCause::IsRead));
+    let picture = files.output_identity(name);
+    let is_output = picture.is_some() && picture == files.output_identity(asked.out);
+    if name == asked.out || is_output || is_among(picture, read) {
+        return Err(CommandFault::file(alloc, name, FileCause::IsTaken));
     }
     Ok(())
 }
@@ -223,12 +226,15 @@ where
     let status = match ran {
         Ok((ran, named)) => {
             let told = tell_run(alloc, &ran, is_standard, asked, out, err);
-            let named = match named {
-                Ok(status) => draw(alloc, files, &mut writer, &ran, asked).and(Ok(status)),
-                Err(fault) => Err(fault),
+            let (named, partial) = match named {
+                Ok(status) => (
+                    draw(alloc, files, &mut writer, &ran, asked).and(Ok(status)),
+                    "picture",
+                ),
+                Err(fault) => (Err(fault), "output"),
             };
             let status = end(told.and(named), out, err);
-            tell_found(files, &ran, err);
+            tell_found(files, &ran, partial, err);
             strict_status(asked.strict, is_sound(&ran), status)
         }
         Err(fault) => {
@@ -237,7 +243,7 @@ where
             if has_left {
                 let _ = print_board(&board, err);
             }
-            tell_partial(files, err);
+            tell_partial(files, "output", err);
             status
         }
     };
@@ -274,12 +280,9 @@ where
     if print_picture(&record, &bars, &mut picture).is_err() {
         return Err(CommandFault::Memory);
     }
-    let multiplex = files.output_identity(asked.out);
-    let mut read = Vec::new(alloc);
-    if let Some(multiplex) = multiplex {
-        read.push(multiplex)?;
-    }
-    let (mut writer, _) = open_output(alloc, files, &mut NoNotices, name, &read)?;
+    // The output has its name now, so another name of it is found, too.
+    check_picture(alloc, files, asked, &[])?;
+    let (mut writer, _) = open_output(alloc, files, &mut NoNotices, name, &[])?;
     if write_all(&mut writer, &picture).is_err() {
         return Err(CommandFault::file(alloc, name, writer.cause()));
     }
@@ -302,10 +305,11 @@ fn is_sound<R, M: Meter>(ran: &Ran<Metered<R, M>>) -> bool {
         && !is_input_wrong(&ran.schedule, &ran.readers)
 }
 
-/// Says why a run ended, and what isn't as it should be.
+/// Says why a run ended, and what isn't as it should be. A file that didn't get its name is called as `partial` says.
 fn tell_found<F: Files, R: InputFile, M: Meter, E: Write>(
     files: &F,
     ran: &Ran<Metered<R, M>>,
+    partial: &str,
     err: &mut E,
 ) {
     let _ = print_end(ran.schedule.plan(0), &ran.summary, &ran.readers, err);
@@ -313,15 +317,15 @@ fn tell_found<F: Files, R: InputFile, M: Meter, E: Write>(
     let _ = print_early_ends(&ran.schedule, &ran.summary, err);
     let _ = print_faults(&ran.schedule, &ran.summary, err);
     let _ = print_overfull(&ran.schedule, &ran.summary, err);
-    tell_partial(files, err);
+    tell_partial(files, partial, err);
     let _ = print_wrong_rates(&ran.schedule, &ran.readers, err);
     let _ = print_same_files(&ran.readers, err);
 }
 
-/// Says where an output stands that didn't get its name, if there is one.
-fn tell_partial<F: Files, E: Write>(files: &F, err: &mut E) {
+/// Says where a file stands that didn't get its name, if there is one: the output, or the picture.
+fn tell_partial<F: Files, E: Write>(files: &F, which: &str, err: &mut E) {
     if let Some(partial) = files.partial() {
-        let _ = writeln!(err, "{partial}: the output so far");
+        let _ = writeln!(err, "{partial}: the {which} so far");
     }
 }
 

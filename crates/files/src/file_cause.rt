@@ -31,6 +31,9 @@ pub enum FileCause {
     /// It is an output, and the plan's file or an input's.
     #[error("it is the plan's file or an input; the output has to be another file")]
     IsRead,
+    /// It is the picture of a run, and a file that the run reads, or its output.
+    #[error("it is the plan's file, an input or the output; the picture has to be another file")]
+    IsTaken,
     /// It can be read only once, and two inputs are read from it.
     #[error("it can be read only once, and is asked for twice")]
     AskedTwice,

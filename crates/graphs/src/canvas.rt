@@ -1,5 +1,7 @@
 //! Where things stand in a picture, in points.
 
+use crate::record::Record;
+
 /// How wide the picture is.
 pub(crate) const WIDTH: u64 = 960;
 /// Where the curves begin from the left, and how wide they are.
@@ -36,9 +38,16 @@ pub(crate) fn colour(service: Option<u16>, place: usize) -> &'static str {
     }
 }
 
-/// Where a piece of so many begins from the left, and where the last one ends.
-pub(crate) fn x_of(piece: usize, pieces: usize) -> u64 {
-    let steps = pieces as u64;
-    let along = (piece as u64).min(steps).saturating_mul(PLOT);
-    LEFT.saturating_add(along.checked_div(steps).unwrap_or(0))
+/// Where a slot of so many begins from the left, and where the last one ends.
+fn x_of(slot: u64, slots: u64) -> u64 {
+    let along = u128::from(slot.min(slots)) * u128::from(PLOT);
+    let points = along.checked_div(u128::from(slots)).unwrap_or(0);
+    LEFT.saturating_add(points.min(u128::from(PLOT)) as u64)
+}
+
+/// How far from the left a piece of a run begins, and where it ends.
+pub(crate) fn edges(record: &Record, piece: usize) -> (u64, u64) {
+    let before = record.slots_before(piece);
+    let behind = before.saturating_add(record.slots_in(piece));
+    (x_of(before, record.slots()), x_of(behind, record.slots()))
 }

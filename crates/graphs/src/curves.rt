@@ -1,6 +1,6 @@
 //! How full the transport buffers are, drawn as curves.
 
-use crate::canvas::{LEFT, LEVELS, LEVELS_HEIGHT, PLOT, colour, x_of};
+use crate::canvas::{LEFT, LEVELS, LEVELS_HEIGHT, PLOT, colour, edges};
 use crate::record::Record;
 use std::io;
 use std::io::Write;
@@ -18,13 +18,12 @@ pub(crate) fn y_of(bytes: u64) -> u64 {
 
 /// Draws the highest level of a service's transport buffers behind its packets, from one piece that has some to the next.
 fn print_curve<W: Write>(record: &Record, kind: usize, out: &mut W) -> io::Result<()> {
-    let pieces = record.pieces();
     let colour = colour(record.kinds().service(kind), kind);
     write!(out, "<polyline fill=\"none\" stroke=\"{colour}\" points=\"")?;
-    for piece in 0..pieces {
+    for piece in 0..record.pieces() {
         if record.packets_of(piece, kind) > 0 {
             let y = y_of(record.highest_of(piece, kind));
-            let (left, right) = (x_of(piece, pieces), x_of(piece.saturating_add(1), pieces));
+            let (left, right) = edges(record, piece);
             write!(out, "{left},{y} {right},{y} ")?;
         }
     }

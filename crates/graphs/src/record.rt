@@ -57,9 +57,7 @@ impl Record {
         let Some(kind) = self.kinds.kind(Packet::pid_in(slot)) else {
             return;
         };
-        let place = piece
-            .saturating_mul(self.kinds.count())
-            .saturating_add(kind);
+        let place = self.place(piece, kind);
         if let Some(packets) = self.packets.get_mut(place) {
             *packets = packets.saturating_add(1);
         }
@@ -128,10 +126,16 @@ impl Record {
         (whole.checked_div(self.width).unwrap_or(0) as usize).min(PIECES)
     }
 
+    /// How many slots stand in front of a piece.
+    pub(crate) fn slots_before(&self, piece: usize) -> u64 {
+        (piece as u64).saturating_mul(self.width).min(self.slots)
+    }
+
     /// How many slots a piece has, of which the last one may have fewer than the others.
     pub(crate) fn slots_in(&self, piece: usize) -> u64 {
-        let before = (piece as u64).saturating_mul(self.width);
-        self.slots.saturating_sub(before).min(self.width)
+        self.slots
+            .saturating_sub(self.slots_before(piece))
+            .min(self.width)
     }
 
     /// The rate of the multiplex, in bits a second.

@@ -1,6 +1,6 @@
 //! What of a multiplex each service has over time, drawn as areas one above the other.
 
-use crate::canvas::{LEFT, PLOT, SHARES, SHARES_HEIGHT, colour, x_of};
+use crate::canvas::{LEFT, PLOT, SHARES, SHARES_HEIGHT, colour, edges};
 use crate::record::Record;
 use std::io;
 use std::io::Write;
@@ -29,12 +29,12 @@ fn print_area<W: Write>(record: &Record, kind: usize, out: &mut W) -> io::Result
     write!(out, "<polygon fill=\"{colour}\" points=\"")?;
     for piece in 0..pieces {
         let y = y_of(record, piece, below(record, piece, kind.saturating_add(1)));
-        let (left, right) = (x_of(piece, pieces), x_of(piece.saturating_add(1), pieces));
+        let (left, right) = edges(record, piece);
         write!(out, "{left},{y} {right},{y} ")?;
     }
     for piece in (0..pieces).rev() {
         let y = y_of(record, piece, below(record, piece, kind));
-        let (left, right) = (x_of(piece, pieces), x_of(piece.saturating_add(1), pieces));
+        let (left, right) = edges(record, piece);
         write!(out, "{right},{y} {left},{y} ")?;
     }
     writeln!(out, "\"/>")

@@ -7,7 +7,7 @@ ghost use Rattle.buffers.specs.BucketValue.{level_after_packet, after_slots};
 use std::marker::Model;
 
 /// The least rate of a multiplex, in bits a second.
-const LEAST_RATE: u64 = 500_000;
+const LEAST_RATE: u64 = 1;
 /// The greatest rate and leak, in bits a second.
 const MOST_RATE: u64 = 100_000_000;
 
@@ -28,16 +28,16 @@ impl Model for OpenBucket {
 
     ghost view = { λ b. record { leak = b.leak; multiplex_rate = b.multiplex_rate; level = b.level } };
 
-    ghost invariant = { λ b. (b.leak ≤ 100000000) × (500000 ≤ b.multiplex_rate) × (b.multiplex_rate ≤ 100000000) };
+    ghost invariant = { λ b. (b.leak ≤ 100000000) × (1 ≤ b.multiplex_rate) × (b.multiplex_rate ≤ 100000000) };
 }
 
 impl OpenBucket {
-    /// An empty buffer. The leak is at most 100,000,000 bits a second, the rate of the multiplex 500,000 to 100,000,000: for another number
-    /// the nearest of these stands.
+    /// An empty buffer. The leak is at most 100,000,000 bits a second, the rate of the multiplex 1 to 100,000,000: for another number the nearest
+    /// of these stands.
     pub fn new(leak: u64, multiplex_rate: u64) -> OpenBucket
         ensures { result ≡ record {
           leak = min leak 100000000;
-          multiplex_rate = max (min multiplex_rate 100000000) 500000;
+          multiplex_rate = max (min multiplex_rate 100000000) 1;
           level = 0;
         } }
     {

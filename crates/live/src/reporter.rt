@@ -84,6 +84,11 @@ const RENEWAL: u64 = 500;
 /// What goes in front of a renewed line on a terminal: the cursor goes back to its beginning, and the line is emptied.
 const RENEW: &[u8] = b"\r\x1b[K";
 
+/// What goes around such a line: the terminal cuts it off at its right edge, and breaks lines again behind it. A broken line would leave rows.
+const CUT: &[u8] = b"\x1b[?7l";
+
+const BREAK: &[u8] = b"\x1b[?7h";
+
 /// How many milliseconds have passed; 0 where the clock can't be read.
 fn since<T: Clock>(rt: &T, start: Option<Instant>) -> u64 {
     let Some(start) = start else {
@@ -115,10 +120,14 @@ fn show_all<T: Wait + Clock, V: Write>(
             let _ = line.write_all(RENEW);
         }
         if !is_over {
+            let (before, behind): (&[u8], &[u8]) = if is_terminal {
+                (CUT, BREAK)
+            } else {
+                (b"", b"\n")
+            };
+            let _ = line.write_all(before);
             let _ = print_progress(board, goal, since(rt, start), &mut line);
-            if !is_terminal {
-                let _ = line.write_all(b"\n");
-            }
+            let _ = line.write_all(behind);
         }
         is_shown = true;
         say(&mut line, voice);

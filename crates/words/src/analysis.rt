@@ -19,7 +19,7 @@ pub struct Analysis<'a> {
     pub places: bool,
     /// Whether faults and packets are counted by PID.
     pub summary: bool,
-    /// The file of a plan, in whose streams' transport buffers the highest levels are shown.
+    /// The file of a plan, if one is named: the highest levels of its streams' transport buffers are shown.
     pub levels: Option<&'a str>,
     /// Further PIDs, and the leak rates of their transport buffers, in bits a second, 1 to 100,000,000.
     pub leaks: Vec<(u16, u64)>,

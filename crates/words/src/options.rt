@@ -50,7 +50,7 @@ With --quiet, and with --report, there is none; with --progress it is printed ea
 With --graph run.svg it draws the run when it has ended: what of the multiplex each service has over time, how full the \
 transport buffers are, and the longest delay of each stream.
 
-With --json the lines of its inputs, its output and its streams are one JSON document, in the place of the lines.
+With --json it prints one JSON document in the place of the lines of its inputs and its output; the delays of its streams stand in it, too.
 
 Example:
   ./remux run --plan examples/plan.toml --out out.ts --slots 50000";
@@ -83,8 +83,8 @@ the fault's packet begins, from 0, and with the time at which that byte comes at
 behind the number of faults of each kind, and on each PID, and behind the packets and the rate of each PID. \
 With --json all of this is one JSON document, with each fault on a line.
 
-With --levels plan.toml, and with --leak 0x0200=2000000, it also prints the highest level of the transport buffers of these PIDs \
-(ISO/IEC 13818-1, 2.4.2), which hold 512 bytes.
+With --levels plan.toml it also prints the highest level of the transport buffer (ISO/IEC 13818-1, 2.4.2) of each PID that the plan \
+gives a stream, and with --leak 0x0200=2000000 that of PID 0x0200, by this leak rate. Such a buffer holds 512 bytes.
 
 Example:
   ./remux analyse --rate 3000000 --period 5000 out.ts";
