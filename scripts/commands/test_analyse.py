@@ -89,7 +89,7 @@ class Levels(CommandCase):
 
     def test_the_highest_level_is_printed(self):
         """Behind five packets it is 474,760,000: 315.7 bytes."""
-        told = "level 0x0101 leak 1000000 bytes 316 slot 7 over 0\nslots 8 faults 0 rest 0\n"
+        told = "level 0x0101 leak 1000000 bytes 316 slot 7 over 0 packets 5\nslots 8 faults 0 rest 0\n"
         for leak in self.LEAK, "257=1000000":
             self.ends(self.does(with_words("--leak", leak), {"x.ts": EIGHT}), 0, told, "")
 
@@ -97,22 +97,22 @@ class Levels(CommandCase):
         """Two null packets take 376,000,000 off it, and a packet adds 94,752,000: 193,512,000 are 128.7 bytes, fewer than before. From the first
         packet on: 95,752,000 leak away in one slot, and the second is as high as the first, 63.7 bytes."""
         first = TABLES + packets(range(1)) + NULL + packets([1])
-        told = "level 0x0101 leak 1000000 bytes 64 slot 3 over 0\nslots 6 faults 0 rest 0\n"
+        told = "level 0x0101 leak 1000000 bytes 64 slot 3 over 0 packets 2\nslots 6 faults 0 rest 0\n"
         self.ends(self.does(with_words("--leak", self.LEAK), {"x.ts": first}), 0, told, "")
-        told = "level 0x0101 leak 1000000 bytes 316 slot 7 over 0\nslots 11 faults 0 rest 0\n"
+        told = "level 0x0101 leak 1000000 bytes 316 slot 7 over 0 packets 6\nslots 11 faults 0 rest 0\n"
         self.ends(self.does(with_words("--leak", self.LEAK), {"x.ts": EIGHT + 2 * NULL + packets([5])}), 0, told, "")
 
     def test_an_overrun_is_counted(self):
         """Behind eight packets it is 759,016,000, behind nine 853,768,000, and behind ten 948,520,000, which are 630.7 bytes."""
-        told = "level 0x0101 leak 1000000 bytes 631 slot 12 over 2\nslots 13 faults 0 rest 0\n"
+        told = "level 0x0101 leak 1000000 bytes 631 slot 12 over 2 packets 10\nslots 13 faults 0 rest 0\n"
         self.ends(self.does(with_words("--leak", self.LEAK), {"x.ts": TABLES + packets(range(10))}), 0, told, "")
 
     def test_a_plan_says_the_leaks(self):
         """2,000,000 bits a second leave one byte, that which came last. The word of the command line counts for its PID."""
         stream = b"".join(payload(0x0200, counter) for counter in range(10))
-        told = "level 0x0200 leak 2000000 bytes 1 slot 0 over 0\nslots 10 faults 0 rest 0\n"
+        told = "level 0x0200 leak 2000000 bytes 1 slot 0 over 0 packets 10\nslots 10 faults 0 rest 0\n"
         self.ends(self.does(with_words("--levels", "x.toml"), {"x.toml": PLAN, "x.ts": stream}), 0, told, "")
-        told = "level 0x0200 leak 1000000 bytes 631 slot 9 over 2\nslots 10 faults 0 rest 0\n"
+        told = "level 0x0200 leak 1000000 bytes 631 slot 9 over 2 packets 10\nslots 10 faults 0 rest 0\n"
         done = self.does(with_words("--levels", "x.toml", "--leak", "0x0200=1000000"), {"x.toml": PLAN, "x.ts": stream})
         self.ends(done, 0, told, "")
 
@@ -122,12 +122,12 @@ class Levels(CommandCase):
         stream = TABLES + packets(range(1))
         longer = b"".join(stream[at : at + 188] + bytes(16) for at in range(0, len(stream), 188))
         words = ["analyse", "--rate", "510000", "--size", "204", "--period", "1000", "--leak", "0x0101=235000", "x.ts"]
-        told = "level 0x0101 leak 235000 bytes 95 slot 3 over 0\nslots 4 faults 0 rest 0\n"
+        told = "level 0x0101 leak 235000 bytes 95 slot 3 over 0 packets 1\nslots 4 faults 0 rest 0\n"
         self.ends(self.does(words, {"x.ts": longer}), 0, told, "")
 
     def test_a_document_has_them(self):
         done = self.does(with_words("--leak", self.LEAK, "--json"), {"x.ts": EIGHT})
-        level = {"pid": 0x0101, "leak": 1000000, "bytes": 316, "slot": 7, "over": 0}
+        level = {"pid": 0x0101, "leak": 1000000, "bytes": 316, "slot": 7, "over": 0, "packets": 5}
         self.assertEqual(json.loads(done.out)["end"]["levels"], [level])
 
     def test_other_words_are_refused(self):

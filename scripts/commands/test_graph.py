@@ -1,7 +1,7 @@
 """The picture of a run.
 
 The run over the small files has nine slots: three of tables, five of the stream, which wait a millisecond at most, and one of null. At
-1,504,000 bits a second five ninths are 835,555.6 and three ninths 501,333.3. A slot is 720 / 9 = 80 points wide. At a leak of 2,000,000 bits a
+1,504,000 bits a second five ninths are 835,555.6, three ninths 501,333.3 and one 167,111.1. A slot is 720 / 9 = 80 points wide. At a leak of 2,000,000 bits a
 second one byte is in the buffer behind a packet: 160 / 640 of a point."""
 import os
 import tempfile
@@ -33,8 +33,11 @@ class Graphs(CommandCase):
         self.assertEqual(sorted(done.files), ["g.svg", "out.ts", "x.toml", "x.ts"])
         picture = xml.fromstring(done.files["g.svg"])
         texts = self.texts(picture)
-        for text in "500: 835 kbit/s", "tables: 501 kbit/s", "1504 kbit/s", "0x0200", "1.0 ms", "0 ms", "9 ms":
+        for text in "A multiplex of 1504 kbit/s, 0.0 s", "500: mean 835 kbit/s", "tables: mean 501 kbit/s", "null: mean 167 kbit/s", "500: 0x0200", "1.0 ms":
             self.assertIn(text, texts)
+        self.assertEqual([text for text in texts if text.endswith(" kbit/s") and text[0].isdigit() and ":" not in text],
+                         [f"{rate} kbit/s" for rate in range(0, 1_504, 200)])
+        self.assertEqual([text for text in texts if text.endswith(" ms") and "." not in text], 2 * [f"{time} ms" for time in range(0, 9, 2)])
         service, tables = picture.iter(f"{SVG}polygon")
         self.assertEqual(len(service.get("points").split()), 4 * 9)
         self.assertTrue(service.get("points").startswith("80,300 160,300 "), "slot 0 is of a table")

@@ -186,7 +186,7 @@ pub(crate) fn end_over<O: Write, E: Write>(
 }
 
 /// What is said of the name of a file that isn't there, and of the folder of an output: of an address that it is none, and of an input
-/// from where names are taken.
+/// whose name isn't absolute, from where names are taken.
 fn name_advice(plan: &str, later: &[(u64, &str)], fault: &CommandFault) -> Option<&'static str> {
     let CommandFault::File(name, FileCause::Open(error) | FileCause::Create(error)) = fault else {
         return None;
@@ -197,7 +197,7 @@ fn name_advice(plan: &str, later: &[(u64, &str)], fault: &CommandFault) -> Optio
     if name.contains("://") {
         return Some("names are those of files and pipes, and no addresses of a network");
     }
-    if is_input(plan, later, fault) {
+    if is_input(plan, later, fault) && !name.starts_with("/") {
         return Some("names in a plan are taken from the folder in which the program is called");
     }
     None

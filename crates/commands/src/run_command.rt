@@ -18,9 +18,9 @@ use measuring::{Metered, is_input_wrong, print_wrong_rates, with_meters};
 use outlet::{RunFault, write_all};
 use plan::Plan;
 use printing::{
-    has_early_end, is_overfull, print_delays, print_early_ends, print_end, print_faults,
-    print_overfull, print_run_document, print_same_files, print_summary, print_unreached,
-    strict_status,
+    has_damage, has_early_end, is_overfull, print_damage, print_delays, print_early_ends,
+    print_end, print_faults, print_overfull, print_run_document, print_same_files, print_summary,
+    print_unreached, strict_status,
 };
 use rate_meter::Meter;
 use reading::{InputLimit, Stop};
@@ -297,11 +297,12 @@ fn has_no_reader(fault: &CommandFault) -> bool {
     matches!(fault, CommandFault::File(_, FileCause::NoReader))
 }
 
-/// Whether a run shows that its plans and its inputs are as they should be: no plan is overfull, no input ended before others, and
-/// the rates are those of the plans.
+/// Whether a run shows that its plans and its inputs are as they should be: no plan is overfull, no input ended before others or is damaged,
+/// and the rates are those of the plans.
 fn is_sound<R, M: Meter>(ran: &Ran<Metered<R, M>>) -> bool {
     !is_overfull(&ran.schedule, &ran.summary)
         && !has_early_end(&ran.schedule, &ran.summary)
+        && !has_damage(&ran.summary)
         && !is_input_wrong(&ran.schedule, &ran.readers)
 }
 
@@ -315,6 +316,7 @@ fn tell_found<F: Files, R: InputFile, M: Meter, E: Write>(
     let _ = print_end(ran.schedule.plan(0), &ran.summary, &ran.readers, err);
     let _ = print_unreached(&ran.schedule, &ran.summary, err);
     let _ = print_early_ends(&ran.schedule, &ran.summary, err);
+    let _ = print_damage(&ran.summary, err);
     let _ = print_faults(&ran.schedule, &ran.summary, err);
     let _ = print_overfull(&ran.schedule, &ran.summary, err);
     tell_partial(files, partial, err);

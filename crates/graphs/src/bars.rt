@@ -37,10 +37,11 @@ fn print_bar<W: Write>(
     let pid = bar.pid;
     let (whole, tenth) = (bar.delay / TENTH / 10, bar.delay / TENTH % 10);
     let (name, behind) = (LEFT - 6, width.saturating_add(u128::from(LEFT + 6)));
-    writeln!(
-        out,
-        "<text x=\"{name}\" y=\"{text}\" text-anchor=\"end\">0x{pid:04X}</text>"
-    )?;
+    write!(out, "<text x=\"{name}\" y=\"{text}\" text-anchor=\"end\">")?;
+    if let Some(number) = record.kinds().service(kind) {
+        write!(out, "{number}: ")?;
+    }
+    writeln!(out, "0x{pid:04X}</text>")?;
     write!(
         out,
         "<rect x=\"{LEFT}\" y=\"{y}\" width=\"{width}\" height=\"12\" fill=\"{colour}\"/>"

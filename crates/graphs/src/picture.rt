@@ -14,6 +14,34 @@ use std::io::Write;
 /// The bits of a slot.
 const SLOT: u64 = 1_504;
 
+/// How many round numbers a scale has at most, beside its beginning.
+const MARKS: u64 = 8;
+
+/// The step of a scale up to this number: of 1, 2 and 5 times a power of ten the least of which at most so many fit.
+fn step_of(all: u128) -> u128 {
+    let mut power = 1u128;
+    for _ in 0..38 {
+        for factor in [1u128, 2, 5] {
+            let step = power.saturating_mul(factor);
+            if all <= step.saturating_mul(u128::from(MARKS)) {
+                return step;
+            }
+        }
+        power = power.saturating_mul(10);
+    }
+    power
+}
+
+/// Says above all how fast the multiplex is, and how long the run.
+fn print_heading<W: Write>(record: &Record, out: &mut W) -> io::Result<()> {
+    let (rate, length) = (record.rate() / 1_000, length_of(record));
+    let (seconds, tenth) = (length / 1_000, length / 100 % 10);
+    writeln!(
+        out,
+        "<text x=\"{LEFT}\" y=\"22\" font-size=\"16\">A multiplex of {rate} kbit/s, {seconds}.{tenth} s</text>"
+    )
+}
+
 /// Begins the picture, with so many bars.
 fn print_head<W: Write>(bars: usize, out: &mut W) -> io::Result<()> {
     let height = (bars as u64)
@@ -46,7 +74,7 @@ fn print_frame<W: Write>(y: u64, height: u64, out: &mut W) -> io::Result<()> {
 }
 
 /// Writes a number at the left of a frame.
-fn print_mark<W: Write>(y: u64, mark: &str, number: u64, out: &mut W) -> io::Result<()> {
+fn print_mark<W: Write>(y: u128, mark: &str, number: u128, out: &mut W) -> io::Result<()> {
     let (x, text) = (LEFT - 6, y.saturating_add(4));
     writeln!(
         out,
@@ -54,26 +82,49 @@ fn print_mark<W: Write>(y: u64, mark: &str, number: u64, out: &mut W) -> io::Res
     )
 }
 
-/// Writes the times below a frame, in five places, in milliseconds, or in seconds of a run of more than ten.
-fn print_times<W: Write>(record: &Record, y: u64, out: &mut W) -> io::Result<()> {
+/// How long the run is, in milliseconds.
+fn length_of(record: &Record) -> u128 {
     let bits = u128::from(record.slots()) * u128::from(SLOT);
-    let all = (bits * 1_000)
+    (bits * 1_000)
         .checked_div(u128::from(record.rate()))
-        .unwrap_or(0);
-    for quarter in 0..=4u64 {
-        let x = quarter.saturating_mul(PLOT / 4).saturating_add(LEFT);
-        let time = all.saturating_mul(u128::from(quarter)) / 4;
-        if all > 10_000 {
-            let (seconds, tenth) = (time / 1_000, time / 100 % 10);
-            writeln!(
-                out,
-                "<text x=\"{x}\" y=\"{y}\" text-anchor=\"middle\">{seconds}.{tenth} s</text>"
-            )?;
-        } else {
-            writeln!(
-                out,
-                "<text x=\"{x}\" y=\"{y}\" text-anchor=\"middle\">{time} ms</text>"
-            )?;
+        .unwrap_or(0)
+}
+
+/// Writes the times below a frame, at round numbers of milliseconds, or of seconds of a run of more than ten.
+fn print_times<W: Write>(record: &Record, y: u64, out: &mut W) -> io::Result<()> {
+    let all = length_of(record);
+    let step = step_of(all);
+    for mark in 0..=MARKS {
+        let time = step.saturating_mul(u128::from(mark));
+        if time <= all {
+            let along = time.saturating_mul(u128::from(PLOT));
+            let x = along
+                .checked_div(all)
+                .unwrap_or(0)
+                .saturating_add(u128::from(LEFT));
+            write!(out, "<text x=\"{x}\" y=\"{y}\" text-anchor=\"middle\">")?;
+            if all > 10_000 {
+                let seconds = time / 1_000;
+                writeln!(out, "{seconds} s</text>")?;
+            } else {
+                writeln!(out, "{time} ms</text>")?;
+            }
+        }
+    }
+    Ok(())
+}
+
+/// Writes the rates at the left of the shares, at round numbers, up to that of the multiplex.
+fn print_rates<W: Write>(record: &Record, out: &mut W) -> io::Result<()> {
+    let all = u128::from(record.rate() / 1_000);
+    let step = step_of(all);
+    for mark in 0..=MARKS {
+        let rate = step.saturating_mul(u128::from(mark));
+        if rate <= all {
+            let up = rate.saturating_mul(u128::from(SHARES_HEIGHT));
+            let height = up.checked_div(all).unwrap_or(0);
+            let y = u128::from(SHARES + SHARES_HEIGHT).saturating_sub(height);
+            print_mark(y, " kbit/s", rate, out)?;
         }
     }
     Ok(())
@@ -81,29 +132,23 @@ fn print_times<W: Write>(record: &Record, y: u64, out: &mut W) -> io::Result<()>
 
 /// Draws what of the multiplex each service has.
 fn print_first<W: Write>(record: &Record, out: &mut W) -> io::Result<()> {
-    print_title(SHARES - 12, "The multiplex, by service", out)?;
+    print_title(SHARES - 12, "The multiplex, by service, over time", out)?;
     print_shares(record, out)?;
     print_frame(SHARES, SHARES_HEIGHT, out)?;
-    print_mark(SHARES, " kbit/s", record.rate() / 1_000, out)?;
-    print_mark(
-        SHARES + SHARES_HEIGHT / 2,
-        " kbit/s",
-        record.rate() / 2_000,
-        out,
-    )?;
-    print_mark(SHARES + SHARES_HEIGHT, "", 0, out)?;
+    print_rates(record, out)?;
     print_times(record, SHARES + SHARES_HEIGHT + 14, out)
 }
 
 /// Draws how full the transport buffers are.
 fn print_second<W: Write>(record: &Record, out: &mut W) -> io::Result<()> {
-    let title = "The fullest transport buffer of each service, in bytes of the 512 that it holds";
+    let title =
+        "The fullest transport buffer of each service, in bytes: 512 are allowed, and never passed";
     print_title(LEVELS - 12, title, out)?;
     print_curves(record, out)?;
     print_frame(LEVELS, LEVELS_HEIGHT, out)?;
-    print_mark(y_of(512), "", 512, out)?;
-    print_mark(y_of(256), "", 256, out)?;
-    print_mark(y_of(0), "", 0, out)?;
+    print_mark(u128::from(y_of(512)), "", 512, out)?;
+    print_mark(u128::from(y_of(256)), "", 256, out)?;
+    print_mark(u128::from(y_of(0)), "", 0, out)?;
     print_times(record, LEVELS + LEVELS_HEIGHT + 14, out)
 }
 
@@ -111,6 +156,7 @@ fn print_second<W: Write>(record: &Record, out: &mut W) -> io::Result<()> {
 /// stream.
 pub fn print_picture<W: Write>(record: &Record, bars: &[Bar], out: &mut W) -> io::Result<()> {
     print_head(bars.len(), out)?;
+    print_heading(record, out)?;
     print_first(record, out)?;
     print_second(record, out)?;
     print_title(BARS - 12, "The longest delay of each stream", out)?;

@@ -49,6 +49,35 @@ fn packets_of(record: &Record, kind: usize) -> u64 {
     packets
 }
 
+/// The mean rate of so many packets of the run, in thousands of bits a second.
+fn mean_rate(record: &Record, packets: u64) -> u128 {
+    let part = u128::from(packets) * u128::from(record.rate());
+    part.checked_div(u128::from(record.slots())).unwrap_or(0) / 1_000
+}
+
+/// Says below the key that what is white are null packets, and their mean rate.
+fn print_nulls<W: Write>(record: &Record, out: &mut W) -> io::Result<()> {
+    let count = record.kinds().count();
+    let mut packets = 0u64;
+    for kind in 0..count {
+        packets = packets.saturating_add(packets_of(record, kind));
+    }
+    let rate = mean_rate(record, record.slots().saturating_sub(packets));
+    let (x, y) = (
+        LEFT + PLOT + 14,
+        (count as u64).saturating_mul(15).saturating_add(SHARES),
+    );
+    write!(
+        out,
+        "<rect x=\"{x}\" y=\"{y}\" width=\"10\" height=\"10\" fill=\"white\" stroke=\"black\"/>"
+    )?;
+    let (x, text) = (x.saturating_add(15), y.saturating_add(9));
+    writeln!(
+        out,
+        "<text x=\"{x}\" y=\"{text}\">null: mean {rate} kbit/s</text>"
+    )
+}
+
 /// Writes which colour a kind has, and its mean rate, in thousands of bits a second.
 fn print_key<W: Write>(record: &Record, kind: usize, out: &mut W) -> io::Result<()> {
     let service = record.kinds().service(kind);
@@ -57,8 +86,7 @@ fn print_key<W: Write>(record: &Record, kind: usize, out: &mut W) -> io::Result<
         LEFT + PLOT + 14,
         (kind as u64).saturating_mul(15).saturating_add(SHARES),
     );
-    let part = u128::from(packets_of(record, kind)) * u128::from(record.rate());
-    let rate = part.checked_div(u128::from(record.slots())).unwrap_or(0) / 1_000;
+    let rate = mean_rate(record, packets_of(record, kind));
     let text = y.saturating_add(9);
     write!(
         out,
@@ -68,11 +96,11 @@ fn print_key<W: Write>(record: &Record, kind: usize, out: &mut W) -> io::Result<
     match service {
         Some(number) => writeln!(
             out,
-            "<text x=\"{x}\" y=\"{text}\">{number}: {rate} kbit/s</text>"
+            "<text x=\"{x}\" y=\"{text}\">{number}: mean {rate} kbit/s</text>"
         ),
         None => writeln!(
             out,
-            "<text x=\"{x}\" y=\"{text}\">tables: {rate} kbit/s</text>"
+            "<text x=\"{x}\" y=\"{text}\">tables: mean {rate} kbit/s</text>"
         ),
     }
 }
@@ -83,5 +111,5 @@ pub(crate) fn print_shares<W: Write>(record: &Record, out: &mut W) -> io::Result
         print_area(record, kind, out)?;
         print_key(record, kind, out)?;
     }
-    Ok(())
+    print_nulls(record, out)
 }

@@ -12,6 +12,7 @@ pub struct BufferLevel {
     bucket: OpenBucket,
     /// The slot behind the last packet of the PID.
     next: u64,
+    packets: u64,
     highest: u64,
     slot: u64,
     over: u64,
@@ -24,6 +25,7 @@ impl BufferLevel {
             pid,
             bucket: OpenBucket::new(leak, multiplex_rate),
             next: 0,
+            packets: 0,
             highest: 0,
             slot: 0,
             over: 0,
@@ -35,6 +37,7 @@ impl BufferLevel {
         self.bucket.skip(slot.saturating_sub(self.next));
         self.bucket.take();
         self.next = slot.saturating_add(1);
+        self.packets = self.packets.saturating_add(1);
         let bytes = self.bucket.bytes();
         if bytes > self.highest {
             self.highest = bytes;
@@ -54,6 +57,11 @@ impl BufferLevel {
     /// The leak, in bits a second.
     pub fn leak(&self) -> u64 {
         self.bucket.leak()
+    }
+
+    /// How many packets of the PID there were.
+    pub fn packets(&self) -> u64 {
+        self.packets
     }
 
     /// The highest level, in bytes, rounded up.

@@ -16,6 +16,8 @@ pub(crate) struct LevelDocument {
     slot: u64,
     /// How many packets left it above 512 bytes.
     over: u64,
+    /// How many packets its PID had.
+    packets: u64,
 }
 
 impl LevelDocument {
@@ -29,6 +31,7 @@ impl LevelDocument {
                 bytes: level.highest(),
                 slot: level.slot(),
                 over: level.over(),
+                packets: level.packets(),
             })?;
         }
         Ok(documents)

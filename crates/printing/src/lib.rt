@@ -5,6 +5,7 @@
 
 mod analysis_end;
 mod analysis_summary;
+mod damage;
 mod early_ends;
 mod end_document;
 mod fault_document;
@@ -34,6 +35,7 @@ mod told_document;
 mod wait_document;
 
 pub use analysis_end::analysis_status;
+pub use damage::{has_damage, print_damage};
 pub use early_ends::{has_early_end, print_early_ends};
 pub use fault_lines::print_faults;
 pub use overfull::{is_overfull, print_overfull};

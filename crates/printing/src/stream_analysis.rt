@@ -64,7 +64,7 @@ pub struct StreamAnalysis {
     summary: Option<AnalysisSummary>,
     /// The levels of the transport buffers that are shown, if any.
     levels: Option<Levels>,
-    /// How many bytes of a stream that is framed were in no packet.
+    /// How many bytes stood in no packet, where packets are sought; else 0.
     lost: u64,
     /// The slot at which sync was lost first.
     loss: Option<u64>,
