@@ -10,6 +10,7 @@ import tempfile
 
 from does import ANALYSE, PROGRAM, CommandCase
 from small import EIGHT, NULL, PAT, PLAN, TABLES, packets
+from test_rates import fast, input_with
 
 # How long a line may take, in seconds.
 PATIENCE = 20
@@ -139,6 +140,30 @@ class Levels(CommandCase):
     def test_a_refused_plan_is_told(self):
         done = self.does(with_words("--levels", "x.toml"), {"x.toml": "rate = 1\n", "x.ts": EIGHT})
         self.assertEqual((done.status, done.out), (3, ""))
+
+
+class OtherRates(CommandCase):
+    def test_the_rate_that_the_pcrs_say_is_told(self):
+        """The stream of the tests of rates has 1,507,008 bits a second, and one PAT in 506 packets: half a second at 1,504,000 bits a second is
+        500 of them. Where there is no fault and no buffer is followed, nothing is said."""
+        stream = {"x.ts": input_with(fast())}
+        said = "x.ts: it runs at 1507008 bits a second by the PCRs of PID 0x0101, and --rate is "
+        done = self.does(ANALYSE, stream)
+        self.assertEqual((done.status, done.err), (1, f"{said}1504000\n"))
+        words = ["analyse", "--rate", "3008000", "--period", "2000", "x.ts"]
+        self.assertEqual((self.does(words, stream).status, self.does(words, stream).err), (0, ""))
+        done = self.does([*words, "--leak", "0x0101=1000000"], stream)
+        self.assertEqual((done.status, done.err), (0, f"{said}3008000\n"))
+
+    def test_the_right_rate_is_not(self):
+        words = ["analyse", "--rate", "1507008", "--period", "1000", "--leak", "0x0101=1000000", "x.ts"]
+        self.assertEqual(self.does(words, {"x.ts": input_with(fast())}).err, "")
+
+    def test_a_variable_rate_is_told(self):
+        """A second of 1,000 packets and one of 500: 1,163,093 bits a second in all, as in the tests of rates."""
+        pcrs = [(step * 13_500_000, False, nulls) for step, nulls in enumerate([499, 499, 249, 249, 0])]
+        done = self.does(with_words("--leak", "0x0101=1000000"), {"x.ts": input_with(pcrs)})
+        self.assertEqual(done.err, "x.ts: it is of variable rate by the PCRs of PID 0x0101, 1163093 bits a second in all, and --rate is 1504000\n")
 
 
 class Places(CommandCase):

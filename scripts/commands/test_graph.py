@@ -4,11 +4,13 @@ The run over the small files has nine slots: three of tables, five of the stream
 1,504,000 bits a second five ninths are 835,555.6, three ninths 501,333.3 and one 167,111.1. A slot is 720 / 9 = 80 points wide. At a leak of 2,000,000 bits a
 second one byte is in the buffer behind a packet: 160 / 640 of a point."""
 import os
+import re
 import tempfile
 import xml.etree.ElementTree as xml
 
 from does import ENDED, FILES, LINES, RUN, CommandCase, does_once
-from small import PLAN, TABLES, packets
+from small import PLAN, TABLES, input_of, packets, service, settings, table_packet
+from test_probe import pmt_of, sdt_of, section
 
 GRAPH = [*RUN, "--graph", "g.svg"]
 
@@ -33,7 +35,7 @@ class Graphs(CommandCase):
         self.assertEqual(sorted(done.files), ["g.svg", "out.ts", "x.toml", "x.ts"])
         picture = xml.fromstring(done.files["g.svg"])
         texts = self.texts(picture)
-        for text in "A multiplex of 1504 kbit/s, 0.0 s", "500: mean 835 kbit/s", "tables: mean 501 kbit/s", "null: mean 167 kbit/s", "500: 0x0200", "1.0 ms":
+        for text in "A multiplex of 1504 kbit/s, 9 ms", "500 B: mean 835 kbit/s", "tables: mean 501 kbit/s", "null: mean 167 kbit/s", "500: 0x0200", "1.0 ms":
             self.assertIn(text, texts)
         self.assertEqual([text for text in texts if text.endswith(" kbit/s") and text[0].isdigit() and ":" not in text],
                          [f"{rate} kbit/s" for rate in range(0, 1_504, 200)])
@@ -73,10 +75,23 @@ class Graphs(CommandCase):
         self.assertEqual((done.status, done.out, sorted(done.files)), (4, LINES, ["g.svg.part", "out.ts", "x.toml", "x.ts"]))
         self.assertTrue(done.err.endswith("g.svg.part: the picture so far\n"), done.err)
 
-    def test_a_picture_that_cannot_be_made_leaves_the_multiplex(self):
+    def test_a_picture_that_cannot_be_made_is_refused_before_the_run(self):
         done = self.does([*RUN, "--graph", "there/is/none/g.svg"])
-        self.assertEqual((done.status, done.out, sorted(done.files)), (4, LINES, ["out.ts", "x.toml", "x.ts"]))
-        self.assertIn("fault file there/is/none/g.svg\n", done.err)
+        self.assertEqual((done.status, done.out, sorted(done.files)), (4, "", ["x.toml", "x.ts"]))
+        self.assertTrue(done.err.startswith("fault file there/is/none/g.svg\nthere/is/none/g.svg: no new file can be made beside it: "), done.err)
+
+    def test_names_are_drawn_as_they_are(self):
+        """Those of the output's SDT, which has eight services in two packets: at most twenty characters, and none that XML has for itself."""
+        names = ["A < B & C > D", "N" * 60, "", "Nova"]
+        numbers = range(100, 104)
+        pat = table_packet(0x0000, section("00", 1, "".join(f"{number:04x}{0xE100 + number:04x}" for number in numbers)))
+        pmts = [table_packet(0x0100 + number, pmt_of([("02", 0x0200 + number, "")], number, 0x0200 + number)) for number in numbers]
+        sdt = table_packet(0x0011, sdt_of([(number, name.encode()) for number, name in zip(numbers, names)]))
+        stream = pat + b"".join(pmts) + sdt + b"".join(bytes([0x47, 0x02, number, 0x10]) + b"\xaa" * 184 for number in numbers)
+        services = [service(number, number // 4, 100 + number % 4, 0x0200 + 100 + number % 4) for number in range(8)]
+        files = {"x.toml": settings() + input_of() + input_of("y.ts") + "".join(services), "x.ts": stream, "y.ts": stream}
+        keys = [re.sub(": mean .*", "", text) for text in self.texts(self.drawn(files=files)) if ": mean " in text]
+        self.assertEqual(keys, [f"{500 + number} {names[number % 4][:20]}".rstrip() for number in range(8)] + ["tables", "null"])
 
     def test_another_name_of_the_output_is_refused(self):
         """It is found when the output has its name."""

@@ -3,7 +3,7 @@ out; here they stand as numbers.
 """
 import json
 
-from does import ANALYSE, CHECK, ENDED, RUN, CommandCase, does_once
+from does import ANALYSE, CHECK, ENDED, FILES, RUN, CommandCase, does_once
 from small import NULL, TABLES, packets
 from test_analyse import PAUSED, payload
 from test_probe import PROBE
@@ -14,7 +14,7 @@ HEAD = {"format": 1}
 
 # What a run over the small files prints.
 TOTALS = {
-    "framed": 8, "malformed": 0, "unmapped": 3, "bad": 0, "losses": 0, "lost": 0,
+    "file": "x.ts", "framed": 8, "malformed": 0, "unmapped": 3, "bad": 0, "losses": 0, "lost": 0,
     "taken": 5, "sent": 5, "dropped": 0, "queued": 0, "end": "input",
 }
 RAN = HEAD | {
@@ -25,7 +25,8 @@ RAN = HEAD | {
 
 # What a check of the small plan prints.
 CHECKED = HEAD | {
-    "command": "check", "rate": 1504000, "gap": 2, "period": 100, "fast": 2, "slow": 2,
+    "command": "check", "rate": 1504000, "gap": 2, "period": 100, "fast": 2, "slow": 2, "pat_ms": 100, "sdt_ms": 200,
+    "left": 1458880, "taken": None, "inputs": [{"file": "x.ts", "rate": 1504000, "measured": None, "variable": None, "clock": None}],
     "services": [{"service": 500, "pmt": 0x0100}],
     "streams": [{"out": 0x0200, "input": 0, "pid": 0x0101, "leak": 2000000}],
     "switches": [],
@@ -100,6 +101,12 @@ class Documents(CommandCase):
         done = self.does([*CHECK, "--json"])
         self.assertEqual((json.loads(done.out), done.status), (CHECKED, 0))
         self.assertEqual(done.err, self.does(CHECK).err)
+
+    def test_measured_rates_are_told(self):
+        """Of the stream of the tests of rates. A packet of the plan's takes a millisecond, and a round 100 of them; 97 are the services'."""
+        measured = {"file": "x.ts", "rate": 1504000, "measured": 1507008, "variable": False, "clock": 0x0101}
+        done = self.does([*CHECK, "--json"], {**FILES, "x.ts": input_with(fast())})
+        self.assertEqual(json.loads(done.out), CHECKED | {"taken": 12008, "inputs": [measured]})
 
     def test_switches_are_told(self):
         done = self.does([*CHECK, *THEN, "--json"], SWITCHED)

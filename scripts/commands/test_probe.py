@@ -31,6 +31,7 @@ pid 0x1FFF packets 499 rate 1495000 highest 1495000 pcrs 0 jitter -
 # The stream needs 12,008 bits a second and a tenth more, and the tables three slots of 1,504 bits each tenth of a second, 45,120: less
 # than the least rate of a multiplex. A tenth of a second has 33 slots at 500,000 bits a second.
 TEXT = """# A plan that remux probe made. Beside the tables its rate leaves a tenth more than the services took at most.
+# Each leak is a guess by the kind of the stream and its highest rate; docs/FIRST-PLAN.md has those of the levels of video.
 rate = 500000
 period = 33
 watch = 660
@@ -48,14 +49,14 @@ file = "x.ts"
 rate = 1507008
 offset = 0
 
-[[service]]
+[[service]] # B
 input = 0
 program = 100
 service = 1
-pmt = 256
+pmt = 0x0100
 [[service.stream]]
-pid = 257
-out = 512
+pid = 0x0101 # MPEG-2 video
+out = 0x0200
 leak = 18000000
 """
 
@@ -124,6 +125,11 @@ def with_bits(octets, at, byte, bits):
     """The stream with these bits set in a byte of packet `at`."""
     place = 188 * at + byte
     return octets[:place] + bytes([octets[place] | bits]) + octets[place + 1:]
+
+
+def command_of(rate):
+    """The command of ffmpeg that writes program 100 of the stream alone."""
+    return f"ffmpeg -i 'x.ts' -map 0:p:100 -c copy -copy_unknown -mpegts_service_id 100 -muxrate {rate} new.ts"
 
 
 class Good:
@@ -269,6 +275,27 @@ class Probing(CommandCase):
             "trouble 0x1FFF scrambled 1 packet 7 byte 1316 ms 7",
         ])
 
+    def test_a_pid_in_no_table_is_told(self):
+        """The CAT names 0x0300, a CA descriptor of the program 0x0301 and one of the stream 0x0302; 0x0101 is the stream's. Nothing is told
+        where the PMT wasn't found."""
+        named = pmt_of([("02", 0x0101, "0904 0001 e302")]).replace("e101f000", "e101f006" + "09040001e301")
+        named = named[:2] + f"{0xB000 + len(named) // 2 + 1:04x}" + named[6:]
+        cat = table_packet(0x0001, "01b00fffffc10000" + "09040001e300")
+        rest = b"".join(bytes([0x47, pid >> 8, pid & 255, 0x10]) + b"\xaa" * 184 for pid in (0x0300, 0x0301, 0x0302, 0x0067, 0x0101, 0x001F))
+        rest += bytes([0x47, 0x00, 0x67, 0x11]) + b"\xaa" * 184
+        done = self.probed(PAT + cat + table_packet(0x0100, named) + rest)
+        self.assertEqual(re.findall("trouble .*", done.out), ["trouble 0x0067 unreferenced 2 packet 6 byte 1128 ms -"])
+        self.assertNotIn("unreferenced", self.probed(PAT + cat + rest).out)
+
+    def test_of_a_file_of_variable_rate_a_command_is_told(self):
+        """A second of 1,000 packets and one of 500, as in the tests of rates. The first has its first second at 1,504,000 bits a second."""
+        pcrs = [(step * 13_500_000, False, nulls) for step, nulls in enumerate([499, 499, 249, 249, 0])]
+        said = f"""file 0 is of variable rate: its packets have no right times until null packets make it constant
+file 0 gets them by ffmpeg, and other PIDs: {command_of(1654400)}
+"""
+        done = self.probed(input_with(pcrs), PLAN)
+        self.assertEqual((done.err, done.status), (said, 0))
+
     def test_a_scrambled_service_is_left_out(self):
         stream = with_bits(input_with(fast()), 4, 3, 0x80)
         self.ends(self.probed(stream, PLAN), 1, "", "left out: file 0 program 100: it is scrambled\n" + NO_PLAN)
@@ -309,8 +336,8 @@ class Probing(CommandCase):
         lines = [line for line in done.out.splitlines() if line.split(" ")[0] in ("file", "input", "program", "service", "pmt", "pid", "out")]
         self.assertEqual(lines, [
             "file = 'a \"b\".ts'", 'file = "c.ts"',
-            "input = 0", "program = 100", "service = 1", "pmt = 256", "pid = 257", "out = 512",
-            "input = 1", "program = 100", "service = 2", "pmt = 257", "pid = 257", "out = 513",
+            "input = 0", "program = 100", "service = 1", "pmt = 0x0100", "pid = 0x0101 # MPEG-2 video", "out = 0x0200",
+            "input = 1", "program = 100", "service = 2", "pmt = 0x0101", "pid = 0x0101 # MPEG-2 video", "out = 0x0201",
         ])
 
     def test_what_is_no_input_is_told(self):
@@ -318,7 +345,7 @@ class Probing(CommandCase):
         for stream, why in (
             (input_with([(0, False, 99)]), ": its rate isn't known: fewer than two PCRs were found with no packet missing between"),
             (PAT + SDT + 2 * NULL + input_with(fast())[4 * 188:], " program 100: its PMT was not found"),
-            (TABLES[:2 * 188] + 2 * NULL + input_with(fast())[4 * 188:], " program 100: the SDT has no row that describes it"),
+            (TABLES[:2 * 188] + 2 * NULL + input_with(fast())[4 * 188:], f" program 100: the SDT has no row that describes it\nffmpeg writes a file with one, and with other PIDs: {command_of(1507008)}"),
             (5 * NULL, ": it has no program"),
         ):
             self.ends(self.probed(stream, PLAN), 1, "", f"left out: file 0{why}\n{NO_PLAN}")

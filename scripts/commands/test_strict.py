@@ -1,7 +1,7 @@
 """What `--strict` makes of a check and of a run: the lines and the output stay as they are, and where a line says that the plan or an
 input isn't as it should be, the status is 1. A slot takes a millisecond, and so does a packet of an input."""
 from does import CHECK, ENDED, FILES, LINES, RUN, CommandCase, does_once
-from small import EIGHT, PLAN, TABLES, input_of, packets, service, settings
+from small import EIGHT, NULL, PLAN, TABLES, input_of, packets, service, settings
 from test_rates import FAST, SUM, fast, files_with, input_with
 
 # The leak of a stream that takes 12,008 bits a second.
@@ -51,6 +51,15 @@ class Strict(CommandCase):
         self.assertTrue(self.told(CHECK, files, 1).endswith(SUM + LEAK))
         self.assertEqual(self.told(RUN, files, 1), ENDED + LEAK)
         self.assertEqual(self.told([*RUN, "--all"], files, 1), LEAK + ENDED + LEAK)
+
+    def test_a_damaged_input(self):
+        """A packet whose sync byte is 0x48, and one whose adaptation_field_control is 0; each counter comes all the same."""
+        bad, malformed = b"\x48" + NULL[1:], bytes([0x47, 0x01, 0x01, 0x00]) + bytes(184)
+        for wrong, told in (bad, "0 malformed packets and 1"), (malformed + 2 * NULL + malformed, "2 malformed packets and 0"):
+            files = {**FILES, "x.ts": TABLES + packets(range(3)) + wrong + packets([3, 4])}
+            line = f"damaged: input 0 has {told} with a bad sync byte, lost sync 0 times, and has 0 bytes in no packet\n"
+            self.assertEqual(self.told(RUN, files, 1), ENDED + line)
+            self.assertEqual(self.does(CHECK, files).status, 0)
 
     def test_what_can_be_read_once_is_not_measured_first(self):
         """A pipe gives its bytes to the run."""

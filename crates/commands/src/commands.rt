@@ -1,6 +1,6 @@
 //! Whole commands.
 
-use crate::measuring_inputs::measure;
+use crate::measuring_inputs::{measure, tell_other_rate};
 use crate::run_command::{Asked, run};
 use crate::shows::Shows;
 use advice::packets_rate;
@@ -10,13 +10,14 @@ use files::{
 };
 use levels::Levels;
 use live::{RunFiles, WaitTeller};
-use measuring::{is_input_wrong, is_too_much, print_measured};
+use measuring::{Metered, is_input_wrong, is_too_much, print_measured, sum_of};
 use printing::{
     Shown, StreamAnalysis, analysis_status, print_plan, print_rhythm, print_same_files,
     print_schedule_document, print_shape, print_switch_tables, print_switches, strict_status,
 };
 use probing::{ProbeAnswer, probe_files};
 use rate_meter::RateMeter;
+use schedule::Schedule;
 use std::alloc::Global;
 use std::convert::AsStr;
 use std::io::{ErrorKind, Write};
@@ -278,6 +279,26 @@ fn answer_of(plan: bool, json: bool) -> ProbeAnswer {
     }
 }
 
+/// Prints a schedule as JSON, with the rates of its inputs where they were measured.
+fn print_check_document<R: Drop, O: Write>(
+    alloc: Global,
+    schedule: &Schedule,
+    readers: Option<&Vec<Metered<R>>>,
+    out: &mut O,
+) -> Result<(), CommandFault> {
+    let mut measured = Vec::new(alloc);
+    let mut taken = None;
+    if let Some(readers) = readers {
+        for reader in readers {
+            measured.push(reader.measured())?;
+        }
+        taken = sum_of(schedule.plan(0), readers);
+    }
+    print_schedule_document(alloc, schedule, &measured, taken, out)?;
+    out.flush()?;
+    Ok(())
+}
+
 /// Shows a plan and those that follow it: its lines, those of each switch, or all of this as JSON, and on `err` what is said of its rhythm, of the switches'
 /// tables and of its inputs' rates. A strict check ends with 1 where these aren't as they should be.
 fn check<
@@ -303,16 +324,18 @@ fn check<
         readers,
         ..
     } = read?;
-    if asked.json {
-        print_schedule_document(alloc, &schedule, out)?;
-    } else {
+    if !asked.json {
         print_plan(schedule.plan(0), out)?;
         print_switches(&schedule, out)?;
+        out.flush()?;
     }
-    out.flush()?;
+    let measured = measure(alloc, files, &schedule, readers);
+    if asked.json {
+        print_check_document(alloc, &schedule, measured.as_ref().ok(), out)?;
+    }
     let _ = print_rhythm(schedule.plan(0), err);
     let _ = print_switch_tables(&schedule, err);
-    let Ok(readers) = measure(alloc, files, &schedule, readers) else {
+    let Ok(readers) = measured else {
         let _ = writeln!(err, "rate: the inputs can't be measured");
         return Ok(0);
     };
@@ -322,6 +345,11 @@ fn check<
     Ok(strict_status(asked.strict, is_sound, 0))
 }
 
+/// Whether an analysis follows transport buffers.
+fn has_levels(asked: &Analysis) -> bool {
+    asked.levels.is_some() || !asked.leaks.is_empty()
+}
+
 /// Lets an analysis follow the transport buffers that are asked for: those of the PIDs that are named, and of the streams of a plan.
 fn watch_levels<F: Files>(
     alloc: Global,
@@ -329,7 +357,7 @@ fn watch_levels<F: Files>(
     analysis: &mut StreamAnalysis,
     asked: &Analysis,
 ) -> Result<(), CommandFault> {
-    if asked.levels.is_none() && asked.leaks.is_empty() {
+    if !has_levels(asked) {
         return Ok(());
     }
     let mut leaks = Vec::from_slice(alloc, &asked.leaks)?;
@@ -422,5 +450,8 @@ fn analyse<F: Files, O: Write, E: Write>(
     let loss = if asked.sync { None } else { analysis.loss() };
     let is_wrong = status != 0;
     let _ = print_shape(name, asked.size, source.head(), is_wrong, loss, err);
+    if is_wrong || has_levels(asked) {
+        tell_other_rate(alloc, files, asked, source, err);
+    }
     Ok(status)
 }

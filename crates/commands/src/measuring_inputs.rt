@@ -1,10 +1,11 @@
 //! Inputs that are read for their rates alone, before a run or instead of one.
 
 use files::{CommandFault, Files, InputFile, open_again};
-use measuring::{Metered, print_leaks_of, read_on, with_meters};
+use measuring::{Metered, print_leaks_of, print_other_rate, read_on, with_meters};
 use schedule::Schedule;
 use std::alloc::Global;
 use std::io::Write;
+use words::Analysis;
 
 /// How much of an input is measured in the place of a run, in pieces of 65,536 bytes: 67,108,864 bytes.
 const MEASURED: usize = 1_024;
@@ -49,5 +50,23 @@ pub(crate) fn tell_low_leaks<F: Files, R: InputFile, E: Write>(
             read_on(alloc, &mut reader, BEGINNING);
             let _ = print_leaks_of(schedule, number, &reader, err);
         }
+    }
+}
+
+/// Says which rate the PCRs of an analysed file say, where that isn't the stated one, by its first 67,108,864 bytes; of one that can be read
+/// only once nothing. `first` has read it.
+pub(crate) fn tell_other_rate<F: Files, E: Write>(
+    alloc: Global,
+    files: &mut F,
+    asked: &Analysis,
+    first: F::Reader,
+    err: &mut E,
+) {
+    if first.length().is_some()
+        && let Ok(reader) = files.again(asked.file, Some(first))
+    {
+        let mut reader: Metered<F::Again> = Metered::new(alloc, asked.size, reader);
+        read_on(alloc, &mut reader, MEASURED);
+        let _ = print_other_rate(asked.file, asked.rate, &reader, err);
     }
 }

@@ -110,6 +110,17 @@ fn check_picture<F: Files>(
     Ok(())
 }
 
+/// Refuses a picture that can't be made, before the run.
+fn try_picture<F: Files>(alloc: Global, files: &mut F, asked: &Asked) -> Result<(), CommandFault> {
+    let Some(name) = asked.graph else {
+        return Ok(());
+    };
+    match files.try_writer(name) {
+        Ok(()) => Ok(()),
+        Err(cause) => Err(CommandFault::file(alloc, name, cause)),
+    }
+}
+
 /// What a run needs, and the board on which it is noted how far it is. The output is made last, so that a refused run leaves none.
 fn prepare<F: RunFiles, N: Notices>(
     alloc: Global,
@@ -128,6 +139,7 @@ fn prepare<F: RunFiles, N: Notices>(
         ..
     } = read;
     check_picture(alloc, files, asked, &identities)?;
+    try_picture(alloc, files, asked)?;
     let (is_counted, is_drawn) = (asked.report.is_some(), asked.graph.is_some());
     let board = files.watch(alloc, &schedule, is_counted, is_drawn)?;
     let (readers, writer) = open_all(

@@ -5,7 +5,7 @@ use crate::lack::Lack;
 use crate::leak::leak_of;
 use crate::left_out::LeftOut;
 use crate::surveyed::Surveyed;
-use probe::{Codec, Survey, codec_of};
+use probe::{Codec, DvbText, Survey, codec_of};
 use request::{FIRST_PID, LAST_PID, MAX_RATE, MAX_STREAMS, MIN_RATE};
 use std::alloc::{AllocError, Global};
 use tables::{Pmt, ServiceDescriptor};
@@ -54,9 +54,11 @@ fn stream_on(survey: &Survey, pmt: &Pmt, pid: u16) -> CandidateStream {
         Some(found) => (found.rate.unwrap_or(0), found.highest.unwrap_or(0)),
         None => (0, 0),
     };
+    let codec = codec_on(pmt, pid);
     CandidateStream {
         pid,
-        leak: leak_of(codec_on(pmt, pid), mean, highest),
+        codec,
+        leak: leak_of(codec, mean, highest),
         highest,
     }
 }
@@ -102,6 +104,17 @@ fn streams_at(
         return Ok(Err(Lack::Scrambled));
     }
     streams_of(alloc, survey, pmt)
+}
+
+/// The name of a program in the SDT; none where that doesn't describe it.
+fn name_of(alloc: Global, survey: &Survey, program: u16) -> Result<String, AllocError> {
+    if let Some(row) = survey.row(program)
+        && let Some(described) = ServiceDescriptor::first_in(&row.descriptors)
+    {
+        let name = DvbText(described.service_name);
+        return format!(in alloc; "{name}");
+    }
+    Ok(String::new(alloc))
 }
 
 /// Why no service of a file can be taken, if none can.
@@ -165,6 +178,7 @@ impl Candidates {
                 Ok(streams) => self.services.push(Candidate {
                     file,
                     program,
+                    name: name_of(alloc, survey, program)?,
                     streams,
                 })?,
                 Err(lack) => self.leave_out(file, Some(program), lack)?,

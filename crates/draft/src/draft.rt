@@ -108,11 +108,16 @@ fn rhythm_of(
     Ok(rounds_of(&request, found, needed))
 }
 
-/// The text that these parts are, if a run takes it: a request reads it, and a plan is made of that by what was found.
-fn accepted_text(alloc: Global, parts: &Parts, found: &[Found]) -> Result<String, PlanFault>
+/// The text that these parts are, of these services, if a run takes it: a request reads it, and a plan is made of that by what was found.
+fn accepted_text(
+    alloc: Global,
+    parts: &Parts,
+    services: &[Candidate],
+    found: &[Found],
+) -> Result<String, PlanFault>
     ensures { IfOk result (λ text. IsAccepted (string_bytes text) (map findings_of found.now)) }
 {
-    let text = plan_text(alloc, parts)?;
+    let text = plan_text(alloc, parts, services)?;
     let request = Request::read(alloc, &text)?;
     let _plan = Plan::build(alloc, &request, found)?;
     Ok(text)
@@ -132,7 +137,7 @@ fn text_of(
     };
     let lineup = Lineup::new(alloc, files, services)?;
     let parts = lineup.parts(alloc, rounds.rate(), rounds.period())?;
-    accepted_text(alloc, &parts, found)
+    accepted_text(alloc, &parts, services, found)
 }
 
 /// The text of a plan of as many of these services as there is room for, the first ones, and how many they are.

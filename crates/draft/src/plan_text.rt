@@ -1,5 +1,7 @@
 //! The text of a plan.
 
+use crate::candidate::Candidate;
+use probe::Codec;
 use request::{InputParts, Parts, ServiceParts, StreamParts};
 use std::alloc::{AllocError, Global};
 use toml::Value;
@@ -7,6 +9,7 @@ use toml::Value;
 /// What stands in front of the values.
 const HEAD: &str =
     "# A plan that remux probe made. Beside the tables its rate leaves a tenth more than the services took at most.
+# Each leak is a guess by the kind of the stream and its highest rate; docs/FIRST-PLAN.md has those of the levels of video.
 ";
 
 /// Adds the settings at the top.
@@ -48,42 +51,55 @@ fn push_input(alloc: Global, text: &mut String, input: &InputParts) -> Result<()
     }
 }
 
-/// Adds a stream of a service.
-fn push_stream(text: &mut String, stream: &StreamParts) -> Result<(), AllocError> {
+/// Adds a stream of a service that is coded so.
+fn push_stream(text: &mut String, stream: &StreamParts, codec: Codec) -> Result<(), AllocError> {
     let (pid, out, leak) = (stream.pid, stream.out, stream.leak);
     write!(
         text,
-        "[[service.stream]]\npid = {pid}\nout = {out}\nleak = {leak}\n"
+        "[[service.stream]]\npid = 0x{pid:04X} # {codec}\nout = 0x{out:04X}\nleak = {leak}\n"
     )
 }
 
-/// Adds a service.
-fn push_service(text: &mut String, service: &ServiceParts) -> Result<(), AllocError> {
+/// Adds a service, with its name.
+fn push_service(
+    text: &mut String,
+    service: &ServiceParts,
+    known: &Candidate,
+) -> Result<(), AllocError> {
     let (input, program) = (service.input, service.program);
     let (number, pmt) = (service.service, service.pmt);
+    text.push_str("\n[[service]]")?;
+    if !known.name.is_empty() {
+        let name = &known.name;
+        write!(text, " # {name}")?;
+    }
     write!(
         text,
-        "\n[[service]]\ninput = {input}\nprogram = {program}\nservice = {number}\npmt = {pmt}\n"
+        "\ninput = {input}\nprogram = {program}\nservice = {number}\npmt = 0x{pmt:04X}\n"
     )?;
     if service.streams.is_empty() {
         return text.push_str("stream = []\n");
     }
-    for stream in &service.streams {
-        push_stream(text, stream)?;
+    for (stream, known) in service.streams.iter().zip(known.streams.iter()) {
+        push_stream(text, stream, known.codec)?;
     }
     Ok(())
 }
 
-/// The text of a plan with these values.
-pub(crate) fn plan_text(alloc: Global, parts: &Parts) -> Result<String, AllocError> {
+/// The text of a plan with these values, of these services, each of which has its name and its streams in the same order.
+pub(crate) fn plan_text(
+    alloc: Global,
+    parts: &Parts,
+    services: &[Candidate],
+) -> Result<String, AllocError> {
     let mut text = String::from_str(alloc, HEAD)?;
     push_settings(&mut text, parts)?;
     push_names(alloc, &mut text, parts)?;
     for input in &parts.inputs {
         push_input(alloc, &mut text, input)?;
     }
-    for service in &parts.services {
-        push_service(&mut text, service)?;
+    for (service, known) in parts.services.iter().zip(services.iter()) {
+        push_service(&mut text, service, known)?;
     }
     Ok(text)
 }

@@ -11,6 +11,7 @@
 
 mod cause_lines;
 mod command_fault;
+mod ffmpeg_command;
 mod file_cause;
 mod file_identity;
 mod file_reader;
@@ -35,6 +36,7 @@ mod stream_shape;
 mod system_files;
 
 pub use command_fault::CommandFault;
+pub use ffmpeg_command::FfmpegCommand;
 pub use file_cause::FileCause;
 pub use file_identity::{FileIdentity, is_among};
 pub use file_reader::FileReader;

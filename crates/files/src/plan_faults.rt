@@ -8,9 +8,8 @@ ghost use Rattle.plan_causes.specs.Causes.{IsCauseOf, fault_of};
 use crate::input_file::InputFile;
 use crate::kept_reader::TOO_LATE;
 use crate::pat_programs::PatPrograms;
-use crate::{CommandFault, StreamShape, has_size, shape_of};
+use crate::{CommandFault, FfmpegCommand, StreamShape, has_size, shape_of};
 use acquire::Found;
-use advice::packets_rate;
 use plan_causes::{PlanCause, RowLack, ServiceNumbers, cause_of};
 use request::{PlanFault, Request, Service};
 use std::alloc::{AllocError, Global};
@@ -81,10 +80,10 @@ fn undescribed_words(
     let Some(input) = request.inputs().get(service.input) else {
         return format!(in alloc; "{service}: {lack}");
     };
-    let (file, program) = (&input.file, service.program);
-    let rate = packets_rate(input.size, input.rate);
+    let file = input.file.as_str();
+    let command = FfmpegCommand::keeping(file, service.program, input.size, input.rate);
     format!(in alloc;
-        "{service}: {lack}\nffmpeg writes a file with one, and with other PIDs: ffmpeg -i '{file}' -map 0:p:{program} -c copy -copy_unknown -mpegts_service_id {program} -muxrate {rate} new.ts"
+        "{service}: {lack}\nffmpeg writes a file with one, and with other PIDs: {command}"
     )
 }
 

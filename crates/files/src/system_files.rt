@@ -263,6 +263,21 @@ impl<'a, R: rt::Files> Files for SystemFiles<'a, R> {
         Ok(FileWriter::new(OutputPlace::File(file)))
     }
 
+    fn try_writer(&mut self, name: &str) -> Result<(), FileCause> {
+        if self.is_standard_output(name) {
+            return Ok(());
+        }
+        match fs::metadata(self.rt, name) {
+            Ok(_) => Ok(()),
+            Err(error) if error.kind() == ErrorKind::NotFound && !name.is_empty() => {
+                let _file = self.create_beside(name)?;
+                self.give_up();
+                Ok(())
+            }
+            Err(error) => Err(FileCause::Open(error)),
+        }
+    }
+
     fn complete(&mut self) -> Result<(), FileCause> {
         let Some(output) = &self.output else {
             return Ok(());

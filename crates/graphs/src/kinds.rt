@@ -1,5 +1,6 @@
 //! What the packets of a multiplex are for.
 
+use crate::names::Names;
 use plan::Plan;
 use schedule::Schedule;
 use std::alloc::{AllocError, Global};
@@ -16,6 +17,8 @@ const MOST: usize = 64;
 pub struct Kinds {
     /// The numbers of the services, in the order in which the plans have them first.
     services: Vec<u16>,
+    /// Their names, as XML has them.
+    names: Vec<String>,
     /// By PID: the place of its service, the number of services for a table, or what stands for null packets.
     places: Vec<u8>,
 }
@@ -34,8 +37,13 @@ impl Kinds {
             }
         }
         let tables = u8::try_from(services.len()).unwrap_or(NULLS);
+        let (known, mut names) = (Names::of(alloc, schedule)?, Vec::new(alloc));
+        for service in &services {
+            names.push(known.name(alloc, *service)?)?;
+        }
         let mut kinds = Kinds {
             services,
+            names,
             places: vec![in alloc; tables; PID_COUNT]?,
         };
         kinds.place(NULL_PID, NULLS);
@@ -81,6 +89,14 @@ impl Kinds {
         match self.places.get(usize::from(pid)) {
             Some(place) if *place != NULLS => Some(usize::from(*place)),
             _ => None,
+        }
+    }
+
+    /// The name of the service at this place, as XML has it; empty where it has none, and of the tables.
+    pub(crate) fn name(&self, place: usize) -> &str {
+        match self.names.get(place) {
+            Some(name) => name.as_str(),
+            None => "",
         }
     }
 

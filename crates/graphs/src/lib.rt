@@ -9,6 +9,7 @@ mod bars;
 mod canvas;
 mod curves;
 mod kinds;
+mod names;
 mod picture;
 mod record;
 mod shares;

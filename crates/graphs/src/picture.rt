@@ -17,6 +17,9 @@ const SLOT: u64 = 1_504;
 /// How many round numbers a scale has at most, beside its beginning.
 const MARKS: u64 = 8;
 
+/// The milliseconds of a run above which times are in seconds.
+const LONG: u128 = 10_000;
+
 /// The step of a scale up to this number: of 1, 2 and 5 times a power of ten the least of which at most so many fit.
 fn step_of(all: u128) -> u128 {
     let mut power = 1u128;
@@ -35,11 +38,16 @@ fn step_of(all: u128) -> u128 {
 /// Says above all how fast the multiplex is, and how long the run.
 fn print_heading<W: Write>(record: &Record, out: &mut W) -> io::Result<()> {
     let (rate, length) = (record.rate() / 1_000, length_of(record));
-    let (seconds, tenth) = (length / 1_000, length / 100 % 10);
-    writeln!(
+    write!(
         out,
-        "<text x=\"{LEFT}\" y=\"22\" font-size=\"16\">A multiplex of {rate} kbit/s, {seconds}.{tenth} s</text>"
-    )
+        "<text x=\"{LEFT}\" y=\"22\" font-size=\"16\">A multiplex of {rate} kbit/s, "
+    )?;
+    if length > LONG {
+        let (seconds, tenth) = (length / 1_000, length / 100 % 10);
+        writeln!(out, "{seconds}.{tenth} s</text>")
+    } else {
+        writeln!(out, "{length} ms</text>")
+    }
 }
 
 /// Begins the picture, with so many bars.
@@ -103,7 +111,7 @@ fn print_times<W: Write>(record: &Record, y: u64, out: &mut W) -> io::Result<()>
                 .unwrap_or(0)
                 .saturating_add(u128::from(LEFT));
             write!(out, "<text x=\"{x}\" y=\"{y}\" text-anchor=\"middle\">")?;
-            if all > 10_000 {
+            if all > LONG {
                 let seconds = time / 1_000;
                 writeln!(out, "{seconds} s</text>")?;
             } else {

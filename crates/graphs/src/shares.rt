@@ -93,16 +93,13 @@ fn print_key<W: Write>(record: &Record, kind: usize, out: &mut W) -> io::Result<
         "<rect x=\"{x}\" y=\"{y}\" width=\"10\" height=\"10\" fill=\"{colour}\"/>"
     )?;
     let x = x.saturating_add(15);
-    match service {
-        Some(number) => writeln!(
-            out,
-            "<text x=\"{x}\" y=\"{text}\">{number}: mean {rate} kbit/s</text>"
-        ),
-        None => writeln!(
-            out,
-            "<text x=\"{x}\" y=\"{text}\">tables: mean {rate} kbit/s</text>"
-        ),
+    write!(out, "<text x=\"{x}\" y=\"{text}\">")?;
+    match (service, record.kinds().name(kind)) {
+        (Some(number), "") => write!(out, "{number}")?,
+        (Some(number), name) => write!(out, "{number} {name}")?,
+        (None, _) => write!(out, "tables")?,
     }
+    writeln!(out, ": mean {rate} kbit/s</text>")
 }
 
 /// Draws the shares of the services and of the tables, and their key.

@@ -72,6 +72,10 @@ impl<F: Files> Files for WatchedFiles<F> {
         Ok(WatchedSink::new(sink, self.output.take()))
     }
 
+    fn try_writer(&mut self, name: &str) -> Result<(), FileCause> {
+        self.files.try_writer(name)
+    }
+
     fn complete(&mut self) -> Result<(), FileCause> {
         self.files.complete()
     }

@@ -8,6 +8,7 @@ mod reading_on;
 
 pub use metered::{Metered, with_meters};
 pub use rate_lines::{
-    is_input_wrong, is_too_much, print_leaks_of, print_measured, print_wrong_rates,
+    is_input_wrong, is_too_much, print_leaks_of, print_measured, print_other_rate,
+    print_wrong_rates, sum_of,
 };
 pub use reading_on::read_on;

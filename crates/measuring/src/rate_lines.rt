@@ -4,7 +4,7 @@ ghost use Rattle.std.specs.Prelude.{◌≤◌, length};
 
 use crate::metered::Metered;
 use advice::{left_rate, packets_rate};
-use files::InputFile;
+use files::{FfmpegCommand, InputFile};
 use plan::Plan;
 use rate_meter::{Change, Deviation, Measured, Meter, ProgramChange, off_by};
 use request::{Input, Service, Stream};
@@ -125,11 +125,11 @@ fn print_filling<R, M: Meter, E: Write>(
         return Ok(());
     };
     let fastest = meter.fastest(measured.pid).unwrap_or(measured.rate);
-    let rate = packets_rate(input.size, fastest);
-    let (file, filled) = (&input.file, rate.saturating_add(rate / 10));
+    let file = input.file.as_str();
+    let command = FfmpegCommand::filling(file, program, input.size, fastest);
     writeln!(
         err,
-        "rate: input {number} gets them by ffmpeg, and other PIDs: ffmpeg -i '{file}' -map 0:p:{program} -c copy -copy_unknown -mpegts_service_id {program} -muxrate {filled} new.ts"
+        "rate: input {number} gets them by ffmpeg, and other PIDs: {command}"
     )
 }
 
@@ -217,7 +217,7 @@ fn stream_rate<R, M: Meter>(
 }
 
 /// What the streams of a plan take in all, in bits a second; none where one of them wasn't measured.
-fn sum_of<R, M: Meter>(plan: &Plan, readers: &[Metered<R, M>]) -> Option<u64> {
+pub fn sum_of<R, M: Meter>(plan: &Plan, readers: &[Metered<R, M>]) -> Option<u64> {
     let mut sum = 0u64;
     for stream in plan.streams() {
         sum = sum.saturating_add(stream_rate(plan, readers, stream)?);
@@ -393,6 +393,32 @@ fn has_scrambled<R, M: Meter>(schedule: &Schedule, readers: &[Metered<R, M>]) ->
         }
     }
     false
+}
+
+/// Says of the file with this name that its PCRs don't have it run at the stated rate, where they don't.
+pub fn print_other_rate<R, M: Meter, E: Write>(
+    name: &str,
+    stated: u64,
+    reader: &Metered<R, M>,
+    err: &mut E,
+) -> io::Result<()> {
+    let Some(measured) = reader.measured() else {
+        return Ok(());
+    };
+    let (pid, rate) = (measured.pid, measured.rate);
+    if measured.is_variable {
+        return writeln!(
+            err,
+            "{name}: it is of variable rate by the PCRs of PID 0x{pid:04X}, {rate} bits a second in all, and --rate is {stated}"
+        );
+    }
+    if off_by(rate, stated).is_some() {
+        writeln!(
+            err,
+            "{name}: it runs at {rate} bits a second by the PCRs of PID 0x{pid:04X}, and --rate is {stated}"
+        )?;
+    }
+    Ok(())
 }
 
 /// Whether something is wrong with the inputs of a schedule by what was read of them: what `print_wrong_rates` has a line for.

@@ -6,7 +6,9 @@ use serial::InputSummary;
 
 /// An input of a run, as a document has it.
 #[derive(Drop, Serialize)]
-pub(crate) struct InputDocument {
+pub(crate) struct InputDocument<'a> {
+    /// The name of its file.
+    file: &'a str,
     framed: u64,
     malformed: u64,
     unmapped: u64,
@@ -30,11 +32,12 @@ fn end_of(stopped: Option<Stop>) -> &'static str {
     }
 }
 
-impl InputDocument {
-    /// That of an input.
-    pub fn of(input: &InputSummary) -> InputDocument {
+impl<'a> InputDocument<'a> {
+    /// That of an input from the file with this name.
+    pub fn of(file: &'a str, input: &InputSummary) -> InputDocument<'a> {
         let (report, totals) = (input.report, input.totals);
         InputDocument {
+            file,
             framed: report.framed,
             malformed: report.malformed,
             unmapped: report.unmapped,

@@ -14,6 +14,7 @@ mod input_document;
 mod kind_document;
 mod level_document;
 mod level_lines;
+mod measured_document;
 mod overfull;
 mod pid_document;
 mod plan_lines;

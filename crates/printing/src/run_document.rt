@@ -16,10 +16,10 @@ use std::io::Write;
 
 /// What became of a run, as a document: of its inputs, of its output, and of its streams.
 #[derive(Drop, Serialize)]
-struct RunDocument {
+struct RunDocument<'a> {
     format: u64,
     command: &'static str,
-    inputs: Vec<InputDocument>,
+    inputs: Vec<InputDocument<'a>>,
     slots: u64,
     tables: u64,
     elementary: u64,
@@ -47,14 +47,15 @@ fn first_faults(
 }
 
 /// The document of a run. `Err` is want of memory.
-fn document_of(
+fn document_of<'a>(
     alloc: Global,
-    schedule: &Schedule,
+    schedule: &'a Schedule,
     summary: &Summary,
-) -> Result<RunDocument, AllocError> {
+) -> Result<RunDocument<'a>, AllocError> {
     let mut inputs = Vec::new(alloc);
-    for input in &summary.inputs {
-        inputs.push(InputDocument::of(input))?;
+    let stated = schedule.plan(0).inputs().iter();
+    for (input, ran) in stated.zip(summary.inputs.iter()) {
+        inputs.push(InputDocument::of(input.file.as_str(), ran))?;
     }
     Ok(RunDocument {
         format: FORMAT,

@@ -16,10 +16,13 @@ pub(crate) fn bytes_read(size: PacketSize, report: &Report) -> u64 {
     bytes.saturating_add(report.lost)
 }
 
-/// How much of an input of this size and this length was read, in per cent.
-fn percent_read(size: PacketSize, report: &Report, length: u64) -> u64 {
-    let read = bytes_read(size, report).saturating_mul(100);
-    read.checked_div(length).unwrap_or(100).min(100)
+/// How much of an input of this size and this length was read, in per cent; none where all of it was.
+fn percent_read(size: PacketSize, report: &Report, length: u64) -> Option<u64> {
+    let read = bytes_read(size, report);
+    if read >= length {
+        return None;
+    }
+    read.saturating_mul(100).checked_div(length)
 }
 
 /// Prints why an input was read no further before its end, and answers whether it was.
@@ -33,11 +36,11 @@ fn print_left<R: InputFile, E: Write>(
     match (report.stopped, reader.length()) {
         (None, _) => return Ok(false),
         (Some(Stop::Gate), Some(length)) => {
-            let percent = percent_read(size, report, length);
-            writeln!(
-                err,
-                "end: the slot limit: input {number} was read to {percent} %"
-            )?;
+            write!(err, "end: the slot limit: input {number} was read to ")?;
+            match percent_read(size, report, length) {
+                Some(percent) => writeln!(err, "{percent} %")?,
+                None => writeln!(err, "its end")?,
+            }
         }
         (Some(Stop::Gate), None) => {
             writeln!(

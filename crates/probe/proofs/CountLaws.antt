@@ -96,7 +96,7 @@ later_window s seen = omega arith
 pub count_stays : (pid : ℕ) (s : Sighting) (seen : List Sighting) (c : PidCount) → (s.pid == pid) ≡ false → IsKeptCount pid seen c → IsKeptCount pid (s ∷ seen) c
 count_stays pid s seen c e k = record {
   count = record {
-    packets_are = k.count.packets_are ∙ sym (ap within_64 (not_counted (is_of pid) s seen e));
+    all_are = k.count.all_are ∙ sym (occurrences_stay (is_of pid) s seen e);
     scrambled_are = k.count.scrambled_are ∙ sym (occurrences_stay (is_scrambled_of pid) s seen (rw e refl));
     errors_are = k.count.errors_are ∙ sym (occurrences_stay (has_error_of pid) s seen (rw e refl));
     highest_is =
@@ -130,23 +130,21 @@ none_later pid window s seen c k h =
 
 -- one of the PID itself
 pub count_grows : (s : Sighting) (seen : List Sighting) (c d : PidCount) → IsKeptCount s.pid seen c
-    → d.packets ≡ within_64 (c.packets + 1)
+    → d.all ≡ once_more s.place c.all
     → d.scrambled ≡ (if s.is_scrambled then once_more s.place c.scrambled else c.scrambled)
     → d.errors ≡ (if s.has_error then once_more s.place c.errors else c.errors)
     → d.window ≡ window_behind seen
     → d.in_window ≡ within_64 ((if window_behind seen == c.window then c.in_window else 0) + 1)
     → d.highest ≡ max c.highest d.in_window
     → IsKeptCount s.pid (s ∷ seen) d
-count_grows s seen c d k packets scrambled errors window in_it highest =
+count_grows s seen c d k all scrambled errors window in_it highest =
     let w = window_behind seen in
     let begun = begun_by s.pid seen c (w == c.window) refl k in
     let grown : d.in_window ≡ within_64 (in_window s.pid w (s ∷ seen)) =
     in_it ∙ ap (λ (n : ℕ). within_64 (n + 1)) begun ∙ sym (more (in_window s.pid w seen)) ∙ sym (ap within_64 (here s seen)) in
     record {
       count = record {
-        packets_are =
-            packets ∙ ap (λ (n : ℕ). within_64 (n + 1)) k.count.packets_are ∙ sym (more (count_by (is_of s.pid) seen))
-            ∙ sym (ap within_64 (counted_once (is_of s.pid) s seen (same s.pid)));
+        all_are = all ∙ ap (once_more s.place) k.count.all_are ∙ sym (occurrences_grow (is_of s.pid) s seen (same s.pid));
         scrambled_are =
             told (is_scrambled_of s.pid) s seen s.is_scrambled c.scrambled d.scrambled (rw (same s.pid) refl) k.count.scrambled_are scrambled;
         errors_are = told (has_error_of s.pid) s seen s.has_error c.errors d.errors (rw (same s.pid) refl) k.count.errors_are errors;

@@ -35,7 +35,7 @@ most_in_window pid (s ∷ seen) = max (within_64 (in_window pid (window_behind s
 
 -- what is counted of a PID
 pub record IsCountOf (pid : ℕ) (seen : List Sighting) (c : PidCount) : Type 0 where
-  pub packets_are : c.packets ≡ within_64 (count_by (is_of pid) seen)
+  pub all_are : c.all ≡ occurrences_of (is_of pid) seen
   pub scrambled_are : c.scrambled ≡ occurrences_of (is_scrambled_of pid) seen
   pub errors_are : c.errors ≡ occurrences_of (has_error_of pid) seen
   pub highest_is : c.highest ≡ most_in_window pid seen

@@ -22,6 +22,7 @@ mod pid_survey;
 mod place;
 mod probe;
 mod program_search;
+mod references;
 mod section_watch;
 mod section_watches;
 mod sighting;

@@ -6,8 +6,8 @@ use crate::sighting::Sighting;
 /// What is counted of the packets of a PID.
 #[derive(Clone, Copy, Debug, PartialEq, Eq)]
 pub(crate) struct PidCount {
-    /// How many there are.
-    pub packets: u64,
+    /// How many there are, and the first of them.
+    pub all: Occurrences,
     /// How many of them are scrambled, and the first of these.
     pub scrambled: Occurrences,
     /// How many of them have the transport_error_indicator, and the first of these.
@@ -31,7 +31,7 @@ impl PidCount {
         ensures { (pid : ℕ) → IsKeptCount pid [] result }
     {
         PidCount {
-            packets: 0,
+            all: Occurrences::new(),
             scrambled: Occurrences::new(),
             errors: Occurrences::new(),
             highest: 0,
@@ -52,7 +52,7 @@ impl PidCount {
         };
         let in_window = before.saturating_add(1);
         PidCount {
-            packets: self.packets.saturating_add(1),
+            all: self.all.with(true, sighting.place),
             scrambled: self.scrambled.with(sighting.is_scrambled, sighting.place),
             errors: self.errors.with(sighting.has_error, sighting.place),
             highest: self.highest.max(in_window),

@@ -129,7 +129,11 @@ impl Probe {
     }
 
     /// What was found, with the rates that this meter measured of the stream's bytes. An `Err` is want of memory.
-    pub fn into_survey(self, alloc: Global, meter: Option<&RateMeter>) -> Result<Survey, AllocError>
+    pub fn into_survey(
+        mut self,
+        alloc: Global,
+        meter: Option<&RateMeter>,
+    ) -> Result<Survey, AllocError>
         ensures packets { IfOk result (λ s. s.packets ≡ within_64 (length self.seen)) }
         ensures programs { IfOk result (λ s. s.programs.items ≡ self.programs) }
         ensures found { IfOk result (λ s. IsFound self.acquire s.found) }
@@ -137,6 +141,7 @@ impl Probe {
     {
         let has_pat = self.acquire.pat().is_some();
         let found = self.acquire.found();
+        let knows_references = self.sections.add_programs(&self.programs, &found.pmts);
         let pids = survey_pids(
             alloc,
             &Kept {
@@ -145,6 +150,7 @@ impl Probe {
                 pcrs: &self.pcrs,
                 sections: &self.sections,
                 meter,
+                knows_references,
             },
         )?;
         Ok(Survey {

@@ -77,6 +77,8 @@ pub(crate) struct Kept<'a> {
     pub pcrs: &'a PcrWatches,
     pub sections: &'a SectionWatches,
     pub meter: Option<&'a RateMeter>,
+    /// Whether it is known to which PIDs the tables refer: all PMTs were found.
+    pub knows_references: bool,
 }
 
 impl Kept<'_> {
@@ -84,6 +86,11 @@ impl Kept<'_> {
     fn stream_rate(&self) -> Option<u64> {
         let rate = self.meter?.measured()?.rate;
         Some(packets_rate(self.size, rate))
+    }
+
+    /// Whether no table refers to a PID, where that is known.
+    fn is_unreferenced(&self, pid: u16) -> bool {
+        self.knows_references && !self.sections.refers_to(pid)
     }
 
     /// The rate of a PID, in bits a second, by the meter.
@@ -106,7 +113,7 @@ fn survey_pid(pid: u16, kept: &Kept<'_>) -> Option<PidSurvey>
     ensures none { IfNone result (count_by (is_of pid) kept.now.counts.now ≡ 0) }
 {
     let count = kept.counts.of(pid);
-    if count.packets == 0 {
+    if count.all.count == 0 {
         return None;
     }
     let watch = kept.pcrs.of(pid);
@@ -116,7 +123,7 @@ fn survey_pid(pid: u16, kept: &Kept<'_>) -> Option<PidSurvey>
         .map(|rate| window_rate(rate, count.highest));
     Some(PidSurvey {
         pid,
-        packets: count.packets,
+        packets: count.all.count,
         rate,
         highest: higher(window, rate),
         pcrs: watch.map_or(0, |watch| watch.count),
@@ -126,6 +133,11 @@ fn survey_pid(pid: u16, kept: &Kept<'_>) -> Option<PidSurvey>
         wrong_sections: kept.sections.wrong_of(pid),
         late_pcrs: watch.map_or(Occurrences::new(), |watch| watch.late),
         pcr_jumps: watch.map_or(Occurrences::new(), |watch| watch.jumps),
+        unreferenced: if kept.is_unreferenced(pid) {
+            count.all
+        } else {
+            Occurrences::new()
+        },
     })
 }
 

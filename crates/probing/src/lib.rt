@@ -3,6 +3,7 @@
 #![tactic(auto)]
 
 mod file_document;
+mod file_survey;
 mod first_bytes;
 mod pid_document;
 mod probe_answer;

@@ -2,10 +2,12 @@
 
 ghost use Rattle.std.specs.Prelude.{◌≡◌, [], Ok, false};
 
+use crate::file_survey::FileSurvey;
 use crate::first_bytes::FirstBytes;
 use files::{CommandFault, FileCause, InputFile, Sources, StreamShape, shape_of, stopped};
 use measuring::Metered;
 use probe::{Probe, ProgramSearch, Survey};
+use rate_meter::{Meter, RateMeter};
 use reading::{PIECE, Source, Stop, StreamReader};
 use std::alloc::{AllocError, Global};
 use tables::PatRow;
@@ -146,13 +148,18 @@ fn find_shape<F: Sources>(
     Ok((shape, size, programs, reader))
 }
 
+/// The rate of the fastest second of a stream by the PID that its rate is known by, in bits a second, where that was measured.
+fn fastest_of(survey: &Survey, meter: Option<&RateMeter>) -> Option<u64> {
+    meter?.fastest(survey.measured?.pid)
+}
+
 /// What is in a file, by its first 67,108,864 bytes, and what it looks like. It is read at the size that it has, and where it has none,
 /// as one of packets of 188 bytes.
 pub(crate) fn survey_file<F: Sources>(
     alloc: Global,
     files: &mut F,
     name: &str,
-) -> Result<(Survey, StreamShape), CommandFault> {
+) -> Result<FileSurvey, CommandFault> {
     let (shape, size, programs, first) = find_shape(alloc, files, name)?;
     let reader = opened(alloc, name, files.again(name, Some(first)))?;
     let mut probe = Probe::new(alloc, size, programs)?;
@@ -161,5 +168,11 @@ pub(crate) fn survey_file<F: Sources>(
     if let Some(stop) = stop {
         return Err(stopped(alloc, name, &source, stop, READ));
     }
-    Ok((probe.into_survey(alloc, source.meter())?, shape))
+    let survey = probe.into_survey(alloc, source.meter())?;
+    let fastest = fastest_of(&survey, source.meter());
+    Ok(FileSurvey {
+        survey,
+        shape,
+        fastest,
+    })
 }

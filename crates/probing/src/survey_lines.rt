@@ -168,13 +168,14 @@ fn print_trouble<O: Write>(
 }
 
 /// What may be wrong on a PID, each by its word.
-pub(crate) fn troubles_of(survey: &PidSurvey) -> [(&'static str, Occurrences); 5] {
+pub(crate) fn troubles_of(survey: &PidSurvey) -> [(&'static str, Occurrences); 6] {
     [
         ("error", survey.errors),
         ("crc", survey.wrong_sections),
         ("late", survey.late_pcrs),
         ("jump", survey.pcr_jumps),
         ("scrambled", survey.scrambled),
+        ("unreferenced", survey.unreferenced),
     ]
 }
 

@@ -100,6 +100,10 @@ impl Files for MemoryFiles {
         Ok(FileWriter::new(MemoryWriter { bytes }))
     }
 
+    fn try_writer(&mut self, _name: &str) -> Result<(), FileCause> {
+        Ok(())
+    }
+
     fn complete(&mut self) -> Result<(), FileCause> {
         self.is_partial = false;
         Ok(())

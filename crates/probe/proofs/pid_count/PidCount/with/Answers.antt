@@ -15,4 +15,4 @@ returns c = λ seen behind kept.
     let counted : c.saturating_add-in_window.result
     ≡ within_64 ((if window_behind seen == c.args.self.window then c.args.self.in_window else 0) + 1) =
     c.saturating_add-in_window.ensures ∙ ap (λ (n : ℕ). within_64 (n + 1)) before in
-    count_grows c.args.sighting seen c.args.self _ kept c.saturating_add.ensures c.with.ensures c.with-2.ensures behind counted c.max.ensures
+    count_grows c.args.sighting seen c.args.self _ kept c.with.ensures c.with-2.ensures c.with-3.ensures behind counted c.max.ensures
