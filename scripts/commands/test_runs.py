@@ -73,7 +73,8 @@ slots 8 tables 3 elementary 4 null 1 faults 0
         done = self.does(RUN, {**FILES, "x.ts": bytes(octets)})
         told = "input 0 framed 9 malformed 1 unmapped 3 bad 1 losses 0 lost 1 taken 5 sent 5 dropped 0 queued 0"
         faults = "faults: 2 of 1.4 Continuity_count_error\nfaults: slot 6 1.4 0x0200\nfaults: slot 10 1.4 0x0200\n"
-        self.assertEqual((done.out.splitlines()[0], done.err, done.status), (told, ENDED + faults, 0))
+        damaged = "damaged: input 0 has 1 malformed packets and 1 with a bad sync byte, lost sync 0 times, and has 1 bytes in no packet\n"
+        self.assertEqual((done.out.splitlines()[0], done.err, done.status), (told, ENDED + damaged + faults, 0))
 
     def test_a_plan_is_shown(self):
         lines = """rate 1504000 gap 2 period 100 fast 2 slow 2

@@ -59,7 +59,7 @@ class Strict(CommandCase):
             files = {**FILES, "x.ts": TABLES + packets(range(3)) + wrong + packets([3, 4])}
             line = f"damaged: input 0 has {told} with a bad sync byte, lost sync 0 times, and has 0 bytes in no packet\n"
             self.assertEqual(self.told(RUN, files, 1), ENDED + line)
-            self.assertEqual(self.does(CHECK, files).status, 0)
+            self.assertEqual(self.does([*CHECK, "--strict"], files).status, 0)
 
     def test_what_can_be_read_once_is_not_measured_first(self):
         """A pipe gives its bytes to the run."""
