@@ -279,24 +279,19 @@ fn answer_of(plan: bool, json: bool) -> ProbeAnswer {
     }
 }
 
-/// Prints a schedule as JSON, with the rates of its inputs where they were measured.
+/// Prints a schedule as JSON, with the rates that were measured of its inputs.
 fn print_check_document<R: Drop, O: Write>(
     alloc: Global,
     schedule: &Schedule,
-    readers: Option<&Vec<Metered<R>>>,
+    readers: &[Metered<R>],
     out: &mut O,
 ) -> Result<(), CommandFault> {
     let mut measured = Vec::new(alloc);
-    let mut taken = None;
-    if let Some(readers) = readers {
-        for reader in readers {
-            measured.push(reader.measured())?;
-        }
-        taken = sum_of(schedule.plan(0), readers);
+    for reader in readers {
+        measured.push(reader.measured())?;
     }
-    print_schedule_document(alloc, schedule, &measured, taken, out)?;
-    out.flush()?;
-    Ok(())
+    let taken = sum_of(schedule.plan(0), readers);
+    print_schedule_document(alloc, schedule, &measured, taken, out)
 }
 
 /// Shows a plan and those that follow it: its lines, those of each switch, or all of this as JSON, and on `err` what is said of its rhythm, of the switches'
@@ -329,16 +324,20 @@ fn check<
         print_switches(&schedule, out)?;
         out.flush()?;
     }
-    let measured = measure(alloc, files, &schedule, readers);
+    let (readers, is_measured) = match measure(alloc, files, &schedule, readers) {
+        Ok(readers) => (readers, true),
+        Err(_) => (Vec::new(alloc), false),
+    };
     if asked.json {
-        print_check_document(alloc, &schedule, measured.as_ref().ok(), out)?;
+        print_check_document(alloc, &schedule, &readers, out)?;
+        out.flush()?;
     }
     let _ = print_rhythm(schedule.plan(0), err);
     let _ = print_switch_tables(&schedule, err);
-    let Ok(readers) = measured else {
+    if !is_measured {
         let _ = writeln!(err, "rate: the inputs can't be measured");
         return Ok(0);
-    };
+    }
     let _ = print_measured(&schedule, &readers, err);
     let _ = print_same_files(&readers, err);
     let is_sound = !is_input_wrong(&schedule, &readers) && !is_too_much(&schedule, &readers);
