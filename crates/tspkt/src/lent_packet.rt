@@ -75,6 +75,16 @@ impl<'a> LentPacket<'a> {
         let _ = &self.bytes;
     }
 
+    /// Puts its copy where another packet stood. It is copied once.
+    #[inline(always)]
+    pub fn put_over(&self, place: &mut Stamped)
+        ensures { place.new ≡ self.now }
+    {
+        self.known();
+        place.packet.put(self.bytes);
+        place.stamp = self.stamp;
+    }
+
     /// Its copy.
     #[inline(always)]
     pub fn stamped(&self) -> Stamped

@@ -90,6 +90,15 @@ impl Packet {
         Packet { bytes: *bytes }
     }
 
+    /// Becomes the packet in these bytes, which are known to be one. They are copied once.
+    #[inline(always)]
+    pub(crate) fn put(&mut self, bytes: &[u8; 188])
+        requires { IsPacket bytes.now }
+        ensures { self.new ≡ bytes.now }
+    {
+        self.bytes = *bytes;
+    }
+
     /// Becomes what `rewrite` makes of a packet: it goes on another PID, below 0x2000, and later by a delay in ticks of 27 MHz. Its
     /// bytes are copied once.
     pub fn set_rewritten(&mut self, packet: &Packet, pid: u16, delay: u64)
