@@ -79,14 +79,28 @@ class Graphs(CommandCase):
         done = self.does([*RUN, "--graph", "there/is/none/g.svg"])
         self.assertEqual((done.status, done.out, sorted(done.files)), (4, "", ["x.toml", "x.ts"]))
         self.assertTrue(done.err.startswith("fault file there/is/none/g.svg\nthere/is/none/g.svg: no new file can be made beside it: "), done.err)
+        for name, why in (".", "it can't be opened"), ("/proc/version", "no new file can be made beside it"):
+            done = self.does([*RUN, "--graph", name])
+            self.assertEqual((done.status, done.out, sorted(done.files)), (4, "", ["x.toml", "x.ts"]))
+            self.assertTrue(done.err.startswith(f"fault file {name}\n{name}: {why}: "), done.err)
+
+    def test_a_picture_takes_the_place_of_a_file(self):
+        """It stays as it was where the run fails."""
+        done = self.does(GRAPH, {**FILES, "g.svg": b"old"})
+        self.assertEqual((done.status, sorted(done.files)), (0, ["g.svg", "out.ts", "x.toml", "x.ts"]))
+        self.assertTrue(done.files["g.svg"].startswith(b"<svg "))
+        done = self.does(GRAPH, {"x.toml": PLAN, "g.svg": b"old"})
+        self.assertEqual((done.status, done.files["g.svg"]), (4, b"old"))
 
     def test_names_are_drawn_as_they_are(self):
-        """Those of the output's SDT, which has eight services in two packets: at most twenty characters, and none that XML has for itself."""
-        names = ["A < B & C > D", "N" * 60, "", "Nova"]
+        """Those of the output's SDT, which has eight services in two packets: at most twenty characters, none that XML has for itself, and none that
+        it hasn't, as U+FFFF."""
+        names = ["A < B & C > D", "N" * 60, "", "No?va"]
+        octets = [*(name.encode() for name in names[:3]), b"\x15No\xef\xbf\xbfva"]
         numbers = range(100, 104)
         pat = table_packet(0x0000, section("00", 1, "".join(f"{number:04x}{0xE100 + number:04x}" for number in numbers)))
         pmts = [table_packet(0x0100 + number, pmt_of([("02", 0x0200 + number, "")], number, 0x0200 + number)) for number in numbers]
-        sdt = table_packet(0x0011, sdt_of([(number, name.encode()) for number, name in zip(numbers, names)]))
+        sdt = table_packet(0x0011, sdt_of(list(zip(numbers, octets))))
         stream = pat + b"".join(pmts) + sdt + b"".join(bytes([0x47, 0x02, number, 0x10]) + b"\xaa" * 184 for number in numbers)
         services = [service(number, number // 4, 100 + number % 4, 0x0200 + 100 + number % 4) for number in range(8)]
         files = {"x.toml": settings() + input_of() + input_of("y.ts") + "".join(services), "x.ts": stream, "y.ts": stream}

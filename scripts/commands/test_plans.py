@@ -242,6 +242,11 @@ class Plans(CommandCase):
         self.at_fault(koeln, "fault 1 BadText", "line 2: it is no UTF-8 text, from byte 0xF6 on", {})
         self.at_fault(b"\xFF\xFEr\0", "fault 1 BadText", "line 1: it is no UTF-8 text, from byte 0xFF on", {})
 
+    def test_a_stream_is_no_plan(self):
+        """Five packets are known as a stream, and four as no text."""
+        self.at_fault(5 * NULL, "fault 1 BadText", "it is a transport stream; a plan is text", {})
+        self.at_fault(4 * NULL, "fault 1 BadText", "line 1: it is no UTF-8 text, from byte 0xFF on", {})
+
     def test_a_text_is_refused_before_inputs_are_looked_for(self):
         self.refuses("rate = ", "fault 1 BadText\n", {})
         self.refuses(PLAN.replace("rate = 1504000", "rate = 499999", 1), "fault 2 OutOfRange\n", {})

@@ -4,6 +4,7 @@ The first stream is that of the rates: a PAT, a PMT, an SDT and a null packet, a
 null packets between each two, 506 in all, at 1,507,008 bits a second."""
 import random
 import re
+import shlex
 
 from does import CommandCase
 from small import NULL, PAT, SDT, TABLES, pcr_packet, table_packet, widened
@@ -31,7 +32,8 @@ pid 0x1FFF packets 499 rate 1495000 highest 1495000 pcrs 0 jitter -
 # The stream needs 12,008 bits a second and a tenth more, and the tables three slots of 1,504 bits each tenth of a second, 45,120: less
 # than the least rate of a multiplex. A tenth of a second has 33 slots at 500,000 bits a second.
 TEXT = """# A plan that remux probe made. Beside the tables its rate leaves a tenth more than the services took at most.
-# Each leak is a guess by the kind of the stream and its highest rate; docs/FIRST-PLAN.md has those of the levels of video.
+# Each leak is of the kind of the stream: of audio, teletext and subtitles it is fixed, of others a guess by the highest rate.
+# docs/FIRST-PLAN.md has those of the levels of video.
 rate = 500000
 period = 33
 watch = 660
@@ -277,15 +279,39 @@ class Probing(CommandCase):
 
     def test_a_pid_in_no_table_is_told(self):
         """The CAT names 0x0300, a CA descriptor of the program 0x0301 and one of the stream 0x0302; 0x0101 is the stream's. Nothing is told
-        where the PMT wasn't found."""
+        where the PMT wasn't found, and not of 0x0068, whose one packet has the transport_error_indicator."""
         named = pmt_of([("02", 0x0101, "0904 0001 e302")]).replace("e101f000", "e101f006" + "09040001e301")
         named = named[:2] + f"{0xB000 + len(named) // 2 + 1:04x}" + named[6:]
         cat = table_packet(0x0001, "01b00fffffc10000" + "09040001e300")
         rest = b"".join(bytes([0x47, pid >> 8, pid & 255, 0x10]) + b"\xaa" * 184 for pid in (0x0300, 0x0301, 0x0302, 0x0067, 0x0101, 0x001F))
-        rest += bytes([0x47, 0x00, 0x67, 0x11]) + b"\xaa" * 184
+        rest += bytes([0x47, 0x00, 0x67, 0x11]) + b"\xaa" * 184 + bytes([0x47, 0x80, 0x68, 0x10]) + b"\xaa" * 184
         done = self.probed(PAT + cat + table_packet(0x0100, named) + rest)
-        self.assertEqual(re.findall("trouble .*", done.out), ["trouble 0x0067 unreferenced 2 packet 6 byte 1128 ms -"])
+        self.assertEqual(re.findall("trouble .* unreferenced .*", done.out), ["trouble 0x0067 unreferenced 2 packet 6 byte 1128 ms -"])
         self.assertNotIn("unreferenced", self.probed(PAT + cat + rest).out)
+
+    def test_the_pid_of_a_nit_is_in_the_pat(self):
+        """It is 0x0065 in the row of program 0."""
+        pat = table_packet(0x0000, section("00", 1, "0000e0650064e100"))
+        nit = table_packet(0x0065, "40f00d0001c10000f000f000")
+        self.assertNotIn("trouble", self.probed(pat + TABLES[188:] + nit + 4 * NULL).out)
+        self.assertIn("trouble 0x0065 unreferenced ", self.probed(TABLES + nit + 4 * NULL).out)
+
+    def test_of_a_pat_with_programs_that_are_not_looked_at_no_pid_is_told(self):
+        """Those behind the 1,024th aren't, and the last program's stream is 0x0102."""
+        for count in 1_024, 1_025:
+            rows = [f"{number:04x}e100" for number in range(1, count + 1)]
+            parts = ["".join(rows[at:at + 41]) for at in range(0, count, 41)]
+            tables = [table_packet(0x0000, f"00{0xB000 + len(part) // 2 + 9:04x}0001c1{number:02x}{len(parts) - 1:02x}{part}")
+                      for number, part in enumerate(parts)]
+            tables += [table_packet(0x0100, pmt_of([("02", 0x0101 + number // 1_025, "")], number)) for number in range(1, count + 1)]
+            stream = b"".join(table[:3] + bytes([0x10 + at % 16]) + table[4:] for at, table in enumerate(tables))
+            told = self.probed(stream + bytes([0x47, 0x01, 0x02, 0x10]) + b"\xaa" * 184).out
+            self.assertEqual(told.count(" unreferenced "), 1_025 - count)
+
+    def test_a_command_is_one_for_a_shell(self):
+        name = "it's \"one\".ts"
+        done = self.does(["probe", name, "--plan"], {name: TABLES[:2 * 188] + 2 * NULL + input_with(fast())[4 * 188:]})
+        self.assertEqual(shlex.split(done.err.splitlines()[1].partition("PIDs: ")[2])[:3], ["ffmpeg", "-i", name])
 
     def test_of_a_file_of_variable_rate_a_command_is_told(self):
         """A second of 1,000 packets and one of 500, as in the tests of rates. The first has its first second at 1,504,000 bits a second."""

@@ -73,7 +73,7 @@ slots 8 tables 3 elementary 4 null 1 faults 0
         done = self.does(RUN, {**FILES, "x.ts": bytes(octets)})
         told = "input 0 framed 9 malformed 1 unmapped 3 bad 1 losses 0 lost 1 taken 5 sent 5 dropped 0 queued 0"
         faults = "faults: 2 of 1.4 Continuity_count_error\nfaults: slot 6 1.4 0x0200\nfaults: slot 10 1.4 0x0200\n"
-        damaged = "damaged: input 0 has 1 malformed packets and 1 with a bad sync byte, lost sync 0 times, and has 1 bytes in no packet\n"
+        damaged = "damaged: input 0 has malformed packets: 1, bad sync bytes: 1, losses of sync: 0, bytes in no packet: 1\n"
         self.assertEqual((done.out.splitlines()[0], done.err, done.status), (told, ENDED + damaged + faults, 0))
 
     def test_a_plan_is_shown(self):
@@ -212,3 +212,5 @@ class Files(CommandCase):
         self.refuses(" " * 1_048_576, "fault 1 BadText\n", {})
         told = "fault file p.toml\np.toml: it has more than 1048576 bytes\n"
         self.fails(["check", "--plan", "p.toml"], {"p.toml": " " * 1_048_577}, told)
+        told = "fault file p.toml\np.toml: it is a transport stream; a plan is text\n"
+        self.fails(["check", "--plan", "p.toml"], {"p.toml": 5_578 * NULL}, told)

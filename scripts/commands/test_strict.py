@@ -55,9 +55,9 @@ class Strict(CommandCase):
     def test_a_damaged_input(self):
         """A packet whose sync byte is 0x48, and one whose adaptation_field_control is 0; each counter comes all the same."""
         bad, malformed = b"\x48" + NULL[1:], bytes([0x47, 0x01, 0x01, 0x00]) + bytes(184)
-        for wrong, told in (bad, "0 malformed packets and 1"), (malformed + 2 * NULL + malformed, "2 malformed packets and 0"):
+        for wrong, told in (bad, "0, bad sync bytes: 1"), (malformed + 2 * NULL + malformed, "2, bad sync bytes: 0"):
             files = {**FILES, "x.ts": TABLES + packets(range(3)) + wrong + packets([3, 4])}
-            line = f"damaged: input 0 has {told} with a bad sync byte, lost sync 0 times, and has 0 bytes in no packet\n"
+            line = f"damaged: input 0 has malformed packets: {told}, losses of sync: 0, bytes in no packet: 0\n"
             self.assertEqual(self.told(RUN, files, 1), ENDED + line)
             self.assertEqual(self.does([*CHECK, "--strict"], files).status, 0)
 

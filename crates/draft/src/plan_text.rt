@@ -9,7 +9,8 @@ use toml::Value;
 /// What stands in front of the values.
 const HEAD: &str =
     "# A plan that remux probe made. Beside the tables its rate leaves a tenth more than the services took at most.
-# Each leak is a guess by the kind of the stream and its highest rate; docs/FIRST-PLAN.md has those of the levels of video.
+# Each leak is of the kind of the stream: of audio, teletext and subtitles it is fixed, of others a guess by the highest rate.
+# docs/FIRST-PLAN.md has those of the levels of video.
 ";
 
 /// Adds the settings at the top.

@@ -9,7 +9,8 @@ use std::fmt::{Display, Formatter};
 use tspkt::PacketSize;
 
 /// A command of ffmpeg that writes a program of a file alone into another one, of packets of 188 bytes, with an SDT and PIDs of its own,
-/// and null packets up to a constant rate.
+/// and null packets up to a constant rate. Printed, it is one for a shell: the file's name stands in quotes, of which those in the name
+/// are none.
 #[derive(Clone, Copy)]
 pub struct FfmpegCommand<'a> {
     /// The name of the file.
@@ -46,10 +47,17 @@ impl<'a> FfmpegCommand<'a> {
 
 impl Display for FfmpegCommand<'_> {
     fn fmt<W: fmt::Write>(&self, f: &mut Formatter<W>) -> fmt::Result {
-        let (file, program, rate) = (self.file, self.program, self.rate);
+        let (program, rate) = (self.program, self.rate);
+        f.write_str("ffmpeg -i '")?;
+        for c in self.file.chars() {
+            match c {
+                '\'' => f.write_str("'\\''")?,
+                _ => f.write_char(c)?,
+            }
+        }
         write!(
             f,
-            "ffmpeg -i '{file}' -map 0:p:{program} -c copy -copy_unknown -mpegts_service_id {program} -muxrate {rate} new.ts"
+            "' -map 0:p:{program} -c copy -copy_unknown -mpegts_service_id {program} -muxrate {rate} new.ts"
         )
     }
 }

@@ -28,6 +28,9 @@ pub enum FileCause {
     /// It has more bytes than it may have: so many.
     #[error("it has more than {0} bytes")]
     TooLong(u64),
+    /// It is a plan's file, and a transport stream.
+    #[error("it is a transport stream; a plan is text")]
+    IsStream,
     /// It is an output, and the plan's file or an input's.
     #[error("it is the plan's file or an input; the output has to be another file")]
     IsRead,

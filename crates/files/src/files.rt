@@ -17,8 +17,8 @@ pub trait Files: Sources {
     /// A writer to a new, empty file that can get this name. What has the name stays as it was until `complete`, if it is a file.
     fn writer(&mut self, name: &str) -> Result<Self::Writer, FileCause>;
 
-    /// Whether an output with this name can be made, where no file has it yet: it is made under another name, and removed. An `Err` says why
-    /// not.
+    /// Whether an output with this name can be made, beside what has the name and in its place: it is made under another name, and removed.
+    /// A pipe or a device isn't tried: it is opened once, to be written. An `Err` says why not.
     fn try_writer(&mut self, name: &str) -> Result<(), FileCause>;
 
     /// Gives the output its name, in the place of the file that had it. An `Err` changes nothing.

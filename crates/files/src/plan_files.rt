@@ -12,7 +12,7 @@ use crate::plan_read::ReadPlan;
 use crate::schedule_faults::{of_later, schedule_of};
 use crate::schedule_read::ReadSchedule;
 use crate::sources::Sources;
-use crate::{CommandFault, FileCause};
+use crate::{CommandFault, FileCause, StreamShape, shape_of};
 use acquire::{Acquire, Found};
 use plan::Plan;
 use reading::{Source, Stop, StreamReader};
@@ -28,6 +28,8 @@ use tspkt::{Item, Packet};
 const PIECE: usize = 1 << 16;
 /// The most bytes of a plan's file.
 const PLAN_LIMIT: usize = 1_048_576;
+/// How many of its first bytes say whether it is a transport stream.
+const HEAD: usize = 2_048;
 
 /// Adds bytes that were read of a plan's file to those before them, if there are no more than a mebibyte.
 fn add_read(bytes: &mut Vec<u8>, read: &[u8]) -> Result<(), Stop>
@@ -116,9 +118,23 @@ fn request_of(alloc: Global, text: &str) -> Result<Request, CommandFault> {
     }
 }
 
+/// Whether these bytes begin as a transport stream does.
+fn is_stream(bytes: &[u8]) -> bool {
+    let head = bytes.get(..HEAD).unwrap_or(bytes);
+    matches!(shape_of(head), StreamShape::Packets(_))
+}
+
+/// Why bytes are no text.
+fn no_text_cause(alloc: Global, bytes: &[u8]) -> Result<Option<String>, AllocError> {
+    if is_stream(bytes) {
+        return Ok(Some(format!(in alloc; "{}", FileCause::IsStream)?));
+    }
+    bytes_cause(alloc, bytes)
+}
+
 /// The fault of a plan's file whose bytes are no text, with its cause where there is memory for its words.
 fn no_text_fault(alloc: Global, bytes: &[u8]) -> CommandFault {
-    match bytes_cause(alloc, bytes) {
+    match no_text_cause(alloc, bytes) {
         Ok(Some(cause)) => CommandFault::PlanCause(PlanFault::BadText, cause),
         _ => CommandFault::from(PlanFault::BadText),
     }
@@ -137,6 +153,9 @@ pub fn read_request<F: Sources, N: Notices>(
             Ok(text) => Ok((request_of(alloc, text)?, source.identity())),
             Err(_) => Err(no_text_fault(alloc, &bytes)),
         },
+        Err(Stop::TooMuch) if is_stream(source.head()) => {
+            Err(CommandFault::file(alloc, name, FileCause::IsStream))
+        }
         Err(stop) => Err(stopped(alloc, name, &source, stop, PLAN_LIMIT as u64)),
     }
 }

@@ -267,15 +267,15 @@ impl<'a, R: rt::Files> Files for SystemFiles<'a, R> {
         if self.is_standard_output(name) {
             return Ok(());
         }
-        match fs::metadata(self.rt, name) {
-            Ok(_) => Ok(()),
-            Err(error) if error.kind() == ErrorKind::NotFound && !name.is_empty() => {
-                let _file = self.create_beside(name)?;
-                self.give_up();
-                Ok(())
-            }
-            Err(error) => Err(FileCause::Open(error)),
+        if let Ok(old) = fs::metadata(self.rt, name)
+            && !old.is_file()
+            && !old.is_dir()
+        {
+            return Ok(());
         }
+        let _file = self.create(name)?;
+        self.give_up();
+        Ok(())
     }
 
     fn complete(&mut self) -> Result<(), FileCause> {

@@ -42,9 +42,9 @@ pub(crate) fn print_curves<W: Write>(record: &Record, out: &mut W) -> io::Result
         out,
         "<line x1=\"{LEFT}\" y1=\"{y}\" x2=\"{right}\" y2=\"{y}\" stroke=\"#d62728\" stroke-dasharray=\"6 3\"/>"
     )?;
-    let (behind, text) = (right + 14, y.saturating_add(4));
+    let (end, text) = (right - 6, y.saturating_sub(6));
     writeln!(
         out,
-        "<text x=\"{behind}\" y=\"{text}\" fill=\"#d62728\">512 bytes, all that is allowed</text>"
+        "<text x=\"{end}\" y=\"{text}\" text-anchor=\"end\" fill=\"#d62728\">512 bytes, all that is allowed</text>"
     )
 }

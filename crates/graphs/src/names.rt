@@ -5,7 +5,7 @@ use probe::DvbText;
 use schedule::Schedule;
 use section::{Assembler, Told};
 use std::alloc::{AllocError, Global};
-use tables::{Sdt, ServiceDescriptor};
+use tables::{Sdt, ServiceDescriptor, TableFault};
 
 /// The PID of the SDT (EN 300 468, 5.1.3).
 const SDT_PID: u16 = 0x0011;
@@ -32,6 +32,15 @@ fn sdt_sections(alloc: Global, plan: &Plan) -> Result<Vec<Told>, AllocError> {
     Ok(told)
 }
 
+/// The SDT of a section, where it is one. `Err` is want of memory.
+fn sdt_in(alloc: Global, section: &[u8]) -> Result<Option<Sdt>, AllocError> {
+    match Sdt::read(alloc, section) {
+        Ok(sdt) => Ok(Some(sdt)),
+        Err(TableFault::Memory) => Err(AllocError),
+        Err(_) => Ok(None),
+    }
+}
+
 impl Names {
     /// Those of the multiplex of a schedule. `Err` is want of memory.
     pub fn of(alloc: Global, schedule: &Schedule) -> Result<Names, AllocError> {
@@ -40,7 +49,7 @@ impl Names {
             let told = sdt_sections(alloc, schedule.plan(number))?;
             for item in &told {
                 if let Told::Section(section) = item
-                    && let Ok(sdt) = Sdt::read(alloc, section)
+                    && let Some(sdt) = sdt_in(alloc, section)?
                 {
                     sdts.push(sdt)?;
                 }
@@ -68,13 +77,14 @@ impl Names {
     }
 }
 
-/// Adds the first characters of a text as XML has them.
+/// Adds the first characters of a text, none of which is of control, as XML has them: two it doesn't have (XML 1.0, 2.2).
 fn push_escaped(name: &mut String, text: &str) -> Result<(), AllocError> {
     for c in text.chars().take(LENGTH) {
         match c {
             '&' => name.push_str("&amp;")?,
             '<' => name.push_str("&lt;")?,
             '>' => name.push_str("&gt;")?,
+            '\u{FFFE}' | '\u{FFFF}' => name.push('?')?,
             _ => name.push(c)?,
         }
     }

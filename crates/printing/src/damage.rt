@@ -25,7 +25,7 @@ pub fn print_damage<E: Write>(summary: &Summary, err: &mut E) -> io::Result<()> 
             let (losses, lost) = (report.losses, report.lost);
             writeln!(
                 err,
-                "damaged: input {number} has {malformed} malformed packets and {bad} with a bad sync byte, lost sync {losses} times, and has {lost} bytes in no packet"
+                "damaged: input {number} has malformed packets: {malformed}, bad sync bytes: {bad}, losses of sync: {losses}, bytes in no packet: {lost}"
             )?;
         }
     }

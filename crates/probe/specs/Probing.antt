@@ -35,12 +35,14 @@ sighting_of place p = record {
   place = place;
 }
 
--- what is said of a PID's packets is what was counted of them; and where it is told that no table refers to the PID, all are counted
+-- What is said of a PID's packets is what was counted of them. Where it is told that no table refers to the PID, all are counted, and not all
+-- have the transport_error_indicator, with which the PID itself may be wrong.
 pub record IsCounted (seen : List Sighting) (s : PidSurvey) : Type 0 where
   pub packets_are : s.packets ≡ within_64 (count_by (is_of s.pid) seen)
   pub scrambled_are : s.scrambled ≡ occurrences_of (is_scrambled_of s.pid) seen
   pub errors_are : s.errors ≡ occurrences_of (has_error_of s.pid) seen
   pub unreferenced_are : 0 < s.unreferenced.count → s.unreferenced ≡ occurrences_of (is_of s.pid) seen
+  pub unreferenced_is_sound : 0 < s.unreferenced.count → s.errors.count < s.packets
 
 -- it is what is said of this PID
 abbrev pub IsOfPid : ℕ → PidSurvey → Type 0

@@ -28,7 +28,7 @@ pub struct PidSurvey {
     pub late_pcrs: Occurrences,
     /// Its PCRs that jump without a discontinuity indicator (ETSI TR 101 290, 2.3.b).
     pub pcr_jumps: Occurrences,
-    /// All its packets, where neither the CAT nor the first PMT of a program refers to it (ETSI TR 101 290, 3.4), and it isn't one of a table's
-    /// own. None of a stream that has a program whose PMT wasn't found, or no program.
+    /// All its packets, where neither the PAT, the CAT nor the first PMT of a program refers to it (ETSI TR 101 290, 3.4), it isn't one of a
+    /// table's own, and not all have the transport_error_indicator. None of a stream that has a program whose PMT wasn't found, or no program.
     pub unreferenced: Occurrences,
 }

@@ -139,9 +139,12 @@ impl Probe {
         ensures found { IfOk result (λ s. IsFound self.acquire s.found) }
         ensures pids { IfOk result (λ s. AreSurveyed self.seen s.pids.items) }
     {
-        let has_pat = self.acquire.pat().is_some();
+        let (has_pat, is_whole) = match self.acquire.pat() {
+            Some(pat) => (true, self.sections.add_pat(pat, &self.programs)),
+            None => (false, false),
+        };
         let found = self.acquire.found();
-        let knows_references = self.sections.add_programs(&self.programs, &found.pmts);
+        let knows_references = is_whole && self.sections.add_programs(&found.pmts);
         let pids = survey_pids(
             alloc,
             &Kept {

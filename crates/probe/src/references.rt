@@ -68,9 +68,13 @@ impl References {
         }
     }
 
-    /// Adds those of a program: that of its PMT, and those that it names.
-    pub fn add_program(&mut self, row: &PatRow, pmt: &Pmt) {
+    /// Adds that of a row of the PAT: of a program's PMT, or of the NIT, whose PID is free where program_number is 0 (ISO/IEC 13818-1, 2.4.4.5).
+    pub fn add_row(&mut self, row: &PatRow) {
         self.add(row.pid);
+    }
+
+    /// Adds those that a program's PMT names.
+    pub fn add_program(&mut self, pmt: &Pmt) {
         self.add(pmt.pcr_pid());
         self.add_ca(pmt.program_info().bytes());
         for row in pmt.rows() {

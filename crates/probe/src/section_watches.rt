@@ -7,7 +7,7 @@ use crate::section_watch::SectionWatch;
 use crate::table_kind::TableKind;
 use section::Told;
 use std::alloc::{AllocError, Global};
-use tables::{PatRow, Pmt};
+use tables::{Pat, PatRow, Pmt};
 use tspkt::Packet;
 
 /// The PIDs of the PAT, the CAT, the NIT, the SDT, the EIT and the TDT (ISO/IEC 13818-1, 2.4.3.3; EN 300 468, 5.1.3).
@@ -88,16 +88,28 @@ impl SectionWatches {
         }
     }
 
-    /// Keeps the PIDs that the PMTs of programs refer to, which stand in the order of these; the answer is whether each was found, and
-    /// there is one.
-    pub fn add_programs(&mut self, programs: &[PatRow], pmts: &[Option<Pmt>]) -> bool {
-        for (row, pmt) in programs.iter().zip(pmts.iter()) {
+    /// Keeps the PIDs that the rows of the PAT's sections have; the answer is whether all its programs are among these.
+    pub fn add_pat(&mut self, sections: &[Pat], programs: &[PatRow]) -> bool {
+        for section in sections {
+            for row in section.rows() {
+                if row.program_number != 0 && !programs.contains(row) {
+                    return false;
+                }
+                self.references.add_row(row);
+            }
+        }
+        true
+    }
+
+    /// Keeps the PIDs that the PMTs of programs refer to; the answer is whether each was found, and there is one.
+    pub fn add_programs(&mut self, pmts: &[Option<Pmt>]) -> bool {
+        for pmt in pmts {
             let Some(pmt) = pmt else {
                 return false;
             };
-            self.references.add_program(row, pmt);
+            self.references.add_program(pmt);
         }
-        !programs.is_empty()
+        !pmts.is_empty()
     }
 
     /// Whether a table that was found refers to a PID, or is sent on it.

@@ -77,7 +77,7 @@ pub(crate) struct Kept<'a> {
     pub pcrs: &'a PcrWatches,
     pub sections: &'a SectionWatches,
     pub meter: Option<&'a RateMeter>,
-    /// Whether it is known to which PIDs the tables refer: all PMTs were found.
+    /// Whether it is known to which PIDs the tables refer: the PAT was found, and the PMTs of all its programs.
     pub knows_references: bool,
 }
 
@@ -133,7 +133,7 @@ fn survey_pid(pid: u16, kept: &Kept<'_>) -> Option<PidSurvey>
         wrong_sections: kept.sections.wrong_of(pid),
         late_pcrs: watch.map_or(Occurrences::new(), |watch| watch.late),
         pcr_jumps: watch.map_or(Occurrences::new(), |watch| watch.jumps),
-        unreferenced: if kept.is_unreferenced(pid) {
+        unreferenced: if count.errors.count < count.all.count && kept.is_unreferenced(pid) {
             count.all
         } else {
             Occurrences::new()

@@ -34,8 +34,8 @@ in ticks of 27 MHz, and the most packets that waited in its queue. Where the del
 the plan is overfull; where the queue came to the plan's 'queue' it may be.
 
 A stream whose packets waited more than a second is reported on standard error, \
-and one whose queue came to the plan's 'queue' too; so are inputs whose rate isn't as the plan states or that ended a second before others, \
-and a 'leak' that is too low. With --strict the status of such a run is 1; its output is the same.
+and one whose queue came to the plan's 'queue' too; so are inputs that are damaged, whose rate isn't as the plan states or that ended a \
+second before others, a 'leak' that is too low, packets that are scrambled, and a program that changed. With --strict the status of such a run is 1; its output is the same.
 
 With --then F --at N the plan in F is in force from slot N on, and the output goes on without a gap; the pair may be given again, for the \
 plan behind it. Both plans have the same rate, period and inputs, and the second has the next version. \
