@@ -291,7 +291,7 @@ mistake 'an input without an SDT' 3 's|"north.ts"|"nosdt.ts"|' << 'END'
 fault 6 NoSdtRow
 a service is not described in its input
 service 101 (input 0, program 1): the input has no complete SDT
-ffmpeg writes a file with one, and with other PIDs: ffmpeg -i 'nosdt.ts' -map 0:p:1 -c copy -copy_unknown -mpegts_service_id 1 -muxrate 1000000 new.ts
+ffmpeg writes a file with one, and with other PIDs: ffmpeg -i 'nosdt.ts' -map 0:p:1 -c copy -copy_unknown -mpegts_service_id 1 -metadata service_name='nosdt' -muxrate 1000000 new.ts
 END
 mistake 'an input with many other programs' 3 's|"north.ts"|"other.ts"|' << 'END'
 fault 5 NoProgram
@@ -331,7 +331,7 @@ rate: input 0 runs at 1000000 bits a second by the PCRs of PID 0x0101, 999 ppm b
 END
 done
 mistake 'an input of variable rate' 0 's|"north.ts"|"variable.ts"|' << 'END'
-rate: input 0 gets them by ffmpeg, and other PIDs: ffmpeg -i 'variable.ts' -map 0:p:1 -c copy -copy_unknown -mpegts_service_id 1 -muxrate 1100000 new.ts
+rate: input 0 gets them by ffmpeg, and other PIDs: ffmpeg -i 'variable.ts' -map 0:p:1 -c copy -copy_unknown -mpegts_service_id 1 -metadata service_name='variable' -muxrate 1100000 new.ts
 END
 mistake 'a leak rate that is too low' 0 '0,/^leak = 2000000$/s||leak = 100000|' << 'END'
 leak: stream 0x0201 (input 0, PID 0x0102): 100000 bits a second, below its measured N: state more

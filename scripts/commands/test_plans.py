@@ -206,7 +206,7 @@ SDTS = [
 
 # How a service gets a description: the program of the example's input, at the input's rate.
 MENDED = (
-    "\nffmpeg writes a file with one, and with other PIDs: ffmpeg -i 'x.ts' -map 0:p:100 -c copy -copy_unknown -mpegts_service_id 100"
+    "\nffmpeg writes a file with one, and with other PIDs: ffmpeg -i 'x.ts' -map 0:p:100 -c copy -copy_unknown -mpegts_service_id 100 -metadata service_name='x'"
     " -muxrate 1504000 new.ts"
 )
 

@@ -131,7 +131,7 @@ def with_bits(octets, at, byte, bits):
 
 def command_of(rate):
     """The command of ffmpeg that writes program 100 of the stream alone."""
-    return f"ffmpeg -i 'x.ts' -map 0:p:100 -c copy -copy_unknown -mpegts_service_id 100 -muxrate {rate} new.ts"
+    return f"ffmpeg -i 'x.ts' -map 0:p:100 -c copy -copy_unknown -mpegts_service_id 100 -metadata service_name='x' -muxrate {rate} new.ts"
 
 
 class Good:
@@ -309,9 +309,10 @@ class Probing(CommandCase):
             self.assertEqual(told.count(" unreferenced "), 1_025 - count)
 
     def test_a_command_is_one_for_a_shell(self):
-        name = "it's \"one\".ts"
+        name = "it's \"one\".2.ts"
         done = self.does(["probe", name, "--plan"], {name: TABLES[:2 * 188] + 2 * NULL + input_with(fast())[4 * 188:]})
-        self.assertEqual(shlex.split(done.err.splitlines()[1].partition("PIDs: ")[2])[:3], ["ffmpeg", "-i", name])
+        words = shlex.split(done.err.splitlines()[1].partition("PIDs: ")[2])
+        self.assertEqual((words[:3], words[11]), (["ffmpeg", "-i", name], "service_name=it's \"one\".2"))
 
     def test_of_a_file_of_variable_rate_a_command_is_told(self):
         """A second of 1,000 packets and one of 500, as in the tests of rates. The first has its first second at 1,504,000 bits a second."""

@@ -9,8 +9,8 @@ use std::fmt::{Display, Formatter};
 use tspkt::PacketSize;
 
 /// A command of ffmpeg that writes a program of a file alone into another one, of packets of 188 bytes, with an SDT and PIDs of its own,
-/// and null packets up to a constant rate. Printed, it is one for a shell: the file's name stands in quotes, of which those in the name
-/// are none.
+/// and null packets up to a constant rate. Its service is called as the file is. Printed, it is one for a shell: names stand in quotes, of
+/// which those in the names are none.
 #[derive(Clone, Copy)]
 pub struct FfmpegCommand<'a> {
     /// The name of the file.
@@ -45,19 +45,40 @@ impl<'a> FfmpegCommand<'a> {
     }
 }
 
+/// The name of a file without its folders, and without its last dot and what stands behind that.
+fn stem_of(file: &str) -> &str {
+    let name = match file.rsplit_once('/') {
+        Some((_, name)) => name,
+        None => file,
+    };
+    match name.rsplit_once('.') {
+        Some((stem, _)) => stem,
+        None => name,
+    }
+}
+
+/// Prints a word for a shell, in quotes.
+fn print_quoted<W: fmt::Write>(word: &str, f: &mut Formatter<W>) -> fmt::Result {
+    f.write_char('\'')?;
+    for c in word.chars() {
+        match c {
+            '\'' => f.write_str("'\\''")?,
+            _ => f.write_char(c)?,
+        }
+    }
+    f.write_char('\'')
+}
+
 impl Display for FfmpegCommand<'_> {
     fn fmt<W: fmt::Write>(&self, f: &mut Formatter<W>) -> fmt::Result {
         let (program, rate) = (self.program, self.rate);
-        f.write_str("ffmpeg -i '")?;
-        for c in self.file.chars() {
-            match c {
-                '\'' => f.write_str("'\\''")?,
-                _ => f.write_char(c)?,
-            }
-        }
+        f.write_str("ffmpeg -i ")?;
+        print_quoted(self.file, f)?;
         write!(
             f,
-            "' -map 0:p:{program} -c copy -copy_unknown -mpegts_service_id {program} -muxrate {rate} new.ts"
-        )
+            " -map 0:p:{program} -c copy -copy_unknown -mpegts_service_id {program} -metadata service_name="
+        )?;
+        print_quoted(stem_of(self.file), f)?;
+        write!(f, " -muxrate {rate} new.ts")
     }
 }
