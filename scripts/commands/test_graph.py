@@ -79,10 +79,10 @@ class Graphs(CommandCase):
         done = self.does([*RUN, "--graph", "there/is/none/g.svg"])
         self.assertEqual((done.status, done.out, sorted(done.files)), (4, "", ["x.toml", "x.ts"]))
         self.assertTrue(done.err.startswith("fault file there/is/none/g.svg\nthere/is/none/g.svg: no new file can be made beside it: "), done.err)
-        for name, why in (".", "it can't be opened"), ("/proc/version", "no new file can be made beside it"):
+        for name in ".", "/proc/version":
             done = self.does([*RUN, "--graph", name])
             self.assertEqual((done.status, done.out, sorted(done.files)), (4, "", ["x.toml", "x.ts"]))
-            self.assertTrue(done.err.startswith(f"fault file {name}\n{name}: {why}: "), done.err)
+            self.assertRegex(done.err, f"^fault file {name}\n{name}: (it can't be opened|no new file can be made beside it): ")
 
     def test_a_picture_takes_the_place_of_a_file(self):
         """It stays as it was where the run fails."""
