@@ -107,6 +107,14 @@ class Graphs(CommandCase):
         keys = [re.sub(": mean .*", "", text) for text in self.texts(self.drawn(files=files)) if ": mean " in text]
         self.assertEqual(keys, [f"{500 + number} {names[number % 4][:20]}".rstrip() for number in range(8)] + ["tables", "null"])
 
+    def test_a_service_that_ends_early_is_told(self):
+        """Of 100 packets of one service and 10 of the other, a millisecond each."""
+        files = {"x.toml": settings() + input_of() + input_of("y.ts") + service() + service(1, 1),
+                 "x.ts": TABLES + packets(range(100)), "y.ts": TABLES + packets(range(10))}
+        first, second = [text for text in self.texts(self.drawn(files=files)) if text.startswith("50") and ": mean " in text]
+        self.assertRegex(first, r"^500 B: mean \d+ kbit/s$")
+        self.assertRegex(second, r"^501 B: mean \d+ kbit/s, up to [1-4]\d ms$")
+
     def test_another_name_of_the_output_is_refused(self):
         """It is found when the output has its name."""
         with tempfile.TemporaryDirectory() as folder:

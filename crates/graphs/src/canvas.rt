@@ -3,7 +3,7 @@
 use crate::record::Record;
 
 /// How wide the picture is.
-pub(crate) const WIDTH: u64 = 1_240;
+pub(crate) const WIDTH: u64 = 1_340;
 /// Where the curves begin from the left, and how wide they are.
 pub(crate) const LEFT: u64 = 80;
 

@@ -13,6 +13,7 @@ mod names;
 mod picture;
 mod record;
 mod shares;
+mod times;
 
 pub use bar::Bar;
 pub use kinds::Kinds;

@@ -8,17 +8,16 @@ use crate::canvas::{
 use crate::curves::{print_curves, y_of};
 use crate::record::Record;
 use crate::shares::print_shares;
+use crate::times::{is_long, print_time, time_of};
 use std::io;
 use std::io::Write;
 
-/// The bits of a slot.
-const SLOT: u64 = 1_504;
+/// What is said of the transport buffers.
+const NEAR: &str =
+    "A curve close to 512 is no fault: a packet is sent as soon as its buffer has room for it. Above 512 a receiver would lose bytes.";
 
 /// How many round numbers a scale has at most, beside its beginning.
 const MARKS: u64 = 8;
-
-/// The milliseconds of a run above which times are in seconds.
-const LONG: u128 = 10_000;
 
 /// The step of a scale up to this number: of 1, 2 and 5 times a power of ten the least of which at most so many fit.
 fn step_of(all: u128) -> u128 {
@@ -37,17 +36,13 @@ fn step_of(all: u128) -> u128 {
 
 /// Says above all how fast the multiplex is, and how long the run.
 fn print_heading<W: Write>(record: &Record, out: &mut W) -> io::Result<()> {
-    let (rate, length) = (record.rate() / 1_000, length_of(record));
+    let rate = record.rate() / 1_000;
     write!(
         out,
         "<text x=\"{LEFT}\" y=\"22\" font-size=\"16\">A multiplex of {rate} kbit/s, "
     )?;
-    if length > LONG {
-        let (seconds, tenth) = (length / 1_000, length / 100 % 10);
-        writeln!(out, "{seconds}.{tenth} s</text>")
-    } else {
-        writeln!(out, "{length} ms</text>")
-    }
+    print_time(record, record.slots(), out)?;
+    writeln!(out, "</text>")
 }
 
 /// Begins the picture, with so many bars.
@@ -90,17 +85,9 @@ fn print_mark<W: Write>(y: u128, mark: &str, number: u128, out: &mut W) -> io::R
     )
 }
 
-/// How long the run is, in milliseconds.
-fn length_of(record: &Record) -> u128 {
-    let bits = u128::from(record.slots()) * u128::from(SLOT);
-    (bits * 1_000)
-        .checked_div(u128::from(record.rate()))
-        .unwrap_or(0)
-}
-
-/// Writes the times below a frame, at round numbers of milliseconds, or of seconds of a run of more than ten.
+/// Writes the times below a frame, at round numbers of milliseconds, or of seconds of a long run.
 fn print_times<W: Write>(record: &Record, y: u64, out: &mut W) -> io::Result<()> {
-    let all = length_of(record);
+    let all = time_of(record, record.slots());
     let step = step_of(all);
     for mark in 0..=MARKS {
         let time = step.saturating_mul(u128::from(mark));
@@ -111,7 +98,7 @@ fn print_times<W: Write>(record: &Record, y: u64, out: &mut W) -> io::Result<()>
                 .unwrap_or(0)
                 .saturating_add(u128::from(LEFT));
             write!(out, "<text x=\"{x}\" y=\"{y}\" text-anchor=\"middle\">")?;
-            if all > LONG {
+            if is_long(record) {
                 let seconds = time / 1_000;
                 writeln!(out, "{seconds} s</text>")?;
             } else {
@@ -157,7 +144,9 @@ fn print_second<W: Write>(record: &Record, out: &mut W) -> io::Result<()> {
     print_mark(u128::from(y_of(512)), "", 512, out)?;
     print_mark(u128::from(y_of(256)), "", 256, out)?;
     print_mark(u128::from(y_of(0)), "", 0, out)?;
-    print_times(record, LEVELS + LEVELS_HEIGHT + 14, out)
+    print_times(record, LEVELS + LEVELS_HEIGHT + 14, out)?;
+    let y = LEVELS + LEVELS_HEIGHT + 34;
+    writeln!(out, "<text x=\"{LEFT}\" y=\"{y}\">{NEAR}</text>")
 }
 
 /// Draws a run: what of its multiplex each service has over time, how full the transport buffers are, and the longest delay of each

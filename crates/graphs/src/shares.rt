@@ -2,6 +2,7 @@
 
 use crate::canvas::{LEFT, PLOT, SHARES, SHARES_HEIGHT, colour, edges};
 use crate::record::Record;
+use crate::times::print_time;
 use std::io;
 use std::io::Write;
 
@@ -78,6 +79,27 @@ fn print_nulls<W: Write>(record: &Record, out: &mut W) -> io::Result<()> {
     )
 }
 
+/// How many pieces there are up to the last one in which a kind has packets.
+fn pieces_of(record: &Record, kind: usize) -> usize {
+    let mut pieces = 0;
+    for piece in 0..record.pieces() {
+        if record.packets_of(piece, kind) > 0 {
+            pieces = piece.saturating_add(1);
+        }
+    }
+    pieces
+}
+
+/// Says when the packets of a kind end, where that is more than a piece and a fiftieth of the run before its end.
+fn print_end<W: Write>(record: &Record, kind: usize, out: &mut W) -> io::Result<()> {
+    let (pieces, all) = (pieces_of(record, kind), record.pieces());
+    if pieces.saturating_add(all / 50 + 1) >= all {
+        return Ok(());
+    }
+    write!(out, ", up to ")?;
+    print_time(record, record.slots_before(pieces), out)
+}
+
 /// Writes which colour a kind has, and its mean rate, in thousands of bits a second.
 fn print_key<W: Write>(record: &Record, kind: usize, out: &mut W) -> io::Result<()> {
     let service = record.kinds().service(kind);
@@ -99,7 +121,11 @@ fn print_key<W: Write>(record: &Record, kind: usize, out: &mut W) -> io::Result<
         (Some(number), name) => write!(out, "{number} {name}")?,
         (None, _) => write!(out, "tables")?,
     }
-    writeln!(out, ": mean {rate} kbit/s</text>")
+    write!(out, ": mean {rate} kbit/s")?;
+    if service.is_some() {
+        print_end(record, kind, out)?;
+    }
+    writeln!(out, "</text>")
 }
 
 /// Draws the shares of the services and of the tables, and their key.
