@@ -146,7 +146,7 @@ line 16: it is no UTF-8 text, from byte 0xF6 on
 END
 answer 'an input for the plan' 3 check --plan north.ts << 'END'
 fault 1 BadText
-line 1: it is no UTF-8 text, from byte 0xF0 on
+it is a transport stream; a plan is text
 END
 mistake 'a rate in kilobits' 3 's|^rate = 1000000$|rate = 1000|' << 'END'
 fault 2 OutOfRange

@@ -3,11 +3,13 @@
 use crate::record::Record;
 
 /// How wide the picture is.
-pub(crate) const WIDTH: u64 = 1_340;
+pub(crate) const WIDTH: u64 = 1_400;
 /// Where the curves begin from the left, and how wide they are.
-pub(crate) const LEFT: u64 = 80;
+pub(crate) const LEFT: u64 = 100;
 
 pub(crate) const PLOT: u64 = 720;
+/// Where the key begins from the left, behind the last time below the curves.
+pub(crate) const KEY: u64 = LEFT + PLOT + 30;
 /// Where the shares begin from above, and how high they are.
 pub(crate) const SHARES: u64 = 60;
 

@@ -77,7 +77,7 @@ impl Names {
     }
 }
 
-/// Adds the first characters of a text, none of which is of control, as XML has them: two it doesn't have (XML 1.0, 2.2).
+/// Adds the first characters of a text, none of which is of control, as XML has them. Two aren't allowed there, and become a `?` (XML 1.0, 2.2).
 fn push_escaped(name: &mut String, text: &str) -> Result<(), AllocError> {
     for c in text.chars().take(LENGTH) {
         match c {

@@ -14,7 +14,7 @@ use std::io::Write;
 
 /// What is said of the transport buffers.
 const NEAR: &str =
-    "A curve close to 512 is no fault: a packet is sent as soon as its buffer has room for it. Above 512 a receiver would lose bytes.";
+    "A curve close to 512 is no fault: a packet may go as soon as its buffer has room for it. Above 512 a receiver would lose bytes.";
 
 /// How many round numbers a scale has at most, beside its beginning.
 const MARKS: u64 = 8;

@@ -1,8 +1,8 @@
 //! What of a multiplex each service has over time, drawn as areas one above the other.
 
-use crate::canvas::{LEFT, PLOT, SHARES, SHARES_HEIGHT, colour, edges};
+use crate::canvas::{KEY, SHARES, SHARES_HEIGHT, colour, edges};
 use crate::record::Record;
-use crate::times::print_time;
+use crate::times::{SECOND, print_time, time_of};
 use std::io;
 use std::io::Write;
 
@@ -65,7 +65,7 @@ fn print_nulls<W: Write>(record: &Record, out: &mut W) -> io::Result<()> {
     }
     let rate = mean_rate(record, record.slots().saturating_sub(packets));
     let (x, y) = (
-        LEFT + PLOT + 14,
+        KEY,
         (count as u64).saturating_mul(15).saturating_add(SHARES),
     );
     write!(
@@ -90,24 +90,23 @@ fn pieces_of(record: &Record, kind: usize) -> usize {
     pieces
 }
 
-/// Says when the packets of a kind end, where that is more than a piece and a fiftieth of the run before its end.
+/// Says when the packets of a service end, where it has some, and none in the run's last second and its last fiftieth.
 fn print_end<W: Write>(record: &Record, kind: usize, out: &mut W) -> io::Result<()> {
-    let (pieces, all) = (pieces_of(record, kind), record.pieces());
-    if pieces.saturating_add(all / 50 + 1) >= all {
+    let slots = record.slots_before(pieces_of(record, kind));
+    let behind = record.slots().saturating_sub(slots);
+    let is_short = time_of(record, behind) <= SECOND || behind <= record.slots() / 50;
+    if slots == 0 || is_short {
         return Ok(());
     }
     write!(out, ", up to ")?;
-    print_time(record, record.slots_before(pieces), out)
+    print_time(record, slots, out)
 }
 
 /// Writes which colour a kind has, and its mean rate, in thousands of bits a second.
 fn print_key<W: Write>(record: &Record, kind: usize, out: &mut W) -> io::Result<()> {
     let service = record.kinds().service(kind);
     let colour = colour(service, kind);
-    let (x, y) = (
-        LEFT + PLOT + 14,
-        (kind as u64).saturating_mul(15).saturating_add(SHARES),
-    );
+    let (x, y) = (KEY, (kind as u64).saturating_mul(15).saturating_add(SHARES));
     let rate = mean_rate(record, packets_of(record, kind));
     let text = y.saturating_add(9);
     write!(

@@ -7,6 +7,9 @@ use std::io::Write;
 /// The bits of a slot.
 const SLOT: u64 = 1_504;
 
+/// The milliseconds of a second.
+pub(crate) const SECOND: u128 = 1_000;
+
 /// The milliseconds of a run above which times are in seconds.
 const LONG: u128 = 10_000;
 

@@ -62,7 +62,7 @@ const CHECK_EXAMPLE: &str =
 the services and the streams. On standard error it prints how often the tables come, \
 which 'period' the plan may have, how long 1000000 slots take, \
 and what the inputs' rates are where they aren't as the plan states. With --strict the status is 1 where such a rate is wrong, \
-a 'leak' is too low, or the services take more than there is. With --json standard output has one JSON document.
+a 'leak' is too low, packets are scrambled, a program changed, or the services take more than there is. With --json standard output has one JSON document.
 
 Example:
   ./remux check --plan examples/plan.toml";
