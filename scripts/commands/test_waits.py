@@ -137,7 +137,7 @@ class BeforeARun(CommandCase):
             pipe = does_once(CHECK, {"x.toml": PLAN.replace("x.ts", name)})
         more = f"input 0, {name}: it can be read only once, and its tables are not in its first 67108864 bytes\n"
         self.assertTrue(file.err.startswith("fault 6 NoSdtRow\n"), file.err)
-        self.assertEqual((without_waits(pipe.err).replace(f"'{name}'", "'x.ts'"), pipe.status), (file.err + more, 3))
+        self.assertEqual((without_waits(pipe.err).replace(f"'{name}'", "'x.ts'").replace("='pipe'", "='x'"), pipe.status), (file.err + more, 3))
 
 
 class InARun(CommandCase):
